@@ -1,5 +1,4 @@
 use std::alloc::{AllocError, AllocFailed};
-
 use thiserror::Error;
 
 /// Memory ran out: the one refusal of a call that can fail in no other way.

@@ -1,9 +1,15 @@
 ghost use Rattle.std.specs.Prelude.{◌≡◌, ◌++◌, IfOk, OnOk, OnErr};
-
-use std::alloc::Global;
-use std::marker::Model;
+ghost use Rattle.std.proofs.Common.{rules};
+ghost use Rattle.std.specs.Cmp.{partial_order_from_own_ties};
+ghost use Rattle.std.specs.Cmp.Lexicographic.{slice_cmp};
+ghost use Rattle.std.specs.Cmp.Rules.{comparing};
+ghost use Rattle.std.specs.Ordering.{nat_cmp, as_partial_cmp};
+ghost use Rattle.std.specs.Str.{bytes_eq};
 
 use crate::fault::NoMemory;
+use std::alloc::Global;
+use std::cmp::Ordering;
+use std::marker::Model;
 
 /// Owned bytes. Contracts see them as the list of their values, each from 0 to 255.
 #[derive(Debug, Drop)]
@@ -49,5 +55,48 @@ impl Octets {
     {
         self.bytes.extend_from_slice(bytes)?;
         Ok(())
+    }
+}
+
+impl PartialEq for Octets {
+    ghost eq = { bytes_eq };
+
+    ghost laws = { Prim.search (comparing, rules) };
+
+    /// Whether the bytes are the same.
+    fn eq(&self, other: &Octets) -> bool {
+        self.bytes.as_slice() == other.bytes.as_slice()
+    }
+}
+
+impl Eq for Octets {
+    ghost laws = { Prim.search (comparing, rules) };
+}
+
+impl Ord for Octets {
+    ghost cmp = { slice_cmp nat_cmp };
+
+    ghost total = { Prim.search (comparing, rules) };
+
+    ghost matches_partial_cmp = { Prim.search (comparing, rules) };
+
+    ghost matches_eq = { Prim.search (comparing, rules) };
+
+    /// The order of the first bytes that differ; of two byte strings of which one begins with the
+    /// other, the shorter is the lesser.
+    fn cmp(&self, other: &Octets) -> Ordering {
+        self.bytes.as_slice().cmp(other.bytes.as_slice())
+    }
+}
+
+impl PartialOrd for Octets {
+    ghost partial_cmp = { as_partial_cmp (slice_cmp nat_cmp) };
+
+    ghost laws = { partial_order_from_own_ties
+        (Prim.search (comparing, rules))
+        (Prim.search (comparing, rules)) };
+
+    fn partial_cmp(&self, other: &Octets) -> Option<Ordering> {
+        Some(self.cmp(other))
     }
 }

@@ -1,0 +1,9 @@
+pub mod Count
+pub mod DirFiles
+pub mod Faults
+pub mod Files
+pub mod Fronts
+pub mod Guarded
+pub mod MemFiles
+pub mod MemSink
+pub mod MemSource

@@ -1,0 +1,28 @@
+//! What a program reads and writes: sources, sinks and files, as traits whose contracts say which
+//! bytes moved and count each fault, with fakes in memory and adapters over std.
+#![tactic(auto)]
+
+mod dir_files;
+mod fault;
+mod files;
+mod mem_files;
+mod mem_sink;
+mod mem_source;
+mod sink;
+mod source;
+mod std_sink;
+mod std_source;
+
+pub use dir_files::DirFiles;
+pub use fault::{Failed, FileFault, ReadFault, SinkFault};
+pub use files::Files;
+pub use mem_files::MemFiles;
+pub use mem_sink::MemSink;
+pub use mem_source::MemSource;
+pub use sink::{Sink, write_all};
+pub use source::{Source, read_to_end};
+pub use std_sink::StdSink;
+pub use std_source::StdSource;
+
+#[cfg(test)]
+mod tests;

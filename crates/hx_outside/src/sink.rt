@@ -1,0 +1,51 @@
+ghost use Rattle.std.specs.Prelude.{◌≡◌, ℕ, ◌<◌, ◌≤◌, List, Option, length, IfOk, OnOk, IsErrOf};
+ghost use Rattle.std.specs.Io.KnownBytes.{WriteAppends, Appends};
+ghost use Rattle.hx_outside.specs.Count.{Rose};
+ghost use Rattle.hx_outside.specs.Fronts.{AppendsFront, StaysFront};
+
+use crate::fault::SinkFault;
+
+/// What takes bytes, in pieces of its choice.
+///
+/// A sink has two meanings, which contracts speak of. `written` is the bytes that it took, for a
+/// sink that tells them; told bytes stay told. `faults` is a count that never falls and rises
+/// with each `Failed`, so that a failure in the midst of a longer call shows by the count before
+/// and after that call; one that stands at the last value of a u64 counts as risen.
+pub trait Sink {
+    ghost written: { Self → Option (List ℕ) };
+
+    ghost faults: { Self → ℕ };
+
+    /// Takes bytes from the front of `bytes`, at least one, and answers how many. `bytes` must not
+    /// be empty.
+    ///
+    /// `Failed` only where `faults` rose, and `NoMemory` where memory ran out and `faults` stands
+    /// still; either way no byte is taken.
+    fn write(&mut self, bytes: &[u8]) -> Result<usize, SinkFault>
+        requires { 0 < length bytes.now }
+        ensures some { IfOk result (λ count. 0 < count) }
+        ensures bound { IfOk result (λ count. count ≤ length bytes.now) }
+        ensures bytes { WriteAppends (written self.old) (written self.new) result bytes.now }
+        ensures later { faults self.old ≤ faults self.new }
+        ensures failed { IsErrOf result SinkFault.Failed → Rose (faults self.old) (faults self.new) }
+        ensures uncounted { IsErrOf result SinkFault.NoMemory → faults self.new ≡ faults self.old };
+}
+
+/// Writes all of `bytes`.
+///
+/// Where it can't, some front of `bytes` was written: `Failed` only where the sink's count of
+/// faults rose in this call, and `NoMemory` where memory runs out.
+pub fn write_all<K: Sink>(out: &mut K, bytes: &[u8]) -> Result<(), SinkFault>
+    ensures ok { OnOk result (Appends (K.written out.old) (K.written out.new) bytes.now) }
+    ensures front { AppendsFront (K.written out.old) (K.written out.new) bytes.now }
+    ensures stays_front { StaysFront (K.written out.old) (K.written out.new) bytes.now }
+    ensures later { K.faults out.old ≤ K.faults out.new }
+    ensures failed { IsErrOf result SinkFault.Failed → Rose (K.faults out.old) (K.faults out.new) }
+{
+    let mut rest = bytes;
+    'pieces: while !rest.is_empty() {
+        let count = out.write(rest)?;
+        rest = &rest[count..];
+    }
+    Ok(())
+}

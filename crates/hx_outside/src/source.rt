@@ -1,0 +1,77 @@
+ghost use Rattle.std.specs.Prelude.{◌≡◌, ℕ, ◌+◌, ◌<◌, ◌≤◌, List, Option, length, vec_len, IfOk, OnOk, OnErr, IfSome, IsErrOf};
+ghost use Rattle.std.specs.Io.{ReadsAtMost};
+ghost use Rattle.std.specs.Io.KnownBytes.{ReadConsumes, Consumes, IsAtEnd};
+ghost use Rattle.hx_outside.specs.Count.{Rose};
+ghost use Rattle.hx_outside.specs.Fronts.{TakesFront};
+
+use crate::fault::{Failed, ReadFault};
+use std::alloc::Global;
+
+/// Bytes that come in pieces, until the end.
+///
+/// A source has two meanings, which contracts speak of. `left` is the bytes not yet read, for a
+/// source that tells them; told bytes stay told. `faults` is a count that never falls and rises
+/// with each `Failed`, so that a failure in the midst of a longer call shows by the count before
+/// and after that call; one that stands at the last value of a u64 counts as risen.
+pub trait Source {
+    ghost left: { Self → Option (List ℕ) };
+
+    ghost faults: { Self → ℕ };
+
+    /// Puts the next bytes at the front of `buf`, and answers how many: 0 only at the end. `buf`
+    /// must not be empty.
+    ///
+    /// `Failed` only where `faults` rose; then no byte is taken.
+    fn read(&mut self, buf: &mut [u8]) -> Result<usize, Failed>
+        requires { 0 < length buf.old }
+        ensures bound { ReadsAtMost result buf.new }
+        ensures bytes { ReadConsumes (left self.old) (left self.new) result buf.new }
+        ensures later { faults self.old ≤ faults self.new }
+        ensures failed { OnErr result (Rose (faults self.old) (faults self.new)) };
+}
+
+/// How many bytes `read_to_end` asks for at once.
+const PIECE: usize = 4096;
+
+/// All bytes that are left in `source`, where they are no more than `limit`.
+///
+/// `TooLong` where more were left: `limit + 1` bytes were then taken, and never more. `Failed` only
+/// where the source's count of faults rose in this call, and `NoMemory` where memory runs out:
+/// some front of the bytes was then taken.
+pub fn read_to_end<S: Source>(
+    alloc: Global,
+    source: &mut S,
+    limit: usize,
+) -> Result<Vec<u8>, ReadFault>
+    ensures whole { IfOk result (λ bytes. IfSome (S.left source.old) (λ left. bytes.items ≡ left)) }
+    ensures consumed { IfOk result (λ bytes.
+        Consumes (S.left source.old) (S.left source.new) bytes.items) }
+    ensures end { OnOk result (IsAtEnd (S.left source.new)) }
+    ensures within { IfOk result (λ bytes. vec_len bytes ≤ limit) }
+
+    ensures too_long { IsErrOf result ReadFault.TooLong
+        → TakesFront (S.left source.old) (S.left source.new) (λ front. length front ≡ limit + 1) }
+    ensures longer { IsErrOf result ReadFault.TooLong
+        → IfSome (S.left source.old) (λ left. limit < length left) }
+
+    ensures front { TakesFront (S.left source.old) (S.left source.new)
+        (λ front. length front ≤ limit + 1) }
+    ensures later { S.faults source.old ≤ S.faults source.new }
+    ensures failed { IsErrOf result ReadFault.Failed
+        → Rose (S.faults source.old) (S.faults source.new) }
+{
+    let mut out = Vec::new(alloc);
+    let mut piece = [0u8; PIECE];
+    'pieces: loop {
+        let room = limit - out.len();
+        let asked = room.saturating_add(1).min(PIECE);
+        let count = source.read(&mut piece[..asked])?;
+        if count == 0 {
+            return Ok(out);
+        }
+        if count > room {
+            return Err(ReadFault::TooLong);
+        }
+        out.extend_from_slice(&piece[..count])?;
+    }
+}

@@ -1,0 +1,66 @@
+ghost use Rattle.std.specs.Prelude.{◌≡◌, ℕ, ◌<◌, ◌≤◌, length, IfOk, IsErrOf, is_ok, if◌then◌else◌};
+ghost use Rattle.std.specs.Io.KnownBytes.{WriteAppends};
+ghost use Rattle.hx_outside.specs.Count.{counted, Rose};
+
+use crate::fault::SinkFault;
+use crate::sink::Sink;
+use std::io::Write;
+use std::marker::Model;
+
+/// A sink over a writer of std. It tells the bytes that it took where the writer tells them: one in
+/// memory does, and one of the machine's files or streams does not.
+///
+/// Each error of the writer is a fault, whatever its kind, and so is a write that takes nothing:
+/// nothing is tried again, a write that was interrupted included. It is never flushed, so a writer
+/// that keeps bytes back is to be flushed by whoever owns it.
+#[derive(Debug, Drop)]
+pub struct StdSink<W> {
+    writer: W,
+    faults: u64,
+}
+
+impl<W> Model for StdSink<W> {
+    ghost use Rattle.hx_outside.specs.Guarded.{Guarded};
+
+    ghost Value = { Guarded W };
+
+    ghost view = { λ sink. record { inner = sink.writer; faults = sink.faults } };
+}
+
+impl<W> StdSink<W> {
+    /// A sink into `writer`, with no fault yet.
+    pub fn new(writer: W) -> StdSink<W>
+        ensures { result ≡ record { inner = writer; faults = 0 } }
+    {
+        StdSink { writer, faults: 0 }
+    }
+}
+
+impl<W: Write> Sink for StdSink<W> {
+    ghost written = { λ sink. W.contents sink.inner };
+
+    ghost faults = { λ sink. sink.faults };
+
+    /// One write of the writer. `Failed` exactly where it answers an error or takes nothing; never
+    /// `NoMemory`.
+    fn write(&mut self, bytes: &[u8]) -> Result<usize, SinkFault>
+        requires { 0 < length bytes.now }
+        ensures some { IfOk result (λ count. 0 < count) }
+        ensures bound { IfOk result (λ count. count ≤ length bytes.now) }
+        ensures bytes { WriteAppends (W.contents self.old.inner) (W.contents self.new.inner) result bytes.now }
+        ensures later { self.old.faults ≤ self.new.faults }
+        ensures failed { IsErrOf result SinkFault.Failed → Rose self.old.faults self.new.faults }
+        ensures uncounted { IsErrOf result SinkFault.NoMemory → self.new.faults ≡ self.old.faults }
+
+        ensures count { self.new.faults ≡ (if is_ok result then self.old.faults else counted self.old.faults) }
+        ensures memory { ¬ (IsErrOf result SinkFault.NoMemory) }
+    {
+        match self.writer.write(bytes) {
+            Ok(count) if count > 0 => Ok(count),
+            _ => {
+                self.faults = self.faults.saturating_add(1);
+                Err(SinkFault::Failed)
+            }
+        }
+    }
+}

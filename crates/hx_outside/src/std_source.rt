@@ -1,0 +1,62 @@
+ghost use Rattle.std.specs.Prelude.{◌≡◌, ℕ, ◌<◌, ◌≤◌, length, OnErr, is_ok, if◌then◌else◌};
+ghost use Rattle.std.specs.Io.{ReadsAtMost};
+ghost use Rattle.std.specs.Io.KnownBytes.{ReadConsumes};
+ghost use Rattle.hx_outside.specs.Count.{counted, Rose};
+
+use crate::fault::Failed;
+use crate::source::Source;
+use std::io::Read;
+use std::marker::Model;
+
+/// A source over a reader of std. It tells the bytes that are left where the reader tells them: one
+/// in memory does, and one of the machine's files or streams does not.
+///
+/// Each error of the reader is a fault, whatever its kind: nothing is tried again, a read that was
+/// interrupted included.
+#[derive(Debug, Drop)]
+pub struct StdSource<R> {
+    reader: R,
+    faults: u64,
+}
+
+impl<R> Model for StdSource<R> {
+    ghost use Rattle.hx_outside.specs.Guarded.{Guarded};
+
+    ghost Value = { Guarded R };
+
+    ghost view = { λ source. record { inner = source.reader; faults = source.faults } };
+}
+
+impl<R> StdSource<R> {
+    /// A source of what `reader` gives, with no fault yet.
+    pub fn new(reader: R) -> StdSource<R>
+        ensures { result ≡ record { inner = reader; faults = 0 } }
+    {
+        StdSource { reader, faults: 0 }
+    }
+}
+
+impl<R: Read> Source for StdSource<R> {
+    ghost left = { λ source. R.remaining source.inner };
+
+    ghost faults = { λ source. source.faults };
+
+    /// One read of the reader. `Failed` exactly where it answers an error.
+    fn read(&mut self, buf: &mut [u8]) -> Result<usize, Failed>
+        requires { 0 < length buf.old }
+        ensures bound { ReadsAtMost result buf.new }
+        ensures bytes { ReadConsumes (R.remaining self.old.inner) (R.remaining self.new.inner) result buf.new }
+        ensures later { self.old.faults ≤ self.new.faults }
+        ensures failed { OnErr result (Rose self.old.faults self.new.faults) }
+
+        ensures count { self.new.faults ≡ (if is_ok result then self.old.faults else counted self.old.faults) }
+    {
+        match self.reader.read(buf) {
+            Ok(count) => Ok(count),
+            Err(_) => {
+                self.faults = self.faults.saturating_add(1);
+                Err(Failed)
+            }
+        }
+    }
+}

@@ -1,0 +1,11 @@
+pub mod FindLemmas
+pub mod NumberWords
+pub mod WordLemmas
+pub mod PieceLemmas
+pub mod ItemLemmas
+pub mod WaitLemmas
+pub mod PendingLemmas
+pub mod WindowLemmas
+pub mod StateLemmas
+pub mod ReadLemmas
+pub mod OrderLemmas

@@ -1,0 +1,10 @@
+pub mod Refusal
+pub mod Line
+pub mod Said
+pub mod Piece
+pub mod Record
+pub mod InOrder
+pub mod Reading
+pub mod Held
+pub mod Window
+pub mod Fields

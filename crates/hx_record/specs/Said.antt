@@ -1,0 +1,20 @@
+-- What the code reads in a line, in the words of the definitions.
+use Rattle.std.specs.Prelude.{Result, Ok, Err}
+use Rattle.hx_record.specs.Line.{Said, Nothing, Says, Asks}
+use Rattle.hx_record.specs.declared.events.Event.TheVariants as events
+use Rattle.hx_record.specs.declared.refusal.Refusal.{Refusal}
+use Rattle.hx_record.specs.declared.line.Line.{Line}
+use Rattle.hx_record.specs.declared.line.Line.TheVariants as lines
+
+-- what a line says that was read
+abbrev pub said : Line → Said
+said lines.Skip = Nothing
+said (lines.Conn id src src_port dst dst_port) = Says (events.Conn id src src_port dst dst_port)
+said (lines.Req id len) = Asks id len
+said (lines.Close id) = Says (events.Close id)
+said (lines.Cli session text) = Says (events.Cli session text.now)
+
+-- the same, where the line is no line of a record
+abbrev pub what_is_said : Result Line Refusal → Result Said Refusal
+what_is_said (Ok line) = Ok (said line)
+what_is_said (Err refusal) = Err refusal

@@ -1,0 +1,35 @@
+use hx_text::{Ip, Octets};
+
+/// One event of a record.
+#[derive(Debug, Drop)]
+pub enum Event {
+    /// Connection `id` opens, between these two addresses.
+    Conn {
+        id: u32,
+        src: Ip,
+        src_port: u16,
+        dst: Ip,
+        dst_port: u16,
+    },
+    /// A request on connection `id`, as the bytes that came.
+    Req {
+        id: u32,
+        bytes: Octets,
+    },
+    /// Connection `id` closes.
+    Close {
+        id: u32,
+    },
+    /// A line of management of one session.
+    Cli {
+        session: u32,
+        text: Octets,
+    },
+}
+
+/// An event, and the place in the record at which its line begins.
+#[derive(Debug, Drop)]
+pub struct Placed {
+    pub offset: u64,
+    pub event: Event,
+}

@@ -1,0 +1,221 @@
+ghost use Rattle.std.specs.Prelude.{◌≡◌, [], ◌∷◌, IsTrue, ◌↔◌, slice_index, MatchResult, IfOk, IfSome, ◌≤◌, None, ◌-◌, ◌^◌};
+ghost use Rattle.std.specs.Option.{option_copied};
+ghost use Rattle.std.specs.Io.BufRead.{strip_last};
+ghost use Rattle.hx_text.specs.Number.{number_up_to};
+ghost use Rattle.hx_record.specs.Line.{words_of, words_after, IsSomeWords, number_of_word, address_of_word, line_says, words_say, conn_says, req_says, close_says, cli_says};
+ghost use Rattle.hx_record.specs.Said.{what_is_said};
+
+use crate::find::first_at;
+use crate::refusal::Refusal;
+use hx_text::{Ip, read_i64, read_ip};
+
+/// How many bytes a request has at most.
+const REQUEST_MAX: u32 = 1_048_576;
+
+/// What one line says.
+#[derive(Clone, Copy)]
+pub(crate) enum Line<'a> {
+    /// Nothing.
+    Skip,
+    /// A connection opens.
+    Conn {
+        id: u32,
+        src: Ip,
+        src_port: u16,
+        dst: Ip,
+        dst_port: u16,
+    },
+    /// The `len` bytes behind the line are a request.
+    Req {
+        id: u32,
+        len: u32,
+    },
+    /// A connection closes.
+    Close {
+        id: u32,
+    },
+    /// A line of management.
+    Cli {
+        session: u32,
+        text: &'a [u8],
+    },
+}
+
+fn begins_with_minus(text: &[u8]) -> bool
+    ensures { IsTrue result ↔ (slice_index text.now 0 ≡ 45) }
+{
+    matches!(text, [b'-', ..])
+}
+
+/// The number that `text` writes in decimal digits alone, where it is at most `most`.
+#[tactic(auto, using(crate::proofs::NumberWords::minus_none, crate::proofs::NumberWords::no_int_none))]
+fn read_number(text: &[u8], most: u32) -> Option<u32>
+    ensures value { result ≡ number_up_to most text.now }
+    ensures within { IfSome result (λ n. n ≤ most) }
+{
+    if begins_with_minus(text) {
+        return None;
+    }
+    let n = read_i64(text)?.unsigned_abs();
+    if n <= u64::from(most) {
+        Some(n as u32)
+    } else {
+        None
+    }
+}
+
+fn number(word: &[u8], most: u32) -> Result<u32, Refusal>
+    ensures value { result ≡ number_of_word most word.now }
+    ensures within { IfOk result (λ n. n ≤ most) }
+{
+    read_number(word, most).ok_or(Refusal::BadNumber)
+}
+
+fn port(word: &[u8]) -> Result<u16, Refusal>
+    ensures { result ≡ number_of_word (2 ^ 16 - 1) word.now }
+{
+    let port = number(word, 0xffff)?;
+    Ok(port as u16)
+}
+
+fn address(word: &[u8]) -> Result<Ip, Refusal>
+    ensures { result ≡ address_of_word word.now }
+{
+    read_ip(word).ok_or(Refusal::BadLine)
+}
+
+/// The text before the first space, and what stands behind it, where there is one.
+#[tactic(auto, using(crate::proofs::WordLemmas::words_cut, crate::proofs::WordLemmas::words_whole))]
+fn cut(text: &[u8]) -> (&[u8], Option<&[u8]>)
+    ensures { words_of text.now ≡ result.0.now ∷ words_after (option_copied result.1) }
+{
+    let at = first_at(b' ', text, 0);
+    if at == text.len() {
+        return (text, None);
+    }
+    let (word, behind) = text.split_at(at);
+    let (_, rest) = behind.split_at(1);
+    (word, Some(rest))
+}
+
+/// The next word, and what stands behind it. Refused where none is left.
+fn word(rest: Option<&[u8]>) -> Result<(&[u8], Option<&[u8]>), Refusal>
+    ensures { MatchResult result
+        (λ p. words_after (option_copied rest.entry) ≡ p.0.now ∷ words_after (option_copied p.1))
+        (λ refusal. (words_after (option_copied rest.entry) ≡ []) × (refusal ≡ Refusal.BadLine)) }
+{
+    match rest {
+        Some(text) => Ok(cut(text)),
+        None => Err(Refusal::BadLine),
+    }
+}
+
+/// Refused where a word is left.
+#[tactic(auto, using(crate::proofs::WordLemmas::words_are_some))]
+fn no_word(rest: Option<&[u8]>) -> Result<(), Refusal>
+    ensures { MatchResult result
+        (λ _. words_after (option_copied rest.entry) ≡ [])
+        (λ refusal. IsSomeWords (words_after (option_copied rest.entry)) × (refusal ≡ Refusal.BadLine)) }
+{
+    match rest {
+        Some(_) => Err(Refusal::BadLine),
+        None => Ok(()),
+    }
+}
+
+#[tactic(auto, unfolding(crate::specs::Line::conn_says))]
+fn read_conn(rest: Option<&[u8]>) -> Result<Line<'_>, Refusal>
+    ensures { what_is_said result ≡ conn_says (words_after (option_copied rest.entry)) }
+{
+    let (id, rest) = word(rest)?;
+    let (src, rest) = word(rest)?;
+    let (src_port, rest) = word(rest)?;
+    let (dst, rest) = word(rest)?;
+    let (dst_port, rest) = word(rest)?;
+    no_word(rest)?;
+    let id = number(id, u32::MAX)?;
+    let src = address(src)?;
+    let src_port = port(src_port)?;
+    let dst = address(dst)?;
+    let dst_port = port(dst_port)?;
+    Ok(Line::Conn {
+        id,
+        src,
+        src_port,
+        dst,
+        dst_port,
+    })
+}
+
+#[tactic(auto, unfolding(crate::specs::Line::req_says))]
+fn read_req(rest: Option<&[u8]>) -> Result<Line<'_>, Refusal>
+    ensures { what_is_said result ≡ req_says (words_after (option_copied rest.entry)) }
+{
+    let (id, rest) = word(rest)?;
+    let (len, rest) = word(rest)?;
+    no_word(rest)?;
+    let id = number(id, u32::MAX)?;
+    let len = number(len, REQUEST_MAX)?;
+    Ok(Line::Req { id, len })
+}
+
+#[tactic(auto, unfolding(crate::specs::Line::close_says))]
+fn read_close(rest: Option<&[u8]>) -> Result<Line<'_>, Refusal>
+    ensures { what_is_said result ≡ close_says (words_after (option_copied rest.entry)) }
+{
+    let (id, rest) = word(rest)?;
+    no_word(rest)?;
+    let id = number(id, u32::MAX)?;
+    Ok(Line::Close { id })
+}
+
+#[tactic(auto, unfolding(crate::specs::Line::cli_says), using(crate::proofs::WordLemmas::words_joined))]
+fn read_cli(rest: Option<&[u8]>) -> Result<Line<'_>, Refusal>
+    ensures { what_is_said result ≡ cli_says (words_after (option_copied rest.entry)) }
+{
+    let (session, text) = word(rest)?;
+    let session = number(session, u32::MAX)?;
+    Ok(Line::Cli {
+        session,
+        text: text.unwrap_or(b""),
+    })
+}
+
+#[tactic(auto, unfolding(crate::specs::Line::words_say))]
+fn read_words(line: &[u8]) -> Result<Line<'_>, Refusal>
+    ensures { what_is_said result ≡ words_say (words_of line.now) }
+{
+    let (name, rest) = cut(line);
+    if name == b"conn".as_slice() {
+        read_conn(rest)
+    } else if name == b"req".as_slice() {
+        read_req(rest)
+    } else if name == b"close".as_slice() {
+        read_close(rest)
+    } else if name == b"cli".as_slice() {
+        read_cli(rest)
+    } else {
+        Err(Refusal::BadLine)
+    }
+}
+
+/// What a line says, which is given without its ending.
+#[tactic(auto, unfolding(crate::specs::Line::line_says))]
+pub(crate) fn read_line(line: &[u8]) -> Result<Line<'_>, Refusal>
+    ensures { what_is_said result ≡ line_says line.now }
+{
+    match line {
+        [] | [b'#', ..] => Ok(Line::Skip),
+        _ => read_words(line),
+    }
+}
+
+/// The line without the CR that ends it, where there is one.
+pub(crate) fn without_cr(line: &[u8]) -> &[u8]
+    ensures { result.now ≡ strip_last 13 line.now }
+{
+    match line {
+        [front @ .., b'\r'] => front,
+        _ => line,
+    }
+}

@@ -1,0 +1,201 @@
+ghost use Rattle.std.specs.Prelude.{◌≡◌, ◌≢◌, ℕ, ◌+◌, ◌-◌, ◌<◌, ◌≤◌, [], true, false, Ok, Err, Some, None, length, IfOk, IfErr, OnOk, OnErr, IsSome};
+ghost use Rattle.std.specs.Io.KnownBytes.{Keeps, IsAtEnd};
+ghost use Rattle.hx_outside.specs.Count.{Rose};
+ghost use Rattle.hx_record.specs.Piece.{IsFound};
+ghost use Rattle.hx_record.specs.Record.{Unknown, Bad};
+ghost use Rattle.hx_record.specs.Reading.{State, MayFollow, items_behind, decided_now, Reads, piece_now, passed_by, Grows, IsOutside};
+
+use crate::events::Placed;
+use crate::fault::RecordFault;
+use crate::piece::{Piece, piece_under, waits};
+use crate::refusal::Refusal;
+use crate::window::Window;
+use hx_outside::Source;
+use hx_text::NoMemory;
+use std::alloc::Global;
+use std::marker::Model;
+
+/// Reads a record from a source, one event a call.
+///
+/// Contracts see a reader as its limit on the record, how many bytes it has passed, the bytes that
+/// it took and has not passed, and whether a read told the record's end. What is left of the record
+/// is those bytes and then what the source has left, so each call of one reader is lent the same
+/// source.
+#[derive(Drop)]
+pub struct Reader {
+    alloc: Global,
+    limit: u64,
+    at: u64,
+    window: Window,
+    scanned: usize,
+    wait: usize,
+    ended: bool,
+}
+
+impl Model for Reader {
+    ghost use Rattle.hx_record.specs.Reading.{State};
+
+    ghost Value = { State };
+
+    ghost use Rattle.hx_record.specs.Fields.{state_of, IsReader};
+
+    ghost view = { state_of };
+
+    ghost invariant = { IsReader };
+}
+
+impl Reader {
+    /// A reader at the beginning of a record, which may have `limit` bytes at most. It takes no
+    /// memory, and reads nothing.
+    pub fn new(alloc: Global, limit: u64) -> Reader
+        ensures { result ≡ record { limit = limit; at = 0; pending = []; ended = false } }
+    {
+        Reader {
+            alloc,
+            limit,
+            at: 0,
+            window: Window::new(alloc),
+            scanned: 0,
+            wait: 0,
+            ended: false,
+        }
+    }
+
+    /// The next event of the record, and the place at which its line begins. None at the record's
+    /// end.
+    ///
+    /// `source` is the same at each call of one reader. It is asked only where the bytes that it
+    /// gave don't tell the next item, and no more once it told its end. `Bad` where the record is
+    /// refused: each later call answers the same. `Failed` only where the source's count of faults
+    /// rose in this call, and `NoMemory` where memory runs out: a later call goes on with the bytes
+    /// that were taken.
+    pub fn next_event<S: Source>(&mut self, source: &mut S) -> Result<Option<Placed>, RecordFault>
+        requires { self.old.ended ≡ true → IsAtEnd (S.left source.old) }
+
+        // Which bytes were taken and passed, and that the answer is the first item of what is left,
+        // whatever follows.
+        ensures reads { Reads self.old self.new (S.left source.old) (S.left source.new) result }
+        ensures moves { IfOk result (λ event. IsSome event
+            → (self.old.at < self.new.at) × (self.new.at ≤ self.new.limit)) }
+
+        ensures none { result ≡ Ok None → self.new.ended ≡ true }
+        ensures ended { self.new.ended ≡ true → IsAtEnd (S.left source.new) }
+
+        ensures later { S.faults source.old ≤ S.faults source.new }
+        ensures failed { result ≡ Err RecordFault.Failed
+            → Rose (S.faults source.old) (S.faults source.new) }
+        ensures undecided { result ≡ Err RecordFault.Failed
+            → (self.new.ended ≡ false) × (items_behind self.new false [] ≡ Unknown) }
+
+        // The source is left alone where the pending bytes tell the next item, and behind its end.
+        ensures unasked { decided_now self.old ≢ Unknown → source.new ≡ source.old }
+        ensures over { self.old.ended ≡ true → source.new ≡ source.old }
+
+        // A refusal stays.
+        ensures again { (offset code : ℕ) → decided_now self.old ≡ Bad offset code
+            → result ≡ Err (RecordFault.Bad offset code) }
+        ensures stuck { (offset code : ℕ) → result ≡ Err (RecordFault.Bad offset code)
+            → decided_now self.new ≡ Bad offset code }
+    {
+        'pieces: loop {
+            match self.judge()? {
+                Piece::Undecided => match self.fill(source) {
+                    Ok(()) => {}
+                    Err(fault) => return Err(fault),
+                },
+                Piece::Skip { used } => self.advance(used),
+                Piece::Found { used, event } => {
+                    let offset = self.place(0);
+                    self.advance(used);
+                    return Ok(Some(Placed { offset, event }));
+                }
+                Piece::Finish => return Ok(None),
+                Piece::TooLong => {
+                    let offset = self.limit();
+                    return Err(RecordFault::Bad {
+                        offset,
+                        code: Refusal::TooLong.code(),
+                    });
+                }
+                Piece::Fault { skip, refusal } => {
+                    let offset = self.place(skip);
+                    return Err(RecordFault::Bad {
+                        offset,
+                        code: refusal.code(),
+                    });
+                }
+            }
+        }
+    }
+
+    fn limit(&self) -> u64
+        ensures { result ≡ self.now.limit }
+    {
+        self.limit
+    }
+
+    fn place(&self, skip: usize) -> u64
+        requires { self.now.at + skip ≤ self.now.limit }
+        ensures { result ≡ self.now.at + skip }
+    {
+        let _limit = self.limit;
+        self.at + skip as u64
+    }
+
+    /// Passes over the first `used` pending bytes.
+    fn advance(&mut self, used: usize)
+        requires pending { used ≤ length self.old.pending }
+        requires limit { self.old.at + used ≤ self.old.limit }
+        ensures { self.new ≡ passed_by self.old used }
+    {
+        let _limit = self.limit;
+        self.window.pass(used);
+        self.at += used as u64;
+        self.scanned = 0;
+        self.wait = 0;
+    }
+
+    /// What the pending bytes begin with. Memory is wanted for an event alone.
+    fn judge(&mut self) -> Result<Piece, NoMemory>
+        ensures same { self.new ≡ self.old }
+        ensures place { self.old.at ≤ self.old.limit }
+        ensures ok { IfOk result (λ piece. piece ≡ piece_now self.old) }
+        ensures err { OnErr result (IsFound (piece_now self.old)) }
+    {
+        let pending = self.window.bytes();
+        let room = self.limit - self.at;
+        let piece = piece_under(
+            self.alloc,
+            pending,
+            room,
+            self.ended,
+            self.scanned,
+            self.wait,
+        )?;
+        if pending.len() >= self.wait && matches!(piece, Piece::Undecided) {
+            let (scanned, wait) = waits(pending, self.scanned);
+            self.scanned = scanned;
+            self.wait = wait;
+        }
+        Ok(piece)
+    }
+
+    /// Takes bytes from the source, or the record's end. After an `Err` nothing was taken.
+    fn fill<S: Source>(&mut self, source: &mut S) -> Result<(), RecordFault>
+        requires { self.old.ended ≡ false }
+        ensures ok { OnOk result (Grows self.old self.new (S.left source.old) (S.left source.new)) }
+        ensures err { OnErr result (self.new ≡ self.old) }
+        ensures kept { OnErr result (Keeps (S.left source.old) (S.left source.new)) }
+        ensures later { S.faults source.old ≤ S.faults source.new }
+        ensures failed { result ≡ Err RecordFault.Failed
+            → Rose (S.faults source.old) (S.faults source.new) }
+        ensures outside { IfErr result IsOutside }
+    {
+        self.window.reserve()?;
+        let count = self.window.read(source)?;
+        if count == 0 {
+            self.ended = true;
+        }
+        Ok(())
+    }
+}

@@ -1,0 +1,125 @@
+ghost use Rattle.std.specs.Prelude.{◌≡◌, ◌+◌, ◌-◌, ◌<◌, ◌≤◌, ◌++◌, [], length, take, drop, IfOk, OnOk, OnErr, vec_len};
+ghost use Rattle.std.specs.Io.KnownBytes.{ReadConsumes, Keeps};
+ghost use Rattle.hx_outside.specs.Count.{Rose};
+ghost use Rattle.hx_record.specs.Reading.{Took};
+
+use hx_outside::{Failed, Source};
+use std::alloc::{AllocError, Global};
+use std::marker::Model;
+
+/// How many bytes a buffer grows by at least.
+const GROWTH: usize = 65_536;
+
+/// The bytes that were read and not yet used, in a buffer that is used again. Contracts see the
+/// bytes, and how much room stands behind them.
+#[derive(Drop)]
+pub(crate) struct Window {
+    buf: Vec<u8>,
+    start: usize,
+    end: usize,
+}
+
+impl Model for Window {
+    ghost use Rattle.hx_record.specs.Held.{Held};
+
+    ghost Value = { Held };
+
+    ghost use Rattle.hx_record.specs.Window.{held_of, IsWindow};
+
+    ghost view = { held_of };
+
+    ghost invariant = { IsWindow };
+}
+
+impl Window {
+    pub(crate) fn new(alloc: Global) -> Window
+        ensures { result ≡ record { bytes = []; room = 0 } }
+    {
+        Window {
+            buf: Vec::new(alloc),
+            start: 0,
+            end: 0,
+        }
+    }
+
+    pub(crate) fn bytes(&self) -> &[u8]
+        ensures { result.now ≡ self.now.bytes }
+    {
+        &self.buf[self.start..self.end]
+    }
+
+    /// Lets go of the first `used` bytes.
+    pub(crate) fn pass(&mut self, used: usize)
+        requires { used ≤ length self.old.bytes }
+        ensures { self.new.bytes ≡ drop used self.old.bytes }
+    {
+        self.start += used;
+    }
+
+    /// Makes room behind the bytes, which move to the buffer's front.
+    pub(crate) fn reserve(&mut self) -> Result<(), AllocError>
+        ensures bytes { self.new.bytes ≡ self.old.bytes }
+        ensures room { OnOk result (0 < self.new.room) }
+    {
+        if self.start > 0 {
+            move_front(&mut self.buf, self.start, self.end);
+            self.end -= self.start;
+            self.start = 0;
+        }
+        make_room(&mut self.buf, self.end)
+    }
+
+    /// Reads into the room behind the bytes, and answers how many came.
+    pub(crate) fn read<S: Source>(&mut self, source: &mut S) -> Result<usize, Failed>
+        requires { 0 < self.old.room }
+        ensures ok { IfOk result (λ count.
+            Took (S.left source.old) (S.left source.new) self.old.bytes self.new.bytes count) }
+        ensures err { OnErr result (self.new.bytes ≡ self.old.bytes) }
+        ensures kept { OnErr result (Keeps (S.left source.old) (S.left source.new)) }
+        ensures later { S.faults source.old ≤ S.faults source.new }
+        ensures failed { OnErr result (Rose (S.faults source.old) (S.faults source.new)) }
+    {
+        let count = read_behind(&mut self.buf, self.end, source)?;
+        self.end += count;
+        Ok(count)
+    }
+}
+
+/// Moves the bytes from `start` to `end` to the front.
+#[tactic(auto, using(crate::proofs::WindowLemmas::moved))]
+fn move_front(buf: &mut Vec<u8>, start: usize, end: usize)
+    requires order { start ≤ end }
+    requires within { end ≤ vec_len buf.old }
+    ensures moved { take (end - start) buf.new.items ≡ drop start (take end buf.old.items) }
+    ensures len { vec_len buf.new ≡ vec_len buf.old }
+{
+    buf.copy_within(start..end, 0);
+}
+
+/// Makes room behind the first `end` bytes. Where memory runs out the buffer is as it was.
+fn make_room(buf: &mut Vec<u8>, end: usize) -> Result<(), AllocError>
+    requires { end ≤ vec_len buf.old }
+    ensures front { take end buf.new.items ≡ take end buf.old.items }
+    ensures len { vec_len buf.old ≤ vec_len buf.new }
+    ensures room { OnOk result (end < vec_len buf.new) }
+{
+    let len = buf.len();
+    if end < len {
+        return Ok(());
+    }
+    buf.resize(len + len.max(GROWTH), 0)
+}
+
+/// Reads into the room behind the first `end` bytes, and answers how many bytes came.
+fn read_behind<S: Source>(buf: &mut Vec<u8>, end: usize, source: &mut S) -> Result<usize, Failed>
+    requires { end < length buf.old.items }
+    ensures front { take end buf.new.items ≡ take end buf.old.items }
+    ensures len { length buf.new.items ≡ length buf.old.items }
+    ensures within { IfOk result (λ count. end + count ≤ length buf.new.items) }
+    ensures bytes { ReadConsumes (S.left source.old) (S.left source.new) result
+        (drop end buf.new.items) }
+    ensures later { S.faults source.old ≤ S.faults source.new }
+    ensures failed { OnErr result (Rose (S.faults source.old) (S.faults source.new)) }
+{
+    source.read(&mut buf[end..])
+}

@@ -1,0 +1,186 @@
+-- What `ip_of` gives is what the grammar says, and it is none only where the grammar has no address.
+use Rattle.std.proofs.Common.{◌≡◌, ℕ, Bool, true, false, eqb, List, [], ◌∷◌, ◌++◌, length, Option, Some, None, All, refl, sym, ap, ◌∙◌, subst, arith, append_assoc, append-nil, inl, inr, leb, get_or, ◌⊎◌}
+use Rattle.std.specs.Option.{option_and_then}
+use Rattle.std.specs.List.{join_with_byte}
+use Rattle.std.proofs.lemmas.Bool.{eqb-true, ne_eqb}
+use Rattle.std.proofs.lemmas.Str.Parse.{digit_at}
+use Rattle.std.proofs.lemmas.Option.{none-some, same_Some}
+use Rattle.std.proofs.lemmas.List.{nil_from_length}
+use Rattle.std.proofs.lemmas.List.Elements.{All-append, All-cons, All-from_get_or, All-drop, All-head}
+use Rattle.std.proofs.lemmas.List.Splits.{join_with_byte-slice_split}
+use Rattle.std.specs.Int.{w32, to_be_bytes}
+use Rattle.std.specs.Net.Text.{ipv4_text}
+use Rattle.std.specs.Net.Addr.{segments_of}
+use Rattle.std.proofs.Math.Seq.{drop-append_seam}
+use Rattle.std.specs.Net.Grammar.{IsColonHex}
+use Rattle.std.specs.Net.Reader.{Read, read_ipv6, whole_value}
+use Rattle.std.proofs.NetLemmas.Ipv6.{read_ipv6_sound}
+use Rattle.std.proofs.NetLemmas.Options.{and_then_some, map_some, cond_some, same_parts}
+use Rattle.hx_text.specs.declared.address.Ip.{Ip}
+use Rattle.hx_text.specs.declared.address.Ip.TheVariants.{V4, V6}
+use Rattle.hx_text.specs.Address.{pieces, octet_of, four_octets, dotted_of, groups_number, plain_colon_hex_of, last_cut_or, last_cut_of, plain_end, colon_hex_of, EndsInIpv4, IsIpText}
+use Rattle.hx_text.proofs.NumberLemmas.{own, up_to_has_digits}
+use Rattle.hx_text.proofs.AddressLemmas.{last_cut_of_none, IsOther, kept_some, last_cut_of-append}
+use Rattle.hx_text.proofs.ColonHexLemmas.{plain_none, colon_hex_none, plain_spelled, colon_hex_spelled, colon_hex_plain, colon_hex_by_end}
+
+-- ---- an IPv6 address that is read is one of the grammar
+
+whole_spelled : (text groups : List ℕ) (read : Read (List ℕ)) → read_ipv6 text ≡ read → whole_value read ≡ Some groups → IsColonHex text groups
+whole_spelled text groups None e whole = absurd (none-some groups whole)
+whole_spelled text groups (Some p) e whole =
+    let (empty, same) = cond_some (eqb (length p.1) 0) p.0 groups whole in
+    let (front, split, spelled) = read_ipv6_sound text p.0 p.1 e in
+    let ended : p.1 ≡ [] = nil_from_length p.1 (eqb-true (length p.1) 0 empty) in
+    let text_is : text ≡ front = split ∙ ap (λ r. front ++ r) ended ∙ append-nil front in
+    subst (IsColonHex text) same (subst (λ t. IsColonHex t p.0) (sym text_is) spelled)
+
+plain_sound : (text : List ℕ) (a : ℕ) → plain_colon_hex_of text ≡ Some a → (groups : List ℕ) × (a ≡ groups_number groups) × IsColonHex text groups
+unfolding plain_colon_hex_of
+plain_sound text a e =
+    map_some groups_number (whole_value (read_ipv6 text)) a e
+    (λ groups whole number. (groups, sym number, whole_spelled text groups (read_ipv6 text) refl whole))
+
+-- a cut behind the last colon is a cut behind a colon
+record IsCut (byte : ℕ) (text front end : List ℕ) : Type 0 where
+  before : List ℕ
+  is_front : front ≡ before ++ byte ∷ []
+  whole : text ≡ before ++ byte ∷ end
+
+module _ (byte b : ℕ) (text front end : List ℕ) (deeper : (f e : List ℕ) → last_cut_of byte text ≡ Some (f, e) → IsCut byte text f e) where
+  last_cut_step : (cut : Option (List ℕ × List ℕ)) (has_value : Bool) → last_cut_of byte text ≡ cut → eqb b byte ≡ has_value → last_cut_or b has_value text cut ≡ Some (front, end) → IsCut byte (b ∷ text) front end
+  last_cut_step (Some p) has_value is_cut is e =
+      let later = deeper p.0 p.1 is_cut in
+      let same = same_parts (b ∷ p.0) front p.1 end e in
+      record {
+        before = b ∷ later.before;
+        is_front = sym same.0 ∙ ap (λ t. b ∷ t) later.is_front;
+        whole = ap (λ t. b ∷ t) later.whole ∙ ap (λ t. b ∷ (later.before ++ byte ∷ t)) same.1;
+      }
+  last_cut_step None true is_cut is e =
+      let same = same_parts (b ∷ []) front text end e in
+      let here = eqb-true b byte is in
+      record {
+        before = [];
+        is_front = sym same.0 ∙ ap (λ x. x ∷ []) here;
+        whole = ap (λ x. x ∷ text) here ∙ ap (λ t. byte ∷ t) same.1;
+      }
+  last_cut_step None false is_cut is e = absurd (none-some (front, end) e)
+
+last_cut_sound : (byte : ℕ) (text front end : List ℕ) → last_cut_of byte text ≡ Some (front, end) → IsCut byte text front end
+last_cut_sound byte [] front end e = absurd (none-some (front, end) e)
+last_cut_sound byte (b ∷ text) front end e =
+    last_cut_step byte b text front end (λ f e'. last_cut_sound byte text f e') (last_cut_of byte text) (eqb b byte) refl refl e
+
+-- what `IsIpText` says of an IPv6 address
+abbrev IsIpv6Text : List ℕ → ℕ → Type 0
+IsIpv6Text text a = (groups : List ℕ) × (a ≡ groups_number groups) × (IsColonHex text groups ⊎ EndsInIpv4 text groups)
+
+by_end_sound : (text : List ℕ) (a : ℕ) → option_and_then plain_colon_hex_of (option_and_then plain_end (last_cut_of 58 text)) ≡ Some a → IsIpv6Text text a
+by_end_sound text a e =
+    and_then_some plain_colon_hex_of (option_and_then plain_end (last_cut_of 58 text)) a e λ shown is_shown read.
+    and_then_some plain_end (last_cut_of 58 text) shown is_shown λ parts is_cut is_plain.
+    map_some (λ four. parts.0 ++ ipv4_text (to_be_bytes w32 four)) (dotted_of parts.1) shown is_plain λ four dotted is_text.
+    let cut = last_cut_sound 58 text parts.0 parts.1 is_cut in
+    let (groups, number, spelled) = plain_sound shown a read in
+    let joined : shown ≡ cut.before ++ 58 ∷ ipv4_text (to_be_bytes w32 four) =
+    sym is_text ∙ ap (λ t. t ++ ipv4_text (to_be_bytes w32 four)) cut.is_front ∙ append_assoc cut.before (58 ∷ []) (ipv4_text (to_be_bytes w32 four)) in (
+      groups,
+      number,
+      inr (record {
+        front = cut.before;
+        end = parts.1;
+        four = four;
+        spelled = cut.whole;
+        dotted = dotted;
+        plain = subst (λ t. IsColonHex t groups) joined spelled;
+      }),
+    )
+
+colon_hex_sound : (text : List ℕ) (a : ℕ) (plain : Option ℕ) → plain_colon_hex_of text ≡ plain → colon_hex_of text ≡ Some a → IsIpv6Text text a
+colon_hex_sound text a (Some b) is_plain e =
+    let same = same_Some b a (colon_hex_plain text b is_plain ∙ e) in
+    let (groups, number, spelled) = plain_sound text b is_plain in
+    (groups, sym same ∙ number, inl spelled)
+colon_hex_sound text a None is_plain e = by_end_sound text a (colon_hex_by_end text is_plain ∙ e)
+
+pub six_spelled : (text : List ℕ) (a : ℕ) → colon_hex_of text ≡ Some a → IsIpText text (V6 a)
+six_spelled text a e = colon_hex_sound text a (plain_colon_hex_of text) refl e
+
+-- ---- each text of the grammar is read
+
+octet_no_colon : (piece : List ℕ) (n : ℕ) → octet_of piece ≡ Some n → All (IsOther 58) piece
+unfolding octet_of
+octet_no_colon piece n e =
+    let digits = up_to_has_digits 255 piece n (kept_some (leb (length piece) 3) _ _ e) in
+    All-from_get_or (IsOther 58) piece 0 (λ k h. let d = digit_at piece k (own.to piece digits) h in ne_eqb (get_or piece k 0) 58 (omega arith))
+
+four_no_colon : (parts : List (List ℕ)) (four : ℕ) → four_octets parts ≡ Some four → All (IsOther 58) (join_with_byte 46 parts)
+four_no_colon (p ∷ q ∷ r ∷ s ∷ []) four e =
+    and_then_some _ (octet_of p) four e λ a is_a e₁.
+    and_then_some _ (octet_of q) four e₁ λ b is_b e₂.
+    and_then_some _ (octet_of r) four e₂ λ c is_c e₃.
+    and_then_some _ (octet_of s) four e₃ λ d is_d e₄.
+    let dot = λ (xs : List ℕ) (h : All (IsOther 58) xs). All-cons (IsOther 58) 46 xs refl h in
+    All-append (IsOther 58) p _ (octet_no_colon p a is_a) (dot _
+    (All-append (IsOther 58) q _ (octet_no_colon q b is_b) (dot _
+    (All-append (IsOther 58) r _ (octet_no_colon r c is_c) (dot _ (octet_no_colon s d is_d))))))
+four_no_colon [] four e = absurd (none-some four e)
+four_no_colon (p ∷ []) four e = absurd (none-some four e)
+four_no_colon (p ∷ q ∷ []) four e = absurd (none-some four e)
+four_no_colon (p ∷ q ∷ r ∷ []) four e = absurd (none-some four e)
+four_no_colon (p ∷ q ∷ r ∷ s ∷ t ∷ more) four e = absurd (none-some four e)
+
+dotted_no_colon : (text : List ℕ) (four : ℕ) → dotted_of text ≡ Some four → All (IsOther 58) text
+unfolding dotted_of
+dotted_no_colon text four e =
+    subst (All (IsOther 58)) (join_with_byte-slice_split 46 text) (four_no_colon (pieces 46 text) four e)
+
+by_end_complete : (text groups : List ℕ) → EndsInIpv4 text groups → option_and_then plain_colon_hex_of (option_and_then plain_end (last_cut_of 58 text)) ≡ Some (groups_number groups)
+by_end_complete text groups h =
+    let cut : last_cut_of 58 text ≡ Some (h.front ++ 58 ∷ [], h.end) =
+    ap (last_cut_of 58) h.spelled ∙ last_cut_of-append 58 h.front 58 h.end refl (dotted_no_colon h.end h.four h.dotted) in
+    let joined = append_assoc h.front (58 ∷ []) (ipv4_text (to_be_bytes w32 h.four)) in
+    rw (cut, h.dotted, joined) (plain_spelled _ groups h.plain)
+
+six_not_none : (text groups : List ℕ) (plain : Option ℕ) → plain_colon_hex_of text ≡ plain → EndsInIpv4 text groups → colon_hex_of text ≡ None → ⊥
+six_not_none text groups (Some a) is_plain h none = none-some a (sym none ∙ sym (colon_hex_plain text a is_plain))
+six_not_none text groups None is_plain h none =
+    none-some _ (sym none ∙ sym (colon_hex_by_end text is_plain) ∙ by_end_complete text groups h)
+
+six_refused : (text : List ℕ) (a : ℕ) → IsIpv6Text text a → colon_hex_of text ≡ None → ⊥
+six_refused text a (groups, number, inl spelled) none = none-some _ (sym none ∙ colon_hex_spelled text groups spelled)
+six_refused text a (groups, number, inr ends) none =
+    six_not_none text groups (plain_colon_hex_of text) refl ends none
+
+pub none_refused : (text : List ℕ) → colon_hex_of text ≡ None → dotted_of text ≡ None → (ip : Ip) → IsIpText text ip → ⊥
+none_refused text no_six no_four (V4 a) h = none-some a (sym no_four ∙ h)
+none_refused text no_six no_four (V6 a) h = six_refused text a h no_six
+
+-- ---- no text writes both an IPv4 and an IPv6 address
+
+colon_inside : (front back text : List ℕ) → text ≡ front ++ 58 ∷ back → All (IsOther 58) text → ⊥
+colon_inside front back text e other =
+    let shown = subst (All (IsOther 58)) e other in
+    let behind = subst (All (IsOther 58)) (drop-append_seam front (58 ∷ back)) (All-drop (IsOther 58) (length front) (front ++ 58 ∷ back) shown) in
+    let same : true ≡ false = All-head (IsOther 58) 58 back behind in
+    cc
+
+has_colon : (text groups : List ℕ) → IsColonHex text groups → All (IsOther 58) text → ⊥
+has_colon text [] (inl h) other = absurd (omega (arith, h.1))
+has_colon text (g ∷ []) (inl h) other = absurd (omega (arith, h.1))
+has_colon text (g ∷ g₂ ∷ more) (inl (inl (group, rest, split, is, inl next), eight)) other =
+    colon_inside group (next.0 ++ next.1) text (split ∙ ap (λ t. group ++ t) (next.2 ∙ append_assoc (58 ∷ []) next.0 next.1)) other
+has_colon text (g ∷ g₂ ∷ more) (inl (inl (group, rest, split, is, inr last), eight)) other =
+    colon_inside group last.0 text (split ∙ ap (λ t. group ++ t) last.3) other
+has_colon text (g ∷ g₂ ∷ more) (inl (inr h, eight)) other =
+    let two : length (g ∷ g₂ ∷ more) ≡ 2 = ap length h.5 ∙ ap (λ o. length (segments_of o)) h.4.value in
+    absurd (omega (arith, two, eight))
+has_colon text groups (inr h) other =
+    colon_inside h.head_text (58 ∷ h.tail_text) text (h.spelled ∙ append_assoc h.head_text (58 ∷ 58 ∷ []) h.tail_text) other
+
+-- a text in dotted decimal is no IPv6 address
+pub dotted_no_six : (text : List ℕ) (a : ℕ) → dotted_of text ≡ Some a → colon_hex_of text ≡ None
+dotted_no_six text a dotted =
+    let other = dotted_no_colon text a dotted in
+    let plain = sym (plain_none text (λ groups spelled. has_colon text groups spelled other)) in
+    colon_hex_none text plain (last_cut_of_none 58 text other)

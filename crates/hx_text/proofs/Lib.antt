@@ -1,0 +1,7 @@
+pub mod NumberLemmas
+pub mod AddressLemmas
+pub mod ColonHexLemmas
+pub mod PrintLemmas
+pub mod RoundTripLemmas
+pub mod NetworkLemmas
+pub mod GrammarLemmas

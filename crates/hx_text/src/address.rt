@@ -1,0 +1,135 @@
+ghost use Rattle.std.specs.Prelude.{ℕ, Some, ◌≡◌, [], ◌∷◌, ◌++◌, option_and_then, IfSome, IfNone};
+ghost use Rattle.std.specs.Int.{w32, to_be_bytes};
+ghost use Rattle.std.specs.Net.Text.{ipv4_text};
+ghost use Rattle.hx_text.specs.Address.{octet_of, four_octets, dotted_of, groups_number, plain_colon_hex_of, last_cut_of, plain_end, colon_hex_of, IsIpText, ip_of};
+
+use crate::cut::{cut_at, cut_behind_last};
+use crate::numbers::read_number;
+use crate::printing::{push_all, push_dotted};
+use arrayvec::ArrayVec;
+use std::net::Ipv6Addr;
+
+/// An internet address, as the number that its bits make.
+#[derive(Clone, Copy, Debug, PartialEq, Eq)]
+pub enum Ip {
+    V4(u32),
+    V6(u128),
+}
+
+#[tactic(auto, unfolding(crate::specs::Address::octet_of))]
+fn read_octet(piece: &[u8]) -> Option<u8>
+    ensures { result ≡ octet_of piece.now }
+{
+    if piece.len() > 3 {
+        return None;
+    }
+    match read_number(piece, 255) {
+        Some(octet) => Some(octet as u8),
+        None => None,
+    }
+}
+
+fn read_four(p: &[u8], q: &[u8], r: &[u8], s: &[u8]) -> Option<u32>
+    ensures { result ≡ four_octets (p.now ∷ q.now ∷ r.now ∷ s.now ∷ []) }
+{
+    let a = read_octet(p)?;
+    let b = read_octet(q)?;
+    let c = read_octet(r)?;
+    let d = read_octet(s)?;
+    Some(u32::from_be_bytes([a, b, c, d]))
+}
+
+/// The IPv4 address that `text` writes in dotted decimal: four octets of one to three digits, each
+/// at most 255, with dots between them. None exactly where it is no such text.
+#[tactic(auto, using(crate::proofs::AddressLemmas::dotted_cases))]
+pub(crate) fn read_dotted(text: &[u8]) -> Option<u32>
+    ensures { result ≡ dotted_of text.now }
+{
+    let (p, text) = cut_at(b'.', text)?;
+    let (q, text) = cut_at(b'.', text)?;
+    let (r, s) = cut_at(b'.', text)?;
+    read_four(p, q, r, s)
+}
+
+fn four_groups(a: u16, b: u16, c: u16, d: u16) -> u64
+    ensures { result ≡ groups_number (a ∷ b ∷ c ∷ d ∷ []) }
+{
+    let high = u64::from(a) * 0x1_0000 + u64::from(b);
+    let low = u64::from(c) * 0x1_0000 + u64::from(d);
+    high * 0x1_0000_0000 + low
+}
+
+fn number_of_groups(groups: [u16; 8]) -> u128
+    ensures { result ≡ groups_number groups }
+{
+    let [a, b, c, d, e, f, g, h] = groups;
+    let high = four_groups(a, b, c, d);
+    let low = four_groups(e, f, g, h);
+    u128::from(high) * 0x1_0000_0000_0000_0000 + u128::from(low)
+}
+
+fn read_plain_colon_hex(text: &[u8]) -> Option<u128>
+    ensures { result ≡ plain_colon_hex_of text.now }
+{
+    match Ipv6Addr::parse_ascii(text) {
+        Ok(address) => Some(number_of_groups(address.segments())),
+        Err(_) => None,
+    }
+}
+
+fn read_before_ipv4(front: &[u8], four: u32) -> Option<u128>
+    ensures { result ≡ plain_colon_hex_of (front.now ++ ipv4_text (to_be_bytes w32 four)) }
+{
+    if front.len() > 49 {
+        return None;
+    }
+    let mut text: ArrayVec<u8, 64> = ArrayVec::new();
+    push_all(&mut text, front);
+    let [a, b, c, d] = four.to_be_bytes();
+    push_dotted(&mut text, a, b, c, d);
+    read_plain_colon_hex(text.as_slice())
+}
+
+fn read_with_ipv4(text: &[u8]) -> Option<u128>
+    ensures { result
+        ≡ option_and_then plain_colon_hex_of (option_and_then plain_end (last_cut_of 58 text.now)) }
+{
+    match cut_behind_last(b':', text) {
+        Some((front, end)) => match read_dotted(end) {
+            Some(four) => read_before_ipv4(front, four),
+            None => None,
+        },
+        None => None,
+    }
+}
+
+#[tactic(auto, using(crate::proofs::ColonHexLemmas::colon_hex_cases))]
+fn read_colon_hex(text: &[u8]) -> Option<u128>
+    ensures { result ≡ colon_hex_of text.now }
+{
+    match read_plain_colon_hex(text) {
+        Some(address) => Some(address),
+        None => read_with_ipv4(text),
+    }
+}
+
+/// The address that `text` writes: an IPv4 address in dotted decimal, which is four octets of one to
+/// three digits, each at most 255, with dots between them; or an IPv6 address as RFC 4291 section 2.2
+/// writes it, which is eight groups of one to four hex digits with colons between them, where `::`
+/// may stand, once, for one or more zero groups, and an IPv4 address for the last two. None exactly
+/// where the text is anything else.
+#[tactic(auto, unfolding(crate::specs::Address::ip_of))]
+pub fn read_ip(text: &[u8]) -> Option<Ip>
+    ensures value { result ≡ ip_of text.now }
+    ensures dotted { (a : ℕ) → dotted_of text.now ≡ Some a → result ≡ Some (Ip.V4 a) }
+    ensures spelled { IfSome result (IsIpText text.now) }
+    ensures refused { IfNone result ((ip : Ip) → ¬ IsIpText text.now ip) }
+{
+    match read_colon_hex(text) {
+        Some(a) => Some(Ip::V6(a)),
+        None => match read_dotted(text) {
+            Some(a) => Some(Ip::V4(a)),
+            None => None,
+        },
+    }
+}

@@ -1,0 +1,38 @@
+/// The kinds of samples (HAProxy configuration manual 2.4, section 7.1). `Any` is the kind of a
+/// variable, which is known only when the variable is read.
+#[derive(Clone, Copy, Debug, PartialEq, Eq)]
+pub enum Kind {
+    Bool,
+    Int,
+    Ip,
+    Str,
+    Bin,
+    Method,
+    Any,
+}
+
+/// The match methods of patterns (HAProxy configuration manual 2.4, section 7.1).
+#[derive(Clone, Copy, Debug, PartialEq, Eq)]
+pub enum By {
+    Found,
+    Bool,
+    Int,
+    Ip,
+    Bin,
+    Len,
+    Str,
+    Beg,
+    End,
+    Sub,
+    Dir,
+    Dom,
+    Reg,
+}
+
+/// The kinds of values that a map gives (HAProxy configuration manual 2.4, section 7.3.1, `map`).
+#[derive(Clone, Copy, Debug, PartialEq, Eq)]
+pub enum Out {
+    Str,
+    Int,
+    Ip,
+}

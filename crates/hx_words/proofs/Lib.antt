@@ -1,0 +1,9 @@
+pub mod ArgumentProgress
+pub mod CallProgress
+pub mod Endings
+pub mod LineLaws
+pub mod OneReading
+pub mod Progress
+pub mod ReadingLaws
+pub mod StepLaws
+pub mod Within

@@ -1,0 +1,106 @@
+-- What the words of a line are, as facts on its one reading.
+use Rattle.std.proofs.Common.{◌≡◌, ◌≢◌, ℕ, ◌<◌, ◌≤◌, Bool, true, false, nat_lt, if◌then◌else◌, List, [], ◌++◌, length, Option, Result, Ok, Err, refl, sym, ap, ◌∙◌, append-nil, subst, arith}
+use Rattle.std.proofs.lemmas.Bool.Decides.{nat_tests}
+use Rattle.hx_words.specs.declared.fault.WordFault.{WordFault}
+use Rattle.hx_words.specs.declared.fault.WordFault.TheVariants.{BadEscape, BadVariable, TooManyWords, NoMemory}
+use Rattle.hx_words.specs.declared.quoting.Mode.{Mode}
+use Rattle.hx_words.specs.declared.quoting.Mode.TheVariants.{Outside, Single, Double}
+use Rattle.hx_words.specs.Quoting.{escape_of}
+use Rattle.hx_words.specs.Reading.{Item, Reading}
+use Rattle.hx_words.specs.Variable.{Env, variable_of}
+use Rattle.hx_words.specs.Words.{LineEnd, ReadsLine, line_reading, line_end, word_item, runs, begun, beginning_at, ended, words_of}
+use Rattle.hx_words.specs.Words.LineEnd.{Complete, InQuote, NoItem}
+use Rattle.hx_words.proofs.Endings.{StopsBy, stops-either, stops-part, ending-by}
+use Rattle.hx_words.proofs.OneReading.{one_reading, is_reading}
+use Rattle.hx_words.proofs.Within.{word-within}
+
+pub reads_line : (env : Env) (line : List ℕ) → ReadsLine env line (line_reading env line)
+reads_line env line = is_reading (word_item env) line_end (word-within env) line Outside 0 (omega arith)
+
+pub reads_once : (env : Env) (line : List ℕ) (reading : Reading LineEnd) → ReadsLine env line reading → reading ≡ line_reading env line
+reads_once env line reading reads = one_reading (word_item env) line_end Outside line reading reads
+
+pub record AreRuns (reading : Reading LineEnd) (words : List (List ℕ)) : Type 0 where
+  pub whole : words ≡ runs reading.items
+  pub few : length words ≤ 256
+  pub complete : reading.ending ≡ Complete
+
+few-test : (b : Bool) (r : Result (List (List ℕ)) WordFault) (words : List (List ℕ)) → (if b then Err TooManyWords else r) ≡ Ok words → (b ≡ false) × (r ≡ Ok words)
+few-test true r words is = cc
+few-test false r words is = (refl, is)
+
+few-number : (n : ℕ) → nat_lt 256 n ≡ false → n ≤ 256
+few-number n is = grind (arith, nat_tests)
+
+at-end : (items : List (Option (List ℕ))) (ending : LineEnd) (words : List (List ℕ)) → length (runs (items ++ beginning_at ending)) ≤ 256 → ended ending (runs (items ++ beginning_at ending)) ≡ Ok words → (words ≡ runs items) × (length words ≤ 256) × (ending ≡ Complete)
+at-end items Complete words few is =
+    let whole : runs (items ++ []) ≡ words = cc in
+    (sym whole ∙ ap runs (append-nil items), subst (λ (w : List (List ℕ)). length w ≤ 256) whole few, refl)
+at-end items InQuote words few is = cc
+at-end items (NoItem fault) words few is = cc
+
+pub words_are_runs : (env : Env) (line : List ℕ) (words : List (List ℕ)) → words_of env line ≡ Ok words → (words ≡ runs (line_reading env line).items) × (length words ≤ 256) × ((line_reading env line).ending ≡ Complete)
+unfolding words_of
+words_are_runs env line words is =
+    let reading = line_reading env line in
+    let few = few-test (nat_lt 256 (length (begun reading))) (ended reading.ending (begun reading)) words is in
+    at-end reading.items reading.ending words (few-number (length (begun reading)) few.0) few.1
+
+-- what ends a reading that has no item, or the text, is no want of memory
+abbrev Fair : LineEnd → Type 0
+Fair Complete = Unit {0}
+Fair InQuote = Unit {0}
+Fair (NoItem fault) = fault ≢ NoMemory
+
+fair-either : (b : Bool) (x y : Item LineEnd) → StopsBy Fair x → StopsBy Fair y → StopsBy Fair (if b then x else y)
+fair-either = stops-either Fair
+
+fair-item : (env : Env) (mode : Mode) (b : ℕ) (bs : List ℕ) → StopsBy Fair (word_item env mode b bs)
+unfolding word_item
+fair-item env Outside b bs =
+    let escape = stops-part Fair (NoItem BadEscape) Outside (escape_of bs) (λ is. cc) in
+    let well : Unit {0} = tt in
+    search (fair-either, escape, well) depth 9
+fair-item env Single b bs = let well : Unit {0} = tt in search (fair-either, well) depth 9
+fair-item env Double b bs =
+    let escape = stops-part Fair (NoItem BadEscape) Double (escape_of bs) (λ is. cc) in
+    let variable = stops-part Fair (NoItem BadVariable) Double (variable_of env bs) (λ is. cc) in
+    let well : Unit {0} = tt in
+    search (fair-either, escape, variable, well) depth 9
+
+fair-end : (mode : Mode) → Fair (line_end mode)
+fair-end Outside = tt
+fair-end Single = tt
+fair-end Double = tt
+
+fair-reading : (env : Env) (line : List ℕ) → Fair (line_reading env line).ending
+fair-reading env line = ending-by (λ n. Fair) (word_item env) line_end (λ n e fair. fair) (fair-item env) fair-end line Outside 0
+
+fair-result : (many : Bool) (ending : LineEnd) (words : List (List ℕ)) → Fair ending → (if many then Err TooManyWords else ended ending words) ≡ Err NoMemory → ⊥
+fair-result true ending words fair is = cc
+fair-result false Complete words fair is = cc
+fair-result false InQuote words fair is = cc
+fair-result false (NoItem fault) words fair is = fair cc
+
+pub no_want_of_memory : (env : Env) (line : List ℕ) → words_of env line ≢ Err NoMemory
+unfolding words_of
+no_want_of_memory env line =
+    let reading = line_reading env line in
+    fair-result (nat_lt 256 (length (begun reading))) reading.ending (begun reading) (fair-reading env line)
+
+many-test : (n : ℕ) (r : Result (List (List ℕ)) WordFault) → 256 < n → (if nat_lt 256 n then Err TooManyWords else r) ≡ Err TooManyWords
+many-test n r many = grind (arith, nat_tests)
+
+few-pass : (n : ℕ) (r : Result (List (List ℕ)) WordFault) → n ≤ 256 → (if nat_lt 256 n then Err TooManyWords else r) ≡ r
+few-pass n r few = grind (arith, nat_tests)
+
+pub ends_too_many : (env : Env) (line : List ℕ) → 256 < length (begun (line_reading env line)) → words_of env line ≡ Err TooManyWords
+unfolding words_of
+ends_too_many env line many = many-test (length (begun (line_reading env line))) _ many
+
+-- with room for its words, a line comes to what the end of its reading says
+pub ends_by_reading : (env : Env) (line : List ℕ) (ending : LineEnd) → (line_reading env line).ending ≡ ending → length (begun (line_reading env line)) ≤ 256 → words_of env line ≡ ended ending (begun (line_reading env line))
+unfolding words_of
+ends_by_reading env line ending is few =
+    few-pass (length (begun (line_reading env line))) (ended (line_reading env line).ending (begun (line_reading env line))) few
+    ∙ ap (λ (e : LineEnd). ended e (begun (line_reading env line))) is

@@ -1,0 +1,11 @@
+pub mod Arguments
+pub mod CallForm
+pub mod CallStep
+pub mod CallToken
+pub mod Calls
+pub mod Fault
+pub mod Quoting
+pub mod Reading
+pub mod Token
+pub mod Variable
+pub mod Words

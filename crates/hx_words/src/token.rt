@@ -1,0 +1,98 @@
+ghost use Rattle.std.specs.Prelude.{◌≡◌, length};
+ghost use Rattle.hx_words.specs.Quoting.{escape_of};
+ghost use Rattle.hx_words.specs.Reading.{part_or, single_item};
+ghost use Rattle.hx_words.specs.Token.{item_of, TakesWithin};
+ghost use Rattle.hx_words.specs.Variable.{pairs_of};
+ghost use Rattle.hx_words.specs.Words.{word_item, outside_item, double_item, double_escape};
+ghost use Rattle.hx_words.specs.Words.LineEnd.{NoItem};
+
+use crate::fault::WordFault;
+use crate::quoting::{Mode, Value, read_escape};
+use crate::variable::{starts_with, variable};
+
+/// The item at the front of a line, with how many of the bytes behind its first belong to it.
+#[derive(Clone, Copy)]
+pub(crate) enum Token<'a> {
+    Gap(usize),
+    Part(usize, Value<'a>, Mode),
+    Wrong(WordFault),
+}
+
+/// The item that begins with `byte`, where the bytes of `after` follow it.
+#[tactic(auto, unfolding(crate::specs::Words::word_item))]
+pub(crate) fn item_at<'a>(
+    env: &'a [(Vec<u8>, Vec<u8>)],
+    mode: Mode,
+    byte: u8,
+    after: &[u8],
+) -> Token<'a>
+    ensures item { item_of result ≡ word_item (pairs_of env.now) mode byte after.now }
+    ensures within { TakesWithin (length after.now) result }
+{
+    match mode {
+        Mode::Outside => outside(byte, after),
+        Mode::Double => double(env, byte, after),
+        Mode::Single => single(byte),
+    }
+}
+
+fn outside<'a>(byte: u8, after: &[u8]) -> Token<'a>
+    ensures item { item_of result ≡ outside_item byte after.now }
+    ensures within { TakesWithin (length after.now) result }
+{
+    match byte {
+        b' ' | b'\t' => Token::Gap(0),
+        b'#' => Token::Gap(after.len()),
+        b'"' => Token::Part(0, Value::Nothing, Mode::Double),
+        b'\'' => Token::Part(0, Value::Nothing, Mode::Single),
+        b'\\' => plain_escape(Mode::Outside, after),
+        _ => Token::Part(0, Value::One(byte), Mode::Outside),
+    }
+}
+
+fn double<'a>(env: &'a [(Vec<u8>, Vec<u8>)], byte: u8, after: &[u8]) -> Token<'a>
+    ensures item { item_of result ≡ double_item (pairs_of env.now) byte after.now }
+    ensures within { TakesWithin (length after.now) result }
+{
+    match byte {
+        b'"' => Token::Part(0, Value::Nothing, Mode::Outside),
+        b'$' => match variable(env, after) {
+            None => Token::Wrong(WordFault::BadVariable),
+            Some((behind, value)) => Token::Part(behind, Value::Lent(value), Mode::Double),
+        },
+        b'\\' => dollar_escape(after),
+        _ => Token::Part(0, Value::One(byte), Mode::Double),
+    }
+}
+
+fn single<'a>(byte: u8) -> Token<'a>
+    ensures item { item_of result ≡ single_item byte }
+    ensures within { TakesWithin 0 result }
+{
+    match byte {
+        b'\'' => Token::Part(0, Value::Nothing, Mode::Outside),
+        _ => Token::Part(0, Value::One(byte), Mode::Single),
+    }
+}
+
+/// A backslash in double quotes.
+fn dollar_escape<'a>(after: &[u8]) -> Token<'a>
+    ensures item { item_of result ≡ double_escape after.now }
+    ensures within { TakesWithin (length after.now) result }
+{
+    if starts_with(after, b'$') {
+        return Token::Part(1, Value::One(b'$'), Mode::Double);
+    }
+    plain_escape(Mode::Double, after)
+}
+
+/// A backslash outside quotes, and one in double quotes before any byte but `$`.
+fn plain_escape<'a>(mode: Mode, after: &[u8]) -> Token<'a>
+    ensures item { item_of result ≡ part_or (NoItem WordFault.BadEscape) mode (escape_of after.now) }
+    ensures within { TakesWithin (length after.now) result }
+{
+    match read_escape(after) {
+        None => Token::Wrong(WordFault::BadEscape),
+        Some((behind, value)) => Token::Part(behind, value, mode),
+    }
+}

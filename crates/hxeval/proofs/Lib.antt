@@ -1,0 +1,7 @@
+pub mod CutLemmas
+pub mod LoadLemmas
+pub mod ReplayLemmas
+pub mod RunLemmas
+pub mod StatusLemmas
+pub mod StatementLemmas
+pub mod ConnectionsLemmas

@@ -1,0 +1,18 @@
+use Rattle.std.proofs.Common.{◌≡◌, ◌-◌, ◌≤◌, true}
+use Rattle.std.specs.Io.KnownBytes.{IsAtEnd}
+use Rattle.hxeval.specs.Told.{record_limit}
+use Rattle.hxeval.proofs.ReplayLemmas.{Answered, AreSame}
+use Rattle.hxeval.proofs.replay.replay.Given as goal
+
+abbrev pub invariant-events : goal.invariant-events
+invariant-events g l = record {
+  answered : Answered AreSame l.rules l.world l.reader (g.S.Source.left l.fn.record_in) (g.S.Source.left l.record_in) (g.K.Sink.written l.fn.out) (g.K.Sink.written l.out);
+  within : l.reader.at ≤ record_limit;
+  ended : l.reader.ended ≡ true → IsAtEnd (g.S.Source.left l.record_in);
+  counted : l.world.requests ≤ l.reader.at;
+  source : g.S.Source.faults l.fn.record_in ≤ g.S.Source.faults l.record_in;
+  sink : g.K.Sink.faults l.fn.out ≤ g.K.Sink.faults l.out;
+}
+
+abbrev pub decreases-events : goal.decreases-events
+decreases-events g l = record_limit - l.reader.at

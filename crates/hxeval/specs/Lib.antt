@@ -1,0 +1,9 @@
+pub mod Bytes
+pub mod Rules
+pub mod Statement
+pub mod Configuration
+pub mod Answers
+pub mod Replay
+pub mod Told
+pub mod Run
+pub mod RunFault

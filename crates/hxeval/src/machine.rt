@@ -1,0 +1,67 @@
+use memchr::memchr;
+use std::alloc::{AllocError, Global};
+use std::env::FillError;
+use std::rt::Env;
+
+/// The longest argument or variable that Linux hands to a program, in bytes, with the NUL at its end.
+const MAX_TEXT_LEN: usize = 131_072;
+
+/// Why the command line or the environment can't be taken in.
+#[derive(Clone, Copy, Debug, PartialEq, Eq)]
+pub enum MachineFault {
+    /// An argument or a variable is longer than any that Linux hands over.
+    TooLong,
+    NoMemory,
+}
+
+impl From<AllocError> for MachineFault {
+    fn from(_: AllocError) -> MachineFault {
+        MachineFault::NoMemory
+    }
+}
+
+/// The words of the command line, without the program's name. They may hold any bytes.
+pub fn arguments(env: &impl Env, alloc: Global) -> Result<Vec<Vec<u8>>, MachineFault> {
+    let mut buffer = vec![in alloc; 0u8; MAX_TEXT_LEN]?;
+    let mut words = Vec::new(alloc);
+    for i in 1..usize::MAX {
+        match env.arg(i, &mut buffer) {
+            Ok(len) => words
+                .push(buffer[..len].to_vec(alloc)?)
+                .map_err(AllocError::from)?,
+            Err(FillError::NotPresent) => break,
+            Err(FillError::TooLong) => return Err(MachineFault::TooLong),
+        }
+    }
+    Ok(words)
+}
+
+/// The variables of the environment, in their order: each name with its value. They may hold any bytes.
+pub fn environment(env: &impl Env, alloc: Global) -> Result<Vec<(Vec<u8>, Vec<u8>)>, MachineFault> {
+    let mut buffer = vec![in alloc; 0u8; MAX_TEXT_LEN]?;
+    let mut pairs = Vec::new(alloc);
+    for i in 0..usize::MAX {
+        match env.var_at(i, &mut buffer) {
+            Ok(len) => {
+                if let Some(pair) = pair_of(alloc, &buffer[..len])? {
+                    pairs.push(pair).map_err(AllocError::from)?;
+                }
+            }
+            Err(FillError::NotPresent) => break,
+            Err(FillError::TooLong) => return Err(MachineFault::TooLong),
+        }
+    }
+    Ok(pairs)
+}
+
+/// The name and the value of an entry `NAME=VALUE`; an entry of another form is no variable.
+fn pair_of(alloc: Global, entry: &[u8]) -> Result<Option<(Vec<u8>, Vec<u8>)>, AllocError> {
+    match memchr(b'=', entry) {
+        None => Ok(None),
+        Some(at) => {
+            let name = entry[..at].to_vec(alloc)?;
+            let value = entry[at + 1..].to_vec(alloc)?;
+            Ok(Some((name, value)))
+        }
+    }
+}

@@ -1,0 +1,40 @@
+//! hxeval: replays recorded requests through the rules of an HAProxy configuration.
+#![tactic(auto)]
+
+mod answer;
+mod bytes;
+mod connections;
+mod explain;
+mod last_line;
+mod load;
+mod machine;
+mod replay;
+mod rules;
+mod run;
+mod run_fault;
+mod statement;
+#[cfg(test)]
+mod tests;
+mod world;
+
+use crate::explain::explain;
+use crate::last_line::LastLine;
+use crate::machine::{arguments, environment};
+use crate::run::run;
+use hx_outside::{DirFiles, StdSink, StdSource};
+use std::io::writer;
+use std::process::ExitCode;
+
+fn main(rt: HostRuntime) -> ExitCode {
+    let alloc = rt.alloc();
+    let (Ok(words), Ok(env)) = (arguments(&rt, alloc), environment(&rt, alloc)) else {
+        let _ = eprintln!(rt; "hxeval: the command line and the environment can't be taken in");
+        return ExitCode::from(7);
+    };
+    let mut files = DirFiles::new(&rt);
+    let mut record = StdSource::new(rt.reader());
+    let mut out = LastLine::new(StdSink::new(writer(&rt)));
+    let status = run(alloc, &words, &env, &mut files, &mut record, &mut out);
+    explain(&rt, status, &words, files.faults() > 0, out.line());
+    ExitCode::from(status)
+}

@@ -1,0 +1,149 @@
+ghost use Rattle.std.specs.Prelude.{◌≡◌, ◌≢◌, ◌≤◌, ◌↔◌, ◌⊎◌, List, ℕ, Ok, Err, None, Some, Contains, [], ◌∷◌, OnOk, IsErrOf};
+ghost use Rattle.std.specs.Option.{option_copied};
+ghost use Rattle.std.specs.Io.KnownBytes.{Appends, IsAtEnd};
+ghost use Rattle.hx_outside.specs.Count.{Rose};
+ghost use Rattle.hx_words.specs.Variable.{pairs_of};
+ghost use Rattle.hxeval.specs.Run.{config_name, texts_of, Ran, Headline, SourceFails};
+ghost use Rattle.hxeval.specs.RunFault.{Attempted, Finishes};
+ghost use Rattle.hxeval.specs.declared.load.Refusal.{Refusal};
+
+use crate::load::load;
+use crate::replay::replay;
+use crate::run_fault::RunFault;
+use hx_outside::{Files, Sink, SinkFault, Source, write_all};
+use std::alloc::Global;
+
+/// Runs the command that `words` are, the words of a command line without the program's name, under the
+/// environment `env`, and answers the exit status.
+///
+/// `run CONFIG` reads the file CONFIG as a configuration, and answers the events of the record in order: each
+/// answer is written before the next event is read.
+///
+/// | Status | Comes |
+/// |---|---|
+/// | 0 | the record was answered to its end |
+/// | 2 | the words are no command; nothing is touched |
+/// | 3 | the configuration is refused: `config LINE CODE` is written, alone |
+/// | 4 | the record is refused: the answers before, and then `record OFFSET CODE` are written |
+/// | 5 | the files or the source failed |
+/// | 6 | the sink failed |
+/// | 7 | memory ran out |
+#[tactic(auto, using(crate::proofs::StatusLemmas::complete))]
+pub fn run<F: Files, S: Source, K: Sink>(
+    alloc: Global,
+    words: &[Vec<u8>],
+    env: &[(Vec<u8>, Vec<u8>)],
+    files: &mut F,
+    record_in: &mut S,
+    out: &mut K,
+) -> u8
+    ensures status { Contains (0 ∷ 2 ∷ 3 ∷ 4 ∷ 5 ∷ 6 ∷ 7 ∷ []) result }
+    ensures usage { (result ≡ 2) ↔ (config_name (texts_of words.now) ≡ None) }
+    ensures untouched { result ≡ 2 → (files.new ≡ files.old) × (record_in.new ≡ record_in.old) × (out.new ≡ out.old) }
+
+    ensures ran { (name : List ℕ) → config_name (texts_of words.now) ≡ Some name
+        → Ran (pairs_of env.now) (F.held files.old) name (S.left record_in.old) (K.written out.old) (K.written out.new) result }
+    ensures done { (name : List ℕ) → config_name (texts_of words.now) ≡ Some name → result ≡ 0
+        → Headline (pairs_of env.now) (F.held files.old) name (S.left record_in.old) (K.written out.old) (K.written out.new) }
+    ensures at_end { result ≡ 0 → IsAtEnd (S.left record_in.new) }
+    ensures unread { result ≡ 3 → record_in.new ≡ record_in.old }
+
+    ensures outside { result ≡ 5 → (name : List ℕ) → config_name (texts_of words.now) ≡ Some name
+        → (Rose (F.faults files.old) (F.faults files.new) × (F.last files.new ≡ Some name)
+        × Appends (K.written out.old) (K.written out.new) [])
+        ⊎ (Rose (S.faults record_in.old) (S.faults record_in.new)
+        × SourceFails (pairs_of env.now) (F.held files.old) name (S.left record_in.old) (S.left record_in.new) (K.written out.old) (K.written out.new)) }
+    ensures sink { result ≡ 6 → Rose (K.faults out.old) (K.faults out.new) }
+    // Where nothing failed, the answer is the one that the configuration and the record have, or want of memory.
+    ensures complete { ¬ (Rose (F.faults files.old) (F.faults files.new)) → ¬ (Rose (S.faults record_in.old) (S.faults record_in.new))
+        → ¬ (Rose (K.faults out.old) (K.faults out.new)) → Contains (0 ∷ 2 ∷ 3 ∷ 4 ∷ 7 ∷ []) result }
+
+    ensures held { F.held files.new ≡ F.held files.old }
+{
+    match config_name(words) {
+        None => 2,
+        Some(name) => run_config(alloc, env, files, name, record_in, out),
+    }
+}
+
+/// The name of the configuration, where the words are `run CONFIG`.
+fn config_name(words: &[Vec<u8>]) -> Option<&[u8]>
+    ensures { option_copied result ≡ config_name (texts_of words.now) }
+{
+    match words {
+        [command, name] if command.as_slice() == b"run".as_slice() => Some(name.as_slice()),
+        _ => None,
+    }
+}
+
+/// Runs `run CONFIG` with the configuration of this name.
+#[tactic(auto, using(crate::proofs::StatusLemmas::ran_ok, crate::proofs::StatusLemmas::ran_finished, crate::proofs::StatusLemmas::headline, crate::proofs::StatusLemmas::finished_status))]
+fn run_config<F: Files, S: Source, K: Sink>(
+    alloc: Global,
+    env: &[(Vec<u8>, Vec<u8>)],
+    files: &mut F,
+    name: &[u8],
+    record_in: &mut S,
+    out: &mut K,
+) -> u8
+    ensures status { Contains (0 ∷ 3 ∷ 4 ∷ 5 ∷ 6 ∷ 7 ∷ []) result }
+    ensures ran { Ran (pairs_of env.now) (F.held files.old) name.now (S.left record_in.old) (K.written out.old) (K.written out.new) result }
+    ensures done { result ≡ 0 → Headline (pairs_of env.now) (F.held files.old) name.now (S.left record_in.old) (K.written out.old) (K.written out.new) }
+    ensures at_end { result ≡ 0 → IsAtEnd (S.left record_in.new) }
+    ensures unread { result ≡ 3 → record_in.new ≡ record_in.old }
+    ensures outside { result ≡ 5
+        → (Rose (F.faults files.old) (F.faults files.new) × (F.last files.new ≡ Some name.now)
+        × Appends (K.written out.old) (K.written out.new) [])
+        ⊎ (Rose (S.faults record_in.old) (S.faults record_in.new)
+        × SourceFails (pairs_of env.now) (F.held files.old) name.now (S.left record_in.old) (S.left record_in.new) (K.written out.old) (K.written out.new)) }
+    ensures sink { result ≡ 6 → Rose (K.faults out.old) (K.faults out.new) }
+    ensures held { F.held files.new ≡ F.held files.old }
+{
+    match attempt(alloc, env, files, name, record_in, out) {
+        Ok(()) => 0,
+        Err(fault) => finish(alloc, fault, out),
+    }
+}
+
+/// Loads the configuration of this name and replays the record, up to the first fault.
+fn attempt<F: Files, S: Source, K: Sink>(
+    alloc: Global,
+    env: &[(Vec<u8>, Vec<u8>)],
+    files: &mut F,
+    name: &[u8],
+    record_in: &mut S,
+    out: &mut K,
+) -> Result<(), RunFault>
+    ensures attempted { Attempted (pairs_of env.now) (F.held files.old) name.now (S.left record_in.old) (K.written out.old) (K.written out.new) result }
+    ensures at_end { OnOk result (IsAtEnd (S.left record_in.new)) }
+    ensures unread { (refusal : Refusal) → result ≡ Err (RunFault.Config refusal) → record_in.new ≡ record_in.old }
+    ensures files_failed { IsErrOf result RunFault.Files
+        → Rose (F.faults files.old) (F.faults files.new) × (F.last files.new ≡ Some name.now) × (out.new ≡ out.old) }
+    ensures source_failed { IsErrOf result RunFault.Source
+        → Rose (S.faults record_in.old) (S.faults record_in.new)
+        × SourceFails (pairs_of env.now) (F.held files.old) name.now (S.left record_in.old) (S.left record_in.new) (K.written out.old) (K.written out.new) }
+    ensures sink_failed { IsErrOf result RunFault.Sink → Rose (K.faults out.old) (K.faults out.new) }
+    ensures later { K.faults out.old ≤ K.faults out.new }
+    ensures held { F.held files.new ≡ F.held files.old }
+{
+    let config = files.read(alloc, name)?;
+    let rules = load(alloc, env, config.as_slice())?;
+    replay(alloc, &rules, record_in, out)?;
+    Ok(())
+}
+
+/// Writes the line that tells the fault, and answers the status.
+fn finish<K: Sink>(alloc: Global, fault: RunFault, out: &mut K) -> u8
+    ensures finished { Finishes fault (K.written out.old) (K.written out.new) result }
+    ensures sink { result ≡ 6 → fault ≢ RunFault.Sink → Rose (K.faults out.old) (K.faults out.new) }
+    ensures later { K.faults out.old ≤ K.faults out.new }
+{
+    let Ok(line) = fault.last_line(alloc) else {
+        return 7;
+    };
+    match write_all(out, line.as_bytes()) {
+        Ok(()) => fault.status(),
+        Err(SinkFault::Failed) => 6,
+        Err(SinkFault::NoMemory) => 7,
+    }
+}

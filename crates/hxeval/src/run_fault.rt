@@ -1,0 +1,98 @@
+ghost use Rattle.std.specs.Prelude.{◌≡◌, IfOk};
+ghost use Rattle.std.specs.String.{string_bytes};
+ghost use Rattle.hxeval.specs.RunFault.{last_line, status_of};
+
+use crate::load::{LoadFault, Refusal};
+use crate::replay::ReplayFault;
+use hx_outside::FileFault;
+use std::alloc::{AllocError, Global};
+
+/// Why a run ended before the record did.
+#[derive(Clone, Copy, Debug, PartialEq, Eq)]
+pub enum RunFault {
+    /// The configuration is refused.
+    Config(Refusal),
+    /// The record is refused, at this offset and with this code.
+    Record { offset: u64, code: u32 },
+    /// The configuration could not be read.
+    Files,
+    /// The record could not be read.
+    Source,
+    /// An answer could not be written.
+    Sink,
+    NoMemory,
+}
+
+impl RunFault {
+    /// The exit status of a run that ends so.
+    pub fn status(&self) -> u8
+        ensures { result ≡ status_of self.now }
+    {
+        match self {
+            RunFault::Config(_) => 3,
+            RunFault::Record { .. } => 4,
+            RunFault::Files => 5,
+            RunFault::Source => 5,
+            RunFault::Sink => 6,
+            RunFault::NoMemory => 7,
+        }
+    }
+
+    /// The line that tells a refusal; for any other fault, nothing.
+    pub fn last_line(&self, alloc: Global) -> Result<String, AllocError>
+        ensures { IfOk result (λ line. string_bytes line ≡ last_line self.now) }
+    {
+        match self {
+            RunFault::Config(Refusal { line, code }) => format!(in alloc; "config {line} {code}\n"),
+            RunFault::Record { offset, code } => format!(in alloc; "record {offset} {code}\n"),
+            RunFault::Files => Ok(String::new(alloc)),
+            RunFault::Source => Ok(String::new(alloc)),
+            RunFault::Sink => Ok(String::new(alloc)),
+            RunFault::NoMemory => Ok(String::new(alloc)),
+        }
+    }
+}
+
+impl From<FileFault> for RunFault {
+    ghost use Rattle.std.specs.Prelude.{◌≡◌};
+    ghost use Rattle.hxeval.specs.RunFault.{from_file};
+
+    ghost from_gives = { λ fault given. given ≡ from_file fault };
+
+    fn from(fault: FileFault) -> RunFault {
+        match fault {
+            FileFault::Failed => RunFault::Files,
+            FileFault::NoMemory => RunFault::NoMemory,
+        }
+    }
+}
+
+impl From<LoadFault> for RunFault {
+    ghost use Rattle.std.specs.Prelude.{◌≡◌};
+    ghost use Rattle.hxeval.specs.RunFault.{from_load};
+
+    ghost from_gives = { λ fault given. given ≡ from_load fault };
+
+    fn from(fault: LoadFault) -> RunFault {
+        match fault {
+            LoadFault::Refused(refusal) => RunFault::Config(refusal),
+            LoadFault::NoMemory => RunFault::NoMemory,
+        }
+    }
+}
+
+impl From<ReplayFault> for RunFault {
+    ghost use Rattle.std.specs.Prelude.{◌≡◌};
+    ghost use Rattle.hxeval.specs.RunFault.{from_replay};
+
+    ghost from_gives = { λ fault given. given ≡ from_replay fault };
+
+    fn from(fault: ReplayFault) -> RunFault {
+        match fault {
+            ReplayFault::Refused { offset, code } => RunFault::Record { offset, code },
+            ReplayFault::Source => RunFault::Source,
+            ReplayFault::Sink => RunFault::Sink,
+            ReplayFault::NoMemory => RunFault::NoMemory,
+        }
+    }
+}
