@@ -108,3 +108,18 @@ fn record_refused(rt: &impl Eprint, last_line: &[u8]) -> io::Result<()> {
         }
     }
 }
+
+#[cfg(test)]
+mod tests {
+    use super::*;
+
+    #[test]
+    fn place_and_code_are_read_from_the_line_that_tells_a_refusal(rt: HostRuntime) {
+        assert_eq!(rt; numbers(b"config 3 9\n"), Some((3, 9)));
+        assert_eq!(rt; numbers(b"record 4294967296 4\n"), Some((4294967296, 4)));
+        assert_eq!(rt; numbers(b"1 deny"), None);
+        assert_eq!(rt; numbers(b""), None);
+        assert_eq!(rt; config_fault(9).0, "Unsupported");
+        assert_eq!(rt; record_fault(7).0, "ConnOpen");
+    }
+}

@@ -11,7 +11,7 @@ const MAX_KEPT_LEN: usize = 64;
 #[derive(Drop)]
 pub struct LastLine<K> {
     sink: K,
-    line: [u8; 64],
+    line: [u8; MAX_KEPT_LEN],
     len: usize,
     ended: bool,
     ghost within: { len ≤ 64 },
@@ -24,14 +24,16 @@ impl<K> LastLine<K> {
     {
         LastLine {
             sink,
-            line: [0; 64],
+            line: [0; MAX_KEPT_LEN],
             len: 0,
             ended: true,
         }
     }
 
     /// The beginning of the last line, with its line feed where that was kept.
-    pub fn line(&self) -> &[u8] {
+    pub fn line(&self) -> &[u8]
+        ensures { length result.now ≤ 64 }
+    {
         &self.line[..self.len]
     }
 
@@ -66,5 +68,30 @@ impl<K: Sink> Sink for LastLine<K> {
         let count = self.sink.write(bytes)?;
         self.keep_all(&bytes[..count]);
         Ok(count)
+    }
+}
+
+#[cfg(test)]
+mod tests {
+    use super::*;
+    use hx_outside::{MemSink, write_all};
+    use std::test::Fail;
+
+    #[test]
+    fn the_last_line_is_kept_however_it_is_written(rt: HostRuntime) -> Result<(), Fail> {
+        for piece in [1, 3, 64] {
+            let sink = MemSink::new(
+                rt.alloc(),
+                if piece > 0 { piece } else { 1 },
+                Vec::new(rt.alloc()),
+            );
+            let mut out = LastLine::new(sink);
+            assert_eq!(rt; out.line(), b"".as_slice());
+            for line in [b"1 pass -\n2 deny".as_slice(), b" 403\n", b"record 38 7\n"] {
+                assert!(rt; write_all(&mut out, line).is_ok());
+            }
+            assert_eq!(rt; out.line(), b"record 38 7\n".as_slice());
+        }
+        Ok(())
     }
 }

@@ -1,4 +1,9 @@
-use memchr::memchr;
+ghost use Rattle.std.specs.Prelude.{◌≡◌, None, Some, IfOk, MatchOption};
+ghost use Rattle.std.specs.List.{before_first};
+ghost use Rattle.memchr.specs.Find.{is_byte};
+ghost use Rattle.hxeval.specs.Bytes.{behind_first};
+
+use crate::bytes::cut;
 use std::alloc::{AllocError, Global};
 use std::env::FillError;
 use std::rt::Env;
@@ -20,7 +25,7 @@ impl From<AllocError> for MachineFault {
     }
 }
 
-/// The words of the command line, without the program's name. They may hold any bytes.
+/// The words of the command line, without the program's name. They may hold any bytes: no clause can say which.
 pub fn arguments(env: &impl Env, alloc: Global) -> Result<Vec<Vec<u8>>, MachineFault> {
     let mut buffer = vec![in alloc; 0u8; MAX_TEXT_LEN]?;
     let mut words = Vec::new(alloc);
@@ -36,7 +41,7 @@ pub fn arguments(env: &impl Env, alloc: Global) -> Result<Vec<Vec<u8>>, MachineF
     Ok(words)
 }
 
-/// The variables of the environment, in their order: each name with its value. They may hold any bytes.
+/// The variables of the environment, in their order: each name with its value. No clause can say which they are.
 pub fn environment(env: &impl Env, alloc: Global) -> Result<Vec<(Vec<u8>, Vec<u8>)>, MachineFault> {
     let mut buffer = vec![in alloc; 0u8; MAX_TEXT_LEN]?;
     let mut pairs = Vec::new(alloc);
@@ -54,14 +59,13 @@ pub fn environment(env: &impl Env, alloc: Global) -> Result<Vec<(Vec<u8>, Vec<u8
     Ok(pairs)
 }
 
-/// The name and the value of an entry `NAME=VALUE`; an entry of another form is no variable.
-fn pair_of(alloc: Global, entry: &[u8]) -> Result<Option<(Vec<u8>, Vec<u8>)>, AllocError> {
-    match memchr(b'=', entry) {
-        None => Ok(None),
-        Some(at) => {
-            let name = entry[..at].to_vec(alloc)?;
-            let value = entry[at + 1..].to_vec(alloc)?;
-            Ok(Some((name, value)))
-        }
+/// The name and the value of an entry `NAME=VALUE`, cut at the first `=`; an entry without one is no variable.
+fn pair_of(alloc: Global, entry: &[u8]) -> Result<Option<(Vec<u8>, Vec<u8>)>, AllocError>
+    ensures { IfOk result (λ found. MatchOption found (behind_first (is_byte 61) entry.now ≡ None)
+        (λ pair. (pair.0.items ≡ before_first (is_byte 61) entry.now) × (behind_first (is_byte 61) entry.now ≡ Some pair.1.items))) }
+{
+    match cut(entry, b'=') {
+        (_, None) => Ok(None),
+        (name, Some(value)) => Ok(Some((name.to_vec(alloc)?, value.to_vec(alloc)?))),
     }
 }

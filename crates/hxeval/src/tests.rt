@@ -113,6 +113,14 @@ fn paths_are_denied_by_the_rules(rt: HostRuntime) -> Result<(), Fail> {
 }
 
 #[test]
+fn an_empty_record_has_no_answers(rt: HostRuntime) -> Result<(), Fail> {
+    let (status, written) = ran(rt.alloc(), b"", b"")?;
+    assert_eq!(rt; status, 0);
+    assert_eq!(rt; written.as_slice(), b"".as_slice());
+    Ok(())
+}
+
+#[test]
 fn each_request_has_its_line(rt: HostRuntime) -> Result<(), Fail> {
     let heads: [&[u8]; 5] = [
         b"GET /a HTTP/1.1\r\n\r\n",
