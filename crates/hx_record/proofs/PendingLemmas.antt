@@ -3,10 +3,11 @@ use Rattle.std.proofs.Common.{◌≡◌, ℕ, ◌<◌, ◌≤◌, min, Bool, tru
 use Rattle.std.proofs.lemmas.Bool.{cases_lt, le-ltb}
 use Rattle.hx_record.specs.declared.piece.Tail.TheVariants.{Ends, Beyond, Open}
 use Rattle.hx_record.specs.declared.piece.Piece.TheVariants.{Undecided}
-use Rattle.hx_record.specs.Piece.{piece, line_len, IsWait}
+use Rattle.hx_record.specs.Piece.{piece, line_len}
 use Rattle.hx_record.specs.Record.{tail_of}
 use Rattle.hx_record.proofs.PieceLemmas.{Takes, takes, line_len-append}
 use Rattle.hx_record.proofs.WindowLemmas.{take_all}
+use Rattle.hx_record.specs.Parts.{IsWait}
 
 -- more bytes than there is room for
 pub under_beyond : (ended : Bool) (room : ℕ) (pending : List ℕ) → room < length pending → piece (tail_of ended room pending) (take room pending) ≡ piece Beyond (take room pending)

@@ -10,12 +10,12 @@ use Rattle.hx_record.specs.declared.piece.Tail.TheVariants.{Ends, Beyond, Open}
 use Rattle.hx_record.specs.declared.piece.Piece.{Piece}
 use Rattle.hx_record.specs.declared.piece.Piece.TheVariants.{Undecided, TooLong, Finish, Fault, Skip, Found}
 use Rattle.hx_record.specs.Refusal.{code_of}
-use Rattle.hx_record.specs.Piece.{IsFound}
 use Rattle.hx_record.specs.Record.{Items, Unknown, Bad, follow, tail_of}
-use Rattle.hx_record.specs.Reading.{State, MayFollow, items_behind, decided_now, Reads, piece_now, passed_by, Grows, IsOutside}
+use Rattle.hx_record.specs.Reading.{State, MayFollow, items_behind, decided_now, Reads}
 use Rattle.hx_record.proofs.PieceLemmas.{Takes}
 use Rattle.hx_record.proofs.PendingLemmas.{undecided_open}
 use Rattle.hx_record.proofs.StateLemmas.{now_takes, now_decided, skip_passes, found_passes, undecided_now, skip_now, skip_behind, found_behind, finish_behind, fault_behind, long_behind}
+use Rattle.hx_record.specs.Parts.{IsFound, piece_now, passed_by, Grows, IsOutside}
 
 -- ---- bytes that are told, in a row
 

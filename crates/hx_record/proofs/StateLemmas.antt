@@ -10,10 +10,11 @@ use Rattle.hx_record.specs.declared.piece.Piece.TheVariants.{Undecided, TooLong,
 use Rattle.hx_record.specs.Refusal.{code_of}
 use Rattle.hx_record.specs.Piece.{piece}
 use Rattle.hx_record.specs.Record.{Unknown, Done, Bad, Then, follow, tail_of, items_from}
-use Rattle.hx_record.specs.Reading.{State, MayFollow, items_behind, decided_now, piece_now, passed_by}
+use Rattle.hx_record.specs.Reading.{State, MayFollow, items_behind, decided_now}
 use Rattle.hx_record.proofs.PieceLemmas.{Takes, takes, piece_decided}
 use Rattle.hx_record.proofs.WindowLemmas.{take_all}
 use Rattle.hx_record.proofs.ItemLemmas.{rest_step}
+use Rattle.hx_record.specs.Parts.{piece_now, passed_by}
 
 -- what bytes decide stays so, under a limit and at the record's end too
 pub pending_decides : (ended ends : Bool) (room : ℕ) (pending more : List ℕ) → (ended ≡ true → (more ≡ []) × (ends ≡ true)) → piece (tail_of ended room pending) (take room pending) ≢ Undecided → piece (tail_of ends room (pending ++ more)) (take room (pending ++ more)) ≡ piece (tail_of ended room pending) (take room pending)

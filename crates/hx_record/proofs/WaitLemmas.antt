@@ -7,8 +7,9 @@ use Rattle.hx_record.specs.declared.refusal.Refusal.TheVariants as refusals
 use Rattle.hx_record.specs.declared.piece.Tail.TheVariants.{Open}
 use Rattle.hx_record.specs.declared.piece.Piece.TheVariants.{Undecided, Fault}
 use Rattle.hx_record.specs.Line.{Asks, line_says}
-use Rattle.hx_record.specs.Piece.{request, line_len, piece, IsWait}
+use Rattle.hx_record.specs.Piece.{request, line_len, piece}
 use Rattle.hx_record.proofs.PieceLemmas.{piece_long, piece_whole, line_len-append}
+use Rattle.hx_record.specs.Parts.{IsWait}
 
 -- without an LF one byte more is wanted
 pub wait_line : (bytes : List ℕ) → piece Open bytes ≡ Undecided → IsWait bytes (length bytes + 1)

@@ -6,7 +6,8 @@ use Rattle.std.proofs.lemmas.List.Elements.{All-from_get_or}
 use Rattle.std.proofs.lemmas.List.Sums.{fails_before_first}
 use Rattle.std.proofs.lemmas.List.Splits.{slice_split_first, slice_split_none, join_with_byte-slice_split}
 use Rattle.memchr.specs.Find.{is_byte}
-use Rattle.hx_record.specs.Line.{words_of, words_after, IsSomeWords}
+use Rattle.hx_record.specs.Line.{words_of}
+use Rattle.hx_record.specs.Said.{words_after, IsSomeWords}
 
 -- the first word ends at the first space
 pub words_cut : (at : ℕ) (text : List ℕ) → at ≡ position_or_len (is_byte 32) text → at < length text → words_of text ≡ take at text ∷ words_of (drop 1 (drop at text))

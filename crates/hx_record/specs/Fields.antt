@@ -1,8 +1,9 @@
 -- What a reader's fields stand for.
 use Rattle.std.specs.Prelude.{◌≤◌}
-use Rattle.hx_record.specs.Piece.{line_len, IsWait}
+use Rattle.hx_record.specs.Piece.{line_len}
 use Rattle.hx_record.specs.Reading.{State}
 use Rattle.hx_record.specs.declared.reader.Reader.TheInside.{Inside}
+use Rattle.hx_record.specs.Parts.{IsWait}
 
 abbrev pub state_of : Inside → State
 state_of r = record { limit = r.limit; at = r.at; pending = r.window.bytes; ended = r.ended }

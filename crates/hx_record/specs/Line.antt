@@ -1,5 +1,5 @@
 -- What one line of a record says. A line is here without its LF and without the CR before it.
-use Rattle.std.specs.Prelude.{◌≡◌, ℕ, ◌-◌, ◌^◌, List, [], ◌∷◌, Option, Some, None, Result, Ok, Err, ◌==◌, if◌then◌else◌, codes}
+use Rattle.std.specs.Prelude.{ℕ, ◌-◌, ◌^◌, List, [], ◌∷◌, Result, Ok, Err, ◌==◌, if◌then◌else◌, codes}
 use Rattle.std.specs.Option.{ok_or}
 use Rattle.std.specs.List.{slice_split, join_with_byte}
 use Rattle.std.specs.Str.{bytes_eq}
@@ -25,15 +25,6 @@ Ok a >>= f = f a
 -- The words of a line: the pieces between its single spaces. So a word may be empty.
 abbrev pub words_of : List ℕ → List (List ℕ)
 words_of line = slice_split (λ b. b == 32) line
-
--- the words of what stands behind a space, and none where no space is there
-abbrev pub words_after : Option (List ℕ) → List (List ℕ)
-words_after None = []
-words_after (Some rest) = words_of rest
-
--- there is a word
-abbrev pub IsSomeWords : List (List ℕ) → Type 0
-IsSomeWords words = (first : List ℕ) × (rest : List (List ℕ)) × (words ≡ first ∷ rest)
 
 -- a number of at most so much, in one or more decimal digits
 abbrev pub number_of_word : ℕ → List ℕ → Result ℕ Refusal

@@ -1,5 +1,5 @@
 -- What the bytes of a record begin with: a skipped line, an event, its end, or what is refused.
-use Rattle.std.specs.Prelude.{ℕ, ◌+◌, ◌<◌, ◌≡◌, List, [], ◌∷◌, ◌++◌, length, take, drop, slice_index, Result, Ok, Err, ◌==◌, nat_lt, if◌then◌else◌}
+use Rattle.std.specs.Prelude.{ℕ, ◌+◌, List, [], ◌∷◌, length, take, drop, slice_index, Result, Ok, Err, ◌==◌, nat_lt, if◌then◌else◌}
 use Rattle.std.specs.List.{position_or_len}
 use Rattle.std.specs.Io.BufRead.{strip_last}
 use Rattle.memchr.specs.Find.{is_byte}
@@ -50,12 +50,3 @@ piece tail bytes =
     if nat_lt 65536 len then Fault 0 refusals.LineTooLong
     else if nat_lt len (length bytes) then of_line tail (line_says (strip_last 13 (take len bytes))) (len + 1) (drop (len + 1) bytes)
     else behind tail (last_line bytes)
-
--- the bytes begin with an event
-abbrev pub IsFound : Piece → Type 0
-IsFound (Found used event) = Unit {0}
-IsFound _ = ⊥
-
--- While there are fewer bytes than `wait`, these ones in front, nothing is decided.
-abbrev pub IsWait : List ℕ → ℕ → Type 0
-IsWait bytes wait = (more : List ℕ) → length (bytes ++ more) < wait → piece Open (bytes ++ more) ≡ Undecided

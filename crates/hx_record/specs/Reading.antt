@@ -1,11 +1,10 @@
 -- What a reader tells of itself, and what a call of it answers.
-use Rattle.std.specs.Prelude.{◌≡◌, ℕ, ◌+◌, ◌<◌, List, [], ◌++◌, length, drop, Bool, true, false, Option, Some, None, Result, Ok, Err}
-use Rattle.std.specs.Io.KnownBytes.{Consumes, IsAtEnd}
+use Rattle.std.specs.Prelude.{◌≡◌, ℕ, ◌+◌, List, [], ◌++◌, length, Bool, true, Option, Some, None, Result, Ok, Err}
+use Rattle.std.specs.Io.KnownBytes.{Consumes}
 use Rattle.hx_record.specs.declared.events.Placed.{Placed}
 use Rattle.hx_record.specs.declared.fault.RecordFault.{RecordFault}
 use Rattle.hx_record.specs.declared.fault.RecordFault.TheVariants as faults
-use Rattle.hx_record.specs.declared.piece.Piece.{Piece}
-use Rattle.hx_record.specs.Record.{Items, Done, Bad, Then, items_from, first_piece}
+use Rattle.hx_record.specs.Record.{Items, Done, Bad, Then, items_from}
 
 -- The limit on the whole record, how many bytes of it the reader has passed, the bytes that it took from there on, and
 -- whether a read told it the record's end.
@@ -47,37 +46,3 @@ pub record Reads (before after : State) (left left' : Option (List ℕ)) (result
   pub limit : after.limit ≡ before.limit
   pub stays : before.ended ≡ true → (took ≡ []) × (after.ended ≡ true)
   pub answers : (ends : Bool) (more : List ℕ) → MayFollow after ends more → Answers (items_behind before ends (took ++ more)) (items_behind after ends more) result
-
--- ---- the parts of a call
-
--- what the pending bytes begin with
-abbrev pub piece_now : State → Piece
-piece_now s = first_piece s.ended s.at s.pending s.limit
-
--- so many bytes further
-abbrev pub passed_by : State → ℕ → State
-passed_by s used = record s { at = s.at + used; pending = drop used s.pending }
-
--- a read took so many bytes, and put them behind those that were there: none only at the end
-pub record Took (left left' : Option (List ℕ)) (before after : List ℕ) (count : ℕ) : Type 0 where
-  pub got : List ℕ
-  pub consumed : Consumes left left' got
-  pub bytes : after ≡ before ++ got
-  pub size : length got ≡ count
-  pub end : count ≡ 0 → IsAtEnd left'
-
--- a read took bytes, one at least, or told the record's end
-pub record Grows (before after : State) (left left' : Option (List ℕ)) : Type 0 where
-  pub got : List ℕ
-  pub consumed : Consumes left left' got
-  pub limit : after.limit ≡ before.limit
-  pub at : after.at ≡ before.at
-  pub pending : after.pending ≡ before.pending ++ got
-  pub some : after.ended ≡ false → 0 < length got
-  pub ended : after.ended ≡ true → (got ≡ []) × IsAtEnd left'
-
--- a fault that is none of the record
-abbrev pub IsOutside : RecordFault → Type 0
-IsOutside (faults.Bad offset code) = ⊥
-IsOutside faults.Failed = Unit {0}
-IsOutside faults.NoMemory = Unit {0}

@@ -2,8 +2,8 @@ ghost use Rattle.std.specs.Prelude.{◌≡◌, [], ◌∷◌, IsTrue, ◌↔◌,
 ghost use Rattle.std.specs.Option.{option_copied};
 ghost use Rattle.std.specs.Io.BufRead.{strip_last};
 ghost use Rattle.hx_text.specs.Number.{number_up_to};
-ghost use Rattle.hx_record.specs.Line.{words_of, words_after, IsSomeWords, number_of_word, address_of_word, line_says, words_say, conn_says, req_says, close_says, cli_says};
-ghost use Rattle.hx_record.specs.Said.{what_is_said};
+ghost use Rattle.hx_record.specs.Line.{words_of, number_of_word, address_of_word, line_says, words_say, conn_says, req_says, close_says, cli_says};
+ghost use Rattle.hx_record.specs.Said.{what_is_said, words_after, IsSomeWords};
 
 use crate::find::first_at;
 use crate::refusal::Refusal;

@@ -1,7 +1,8 @@
 ghost use Rattle.std.specs.Prelude.{◌≡◌, ◌+◌, ◌^◌, ◌<◌, ◌≤◌, length, take, IfOk, OnErr};
-ghost use Rattle.hx_record.specs.Piece.{behind, request, of_line, last_line, line_len, piece, IsFound, IsWait};
+ghost use Rattle.hx_record.specs.Piece.{behind, request, of_line, last_line, line_len, piece};
 ghost use Rattle.hx_record.specs.Record.{tail_of};
 ghost use Rattle.hx_record.specs.Said.{what_is_said};
+ghost use Rattle.hx_record.specs.Parts.{IsFound, IsWait};
 
 use crate::events::Event;
 use crate::find::first_at;

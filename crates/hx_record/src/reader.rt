@@ -1,9 +1,9 @@
 ghost use Rattle.std.specs.Prelude.{◌≡◌, ◌≢◌, ℕ, ◌+◌, ◌-◌, ◌<◌, ◌≤◌, [], true, false, Ok, Err, Some, None, length, IfOk, IfErr, OnOk, OnErr, IsSome};
 ghost use Rattle.std.specs.Io.KnownBytes.{Keeps, IsAtEnd};
 ghost use Rattle.hx_outside.specs.Count.{Rose};
-ghost use Rattle.hx_record.specs.Piece.{IsFound};
 ghost use Rattle.hx_record.specs.Record.{Unknown, Bad};
-ghost use Rattle.hx_record.specs.Reading.{State, MayFollow, items_behind, decided_now, Reads, piece_now, passed_by, Grows, IsOutside};
+ghost use Rattle.hx_record.specs.Reading.{State, MayFollow, items_behind, decided_now, Reads};
+ghost use Rattle.hx_record.specs.Parts.{IsFound, piece_now, passed_by, Grows, IsOutside};
 
 use crate::events::Placed;
 use crate::fault::RecordFault;

@@ -1,7 +1,7 @@
 ghost use Rattle.std.specs.Prelude.{◌≡◌, ◌+◌, ◌-◌, ◌<◌, ◌≤◌, ◌++◌, [], length, take, drop, IfOk, OnOk, OnErr, vec_len};
 ghost use Rattle.std.specs.Io.KnownBytes.{ReadConsumes, Keeps};
 ghost use Rattle.hx_outside.specs.Count.{Rose};
-ghost use Rattle.hx_record.specs.Reading.{Took};
+ghost use Rattle.hx_record.specs.Parts.{Took};
 
 use hx_outside::{Failed, Source};
 use std::alloc::{AllocError, Global};
