@@ -1,0 +1,9 @@
+pub mod Cuts
+pub mod Ends
+pub mod LastLemmas
+pub mod Lengths
+pub mod Pieces
+pub mod PiecesLaws
+pub mod QuotedLaws
+pub mod SplitLaws
+pub mod TrimLaws

@@ -1,0 +1,99 @@
+ghost use Rattle.std.specs.Prelude.{◌≡◌, List, ℕ, map};
+ghost use Rattle.std.specs.List.{after_first};
+ghost use Rattle.std.specs.Iterator.{YieldsFirstBy, item_count};
+ghost use Rattle.memchr.specs.Find.{is_byte3};
+ghost use Rattle.hx_lists.specs.NamedValues.{begins_params, separates_params, trim_both};
+ghost use Rattle.hx_lists.specs.NamedValues.{cookies, params};
+
+use crate::blanks::trim_blanks;
+use crate::pairs::{Pairs, Separators};
+use memchr::memchr2;
+use std::marker::Model;
+
+/// The cookies of a line that are left to give. Contracts see it as their list, each a name and a
+/// value.
+#[derive(Drop)]
+pub struct Cookies<'a> {
+    pairs: Pairs<'a>,
+}
+
+impl<'a> Model for Cookies<'a> {
+    ghost Value = { List (List ℕ × List ℕ) };
+
+    ghost view = { λ cookies. map trim_both cookies.pairs };
+}
+
+impl<'a> Cookies<'a> {
+    pub(crate) fn of_line(line: &'a [u8]) -> Cookies<'a>
+        ensures { result ≡ cookies line.now }
+    {
+        Cookies {
+            pairs: Pairs::new(line, Separators(b';', b';', b';')),
+        }
+    }
+}
+
+impl<'a> Iterator for Cookies<'a> {
+    type Item = (&'a [u8], &'a [u8]);
+
+    ghost next_gives = { YieldsFirstBy (λ pair. (pair.0.now, pair.1.now)) (λ left. left) };
+
+    ghost remaining = { item_count (λ left. left) };
+
+    fn next(&mut self) -> Option<(&'a [u8], &'a [u8])> {
+        let (name, value) = self.pairs.next()?;
+        Some((trim_blanks(name), trim_blanks(value)))
+    }
+}
+
+/// The parameters of a target that are left to give. Contracts see it as their list, each a name and
+/// a value.
+#[derive(Drop)]
+pub struct Params<'a> {
+    pairs: Pairs<'a>,
+}
+
+impl<'a> Model for Params<'a> {
+    ghost Value = { List (List ℕ × List ℕ) };
+
+    ghost view = { λ params. params.pairs };
+}
+
+impl<'a> Params<'a> {
+    pub(crate) fn of_target(target: &'a [u8], delim: Option<u8>) -> Params<'a>
+        ensures { result ≡ params target.now delim }
+    {
+        Params {
+            pairs: Pairs::new(params_text(target, delim), params_separators(delim)),
+        }
+    }
+}
+
+/// What follows the first byte that begins parameters, or nothing where there is none.
+fn params_text(target: &[u8], delim: Option<u8>) -> &[u8]
+    ensures { result.now ≡ after_first (begins_params delim) target.now }
+{
+    match memchr2(b'?', delim.unwrap_or(b'?'), target) {
+        Some(at) => &target[at + 1..],
+        None => &[],
+    }
+}
+
+/// The bytes that stand between parameters.
+fn params_separators(delim: Option<u8>) -> Separators
+    ensures { is_byte3 result.0 result.1 result.2 ≡ separates_params delim }
+{
+    Separators(b'&', b';', delim.unwrap_or(b'&'))
+}
+
+impl<'a> Iterator for Params<'a> {
+    type Item = (&'a [u8], &'a [u8]);
+
+    ghost next_gives = { YieldsFirstBy (λ pair. (pair.0.now, pair.1.now)) (λ left. left) };
+
+    ghost remaining = { item_count (λ left. left) };
+
+    fn next(&mut self) -> Option<(&'a [u8], &'a [u8])> {
+        self.pairs.next()
+    }
+}
