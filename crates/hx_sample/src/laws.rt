@@ -1,0 +1,57 @@
+//! What the definitions of casts and of variables imply, for callers of any of them.
+ghost use Rattle.std.specs.Prelude.{◌≡◌, ◌≢◌, ℕ, Some, None, option_and_then, if◌then◌else◌};
+ghost use Rattle.hx_text.specs.declared.kinds.Kind.TheVariants as kind;
+ghost use Rattle.hx_text.specs.declared.names.VarName.{VarName};
+ghost use Rattle.hx_sample.specs.Cast.{cast_of};
+ghost use Rattle.hx_sample.specs.declared.sample.Value.TheVariants as value;
+ghost use Rattle.hx_sample.specs.Vars.{var_of, with_var, without_var, after_request, after_session, ends_with_request, owner_of, IsSameVar};
+
+use crate::sample::Value;
+use crate::vars::Vars;
+use hx_text::{Ip, VarName, printed_i64_reads_back, printed_ip_reads_back};
+
+/// A number that is cast to a text is cast back to the same number.
+pub fn number_is_cast_back(n: i64)
+    ensures { option_and_then (λ text. cast_of text kind.Int) (cast_of (value.Int n) kind.Str)
+        ≡ Some (value.Int n) }
+{
+    printed_i64_reads_back(n)
+}
+
+/// An address that is cast to a text is cast back to the same address.
+pub fn address_is_cast_back(ip: Ip)
+    ensures { option_and_then (λ text. cast_of text kind.Ip) (cast_of (value.Ip ip) kind.Str)
+        ≡ Some (value.Ip ip) }
+{
+    printed_ip_reads_back(ip)
+}
+
+/// What is set is got, and each other variable keeps its value.
+pub fn set_variable_is_got(vars: &Vars, conn: u32, name: &VarName, value: &Value)
+    ensures got { var_of (with_var vars.now conn name.now value.now) conn name.now ≡ Some value.now }
+    ensures others { (c : ℕ) (n : VarName) → ¬ (IsSameVar conn name.now c n) →
+        var_of (with_var vars.now conn name.now value.now) c n ≡ var_of vars.now c n }
+{}
+
+/// What is unset is none, and each other variable keeps its value.
+pub fn unset_variable_is_none(vars: &Vars, conn: u32, name: &VarName)
+    ensures none { var_of (without_var vars.now conn name.now) conn name.now ≡ None }
+    ensures others { (c : ℕ) (n : VarName) → ¬ (IsSameVar conn name.now c n) →
+        var_of (without_var vars.now conn name.now) c n ≡ var_of vars.now c n }
+{}
+
+/// When a request ends, the variables of its transaction, its request and its response are none, and
+/// each other variable keeps its value.
+pub fn ended_request_is_forgotten(vars: &Vars, conn: u32, name: &VarName)
+    ensures { var_of (after_request vars.now) conn name.now
+        ≡ (if ends_with_request name.now.scope then None else var_of vars.now conn name.now) }
+{}
+
+/// When a connection ends, the variables of its session are none, and each other variable keeps its
+/// value.
+pub fn ended_session_is_forgotten(vars: &Vars, conn: u32)
+    ensures none { (c : ℕ) (n : VarName) → owner_of c n.scope ≡ Some conn →
+        var_of (after_session vars.now conn) c n ≡ None }
+    ensures others { (c : ℕ) (n : VarName) → owner_of c n.scope ≢ Some conn →
+        var_of (after_session vars.now conn) c n ≡ var_of vars.now c n }
+{}
