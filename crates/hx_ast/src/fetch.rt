@@ -1,0 +1,67 @@
+use hx_text::{Ip, Octets, VarName};
+
+/// What an expression takes from a request, its connection or the variables (HAProxy configuration
+/// manual 2.4, sections 7.3.2 to 7.3.6): a variant for each fetch, whose fields are its arguments in
+/// their order. An argument that may be missing is an option. Names that HAProxy has for the same
+/// fetch, such as `hdr` and `req.hdr`, share a variant.
+///
+/// A number behind the name of a header counts that header's values, or lines, from the first where
+/// it is positive and from the last where it is negative.
+#[derive(Debug, Drop)]
+pub enum Fetch {
+    /// `always_true`
+    AlwaysTrue,
+    /// `always_false`
+    AlwaysFalse,
+    /// `bool(B)`: the boolean B
+    Bool(bool),
+    /// `int(N)`: the number N
+    Int(i64),
+    /// `str(S)`: the text S
+    Str(Octets),
+    /// `bin(H)`: the bytes that the hex digits H write
+    Bin(Octets),
+    /// `ipv4(A)`: the address A
+    Ipv4(Ip),
+    /// `ipv6(A)`: the address A
+    Ipv6(Ip),
+    /// `var(NAME)`: the value of the variable NAME
+    Var(VarName),
+    /// `src`: the address that the connection comes from
+    Src,
+    /// `dst`: the address that the connection goes to
+    Dst,
+    /// `src_port`: the port that the connection comes from
+    SrcPort,
+    /// `dst_port`: the port that the connection goes to
+    DstPort,
+    /// `method`: the method
+    Method,
+    /// `req.ver`, `req_ver`: the version, `1.0` or `1.1`
+    ReqVer,
+    /// `path`: the path of the target
+    Path,
+    /// `query`: what follows the first `?` of the target
+    Query,
+    /// `url`: the whole target
+    Url,
+    /// `base`: the value of the first `Host` line, and the path behind it
+    Base,
+    /// `req.hdr(NAME[,OCC])`, `hdr`: the values of the lines of the header NAME
+    ReqHdr(Octets, Option<i64>),
+    /// `req.fhdr(NAME[,OCC])`: the whole lines of the header NAME
+    ReqFhdr(Octets, Option<i64>),
+    /// `req.hdr_ip(NAME[,OCC])`, `hdr_ip`: the values of the header NAME as addresses
+    ReqHdrIp(Octets, Option<i64>),
+    /// `req.hdr_val(NAME[,OCC])`, `hdr_val`: the values of the header NAME as numbers
+    ReqHdrVal(Octets, Option<i64>),
+    /// `req.hdr_cnt([NAME])`, `hdr_cnt`: how many values the header NAME has, or all headers have
+    ReqHdrCnt(Option<Octets>),
+    /// `req.cook([NAME])`, `cook`: the cookies NAME, or all cookies
+    ReqCook(Option<Octets>),
+    /// `req.cook_cnt([NAME])`, `cook_cnt`: how many cookies NAME, or cookies at all, there are
+    ReqCookCnt(Option<Octets>),
+    /// `url_param([NAME[,DELIM]])`, `urlp`: the parameters NAME of the target, or all parameters;
+    /// DELIM begins and separates parameters too
+    UrlParam(Option<Octets>, Option<u8>),
+}

@@ -1,0 +1,65 @@
+-- Steps over the texts that two readers have left, and the place that an expression takes.
+use Rattle.std.proofs.Common.{◌≡◌, ℕ, ◌+◌, ◌<◌, zero, List, [], ◌∷◌, Some, None, Bool, true, false, length, ◌++◌, drop, map, refl, ap, sym, ◌∙◌, arith, add-one, ℤ}
+use Rattle.std.specs.Prelude.{Option, slice_get, reverse, is_some, option_and_then, MatchOption}
+use Rattle.std.specs.Option.{option_to_list}
+use Rattle.std.specs.Borrow.{Bor}
+use Rattle.std.proofs.lemmas.List.{map-append, reverse-append}
+use Rattle.hx_sample.specs.declared.sample.Value.{Value}
+use Rattle.hx_sample.specs.declared.sample.Value.TheVariants as value
+use Rattle.hx_sample.specs.Cast.{cast_of}
+use Rattle.hx_text.specs.declared.kinds.Kind.{Kind}
+use Rattle.hx_fetch.specs.Fetches.{as_kind}
+use Rattle.hx_fetch.specs.Picks.{occurrence_at, picked, picked_end, first_of, end_of}
+use Rattle.hx_fetch.proofs.Lists.{some_left, next_left, back_behind}
+
+-- what an iterator over texts gives at a step
+abbrev Gives : List (List ℕ) → Option (Bor (List ℕ)) → List (List ℕ) → Type 0
+Gives before r after = MatchOption r ((before ≡ []) × (after ≡ [])) (λ x. before ≡ x.now ∷ after)
+
+-- where one reader is so far ahead of another, and both take a step, it stays so far ahead
+abbrev StaysAhead : ℕ → List (List ℕ) → List (List ℕ) → List (List ℕ) → Type 0
+StaysAhead k ahead texts before =
+    (ahead ≡ drop (k + 1) texts) × (k < length texts) × (slice_get (reverse texts) k ≡ slice_get (reverse before) k)
+
+both_step : (y x : List ℕ) (ahead texts texts' : List (List ℕ)) (k : ℕ) → texts ≡ x ∷ texts' → drop (k + 1) texts ≡ y ∷ ahead → StaysAhead k ahead texts' texts
+both_step y x ahead texts texts' k e h =
+    let left : drop k texts' ≡ y ∷ ahead = (rw add-one at (ap (drop (k + 1)) (sym e) ∙ h)) in
+    let within : k < length texts' = some_left texts' ahead k y left in
+    (next_left texts' ahead k y left, within, sym (back_behind texts texts' k x e within))
+
+pub step_ahead : (r s : Option (Bor (List ℕ))) (ahead ahead' texts texts' : List (List ℕ)) (k : ℕ) → is_some r ≡ true → Gives ahead r ahead' → Gives texts s texts' → ahead ≡ drop (k + 1) texts → StaysAhead k ahead' texts' texts
+step_ahead None s ahead ahead' texts texts' k there a t d = cc
+step_ahead (Some y) None ahead ahead' texts texts' k there a t d =
+    absurd (omega (arith, some_left texts ahead' (k + 1) y.now (sym d ∙ a), ap length t.0))
+step_ahead (Some y) (Some x) ahead ahead' texts texts' k there a t d =
+    both_step y.now x.now ahead' texts texts' k t (sym d ∙ a)
+
+-- a text as a value of the kind
+abbrev read_as : Kind → List ℕ → Option Value
+read_as kind text = cast_of (value.Str text) kind
+
+map-reverse : {A B : Type 0} (f : A → B) (xs : List A) → map f (reverse xs) ≡ reverse (map f xs)
+map-reverse f [] = refl
+map-reverse f (x ∷ xs) =
+    ap (map f) (reverse-append (x ∷ []) xs) ∙ map-append f (reverse xs) (x ∷ [])
+    ∙ ap (λ ys. ys ++ f x ∷ []) (map-reverse f xs) ∙ sym (reverse-append (f x ∷ []) (map f xs))
+
+first_of-map : {A B : Type 0} (f : A → Option B) (xs : List A) → first_of (map f xs) ≡ option_and_then f (slice_get xs zero)
+first_of-map f [] = refl
+first_of-map f (x ∷ xs) = refl
+
+end_of-one : {A B : Type 0} (last : Bool) (f : A → Option B) (o : Option A) → end_of last (map f (option_to_list o)) ≡ option_and_then f o
+end_of-one true f None = refl
+end_of-one true f (Some x) = refl
+end_of-one false f None = refl
+end_of-one false f (Some x) = refl
+
+end_of-picked : {A B : Type 0} (last : Bool) (f : A → Option B) (at : Option ℤ) (xs : List A) → end_of last (map f (picked at xs)) ≡ option_and_then f (picked_end last at xs)
+end_of-picked true f None xs = ap first_of (sym (map-reverse f xs)) ∙ first_of-map f (reverse xs)
+end_of-picked false f None xs = first_of-map f xs
+end_of-picked last f (Some n) xs = end_of-one last f (occurrence_at n xs)
+
+-- the place at the end of the places that are read from the texts that are picked
+pub end_is : (last : Bool) (at : Option ℤ) (kind : Kind) (texts : List (List ℕ)) (places : List (Option Value)) (text : Option (List ℕ)) → as_kind kind (picked at texts) ≡ places → text ≡ picked_end last at texts → option_and_then (λ t. cast_of (value.Str t) kind) text ≡ end_of last places
+end_is last at kind texts places text e t =
+    ap (option_and_then (read_as kind)) t ∙ sym (end_of-picked last (read_as kind) at texts) ∙ ap (end_of last) e
