@@ -5,3 +5,4 @@ pub mod RunLemmas
 pub mod StatusLemmas
 pub mod StatementLemmas
 pub mod ConnectionsLemmas
+pub mod LastLineLemmas

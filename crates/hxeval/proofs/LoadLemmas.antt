@@ -1,10 +1,5 @@
 -- Lemmas on the loading of lines one after the other.
-use Rattle.std.proofs.Common.{◌≡◌, ◌≢◌, ℕ, ◌+◌, List, [], ◌∷◌, ◌++◌, length, Option, None, Some, Result, Ok, Err, refl, append_assoc, append-nil}
-use Rattle.std.specs.List.{slice_split}
-use Rattle.memchr.specs.Find.{is_byte}
-use Rattle.hx_words.specs.Variable.{Env}
-use Rattle.hxeval.specs.Bytes.{behind_first, pieces_of}
-use Rattle.hxeval.specs.Configuration.{loaded, loaded_from, line_rule, then_rules, without_return}
+use Rattle.std.proofs.Common.{◌≡◌, ℕ, ◌+◌, List, [], ◌++◌, length, Option, None, Some, Result, Ok, Err, refl}
 use Rattle.hxeval.specs.Rules.{Rule}
 use Rattle.hxeval.specs.declared.load.Refusal.{Refusal}
 

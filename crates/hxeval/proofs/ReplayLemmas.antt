@@ -1,10 +1,10 @@
 -- Laws of what a record is answered, event by event.
-use Rattle.std.proofs.Common.{◌≡◌, ◌≢◌, ℕ, ◌+◌, ◌-◌, ◌<◌, ◌≤◌, Bool, true, false, List, [], ◌++◌, length, Option, None, Some, Result, Ok, Err, unwrap_or, arith, refl, sym, ◌∙◌, ap, append_assoc, append-nil}
+use Rattle.std.proofs.Common.{◌≡◌, ℕ, ◌+◌, ◌≤◌, Bool, true, false, List, [], ◌++◌, Option, None, Some, Result, Ok, Err, unwrap_or, arith, refl, sym, ◌∙◌, ap, append_assoc, append-nil}
 use mathlib.Core.Bool.{true≢false}
 use Rattle.std.specs.Io.KnownBytes.{Appends, Consumes, IsAtEnd}
 use Rattle.std.proofs.KnownBytes.{Appends-trans, Appends-nil, Consumes-trans, Consumes-nil}
 use Rattle.hx_outside.specs.Fronts.{AppendsFront}
-use Rattle.hx_record.specs.Record.{Items, Unknown, Done, Bad, Then, items_from, rec, decided}
+use Rattle.hx_record.specs.Record.{Items, Unknown, items_from, decided}
 use Rattle.hx_record.specs.Reading.{State, items_behind, MayFollow, Answers, Reads}
 use Rattle.hx_record.specs.declared.Event.{Event}
 use Rattle.hx_record.specs.declared.Event.TheVariants.{Conn, Req, Close, Cli}
@@ -12,7 +12,7 @@ use Rattle.hx_record.specs.declared.Placed.{Placed}
 use Rattle.hx_record.specs.declared.RecordFault.{RecordFault}
 use Rattle.hx_record.specs.declared.RecordFault.TheVariants as reader
 use Rattle.hxeval.specs.Rules.{Rule}
-use Rattle.hxeval.specs.Replay.{Outcome, with_front, record_line, record_refused, start, refusal_of, world_after, text_of, answered, replayed}
+use Rattle.hxeval.specs.Replay.{Outcome, with_front, record_line, record_refused, start, refusal_of, world_after, text_of, replayed}
 use Rattle.hxeval.specs.Told.{AnswersEvent, Ends, IsRecord, Told, ToldDecided, record_limit, answers_of, reader_fault}
 use Rattle.hxeval.specs.declared.replay.ReplayFault.{ReplayFault}
 use Rattle.hxeval.specs.declared.replay.ReplayFault.TheVariants.{Refused, Source, Sink, NoMemory}

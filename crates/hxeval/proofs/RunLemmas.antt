@@ -1,5 +1,5 @@
 -- Laws of a run: what it has written at each of its ends.
-use Rattle.std.proofs.Common.{◌≡◌, ℕ, ◌+◌, ◌<◌, ◌≤◌, Bool, true, false, List, [], ◌∷◌, ◌++◌, length, Option, None, Some, Result, Ok, Err, IfSome, unwrap_or, arith, refl, sym, ◌∙◌, ap, append_assoc, append-nil}
+use Rattle.std.proofs.Common.{◌≡◌, ℕ, List, [], Option, None, Some, Result, Ok, Err, IfSome, unwrap_or, refl, sym, ap, append-nil}
 use Rattle.std.specs.Io.KnownBytes.{Appends}
 use Rattle.std.proofs.KnownBytes.{Appends-nil, Appends-trans}
 use Rattle.hx_outside.specs.Files.{file_at}
@@ -19,7 +19,7 @@ use Rattle.hxeval.specs.declared.load.LoadFault.TheVariants as load
 use Rattle.hxeval.specs.declared.replay.ReplayFault.{ReplayFault}
 use Rattle.hxeval.specs.declared.replay.ReplayFault.TheVariants as replay
 use Rattle.hxeval.specs.declared.run_fault.RunFault.{RunFault}
-use Rattle.hxeval.specs.declared.run_fault.RunFault.TheVariants.{Config, Record, Files, Source, Sink, NoMemory}
+use Rattle.hxeval.specs.declared.run_fault.RunFault.TheVariants.{Files, Source, NoMemory}
 
 abbrev Held : Type 0
 Held = Option (List (List ℕ × List ℕ))

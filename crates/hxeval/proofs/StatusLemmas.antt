@@ -1,12 +1,10 @@
 -- Laws of the status with which a run ends.
-use Rattle.std.proofs.Common.{◌≡◌, ◌≢◌, ℕ, zero, suc, ◌+◌, ◌<◌, ◌≤◌, ◌⊎◌, Bool, true, false, List, [], ◌∷◌, ◌++◌, length, Contains, Option, None, Some, Result, Ok, Err, inl, inr, arith, refl, sym, ◌∙◌, ap, append_assoc, append-nil}
+use Rattle.std.proofs.Common.{◌≡◌, ◌≢◌, ℕ, zero, suc, ◌<◌, ◌≤◌, ◌⊎◌, true, List, [], ◌∷◌, ◌++◌, Contains, Option, None, Some, Result, Ok, Err, inl, inr, arith, refl, sym, ◌∙◌, ap, append_assoc, append-nil}
 use Rattle.std.specs.Io.KnownBytes.{Appends}
-use Rattle.std.proofs.KnownBytes.{Appends-trans, Appends-nil}
-use Rattle.hx_outside.specs.Fronts.{AppendsFront}
+use Rattle.std.proofs.KnownBytes.{Appends-trans}
 use Rattle.hx_words.specs.Variable.{Env}
 use Rattle.hxeval.specs.Configuration.{loaded}
 use Rattle.hx_record.specs.Record.{Items, Unknown, Done, Bad, Then, rec}
-use Rattle.hx_record.specs.declared.Event.{Event}
 use Rattle.hx_record.specs.declared.Placed.{Placed}
 use Rattle.hxeval.specs.Rules.{Rule}
 use Rattle.hxeval.specs.Replay.{Outcome, replayed, with_front, record_refused, start, refusal_of, world_after, text_of, events_of, is_whole, AreAllowed, text_of_all}

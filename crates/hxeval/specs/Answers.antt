@@ -1,5 +1,5 @@
 -- What a request is answered.
-use Rattle.std.specs.Prelude.{ℕ, List, ◌∷◌, ◌++◌, [], codes, if◌then◌else◌}
+use Rattle.std.specs.Prelude.{ℕ, List, ◌++◌, codes, if◌then◌else◌}
 use Rattle.std.specs.Fmt.{decimal}
 use Rattle.std.specs.List.{list_any}
 use Rattle.hx_http.specs.Head.{Head, message, many, none}

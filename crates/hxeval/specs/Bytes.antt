@@ -1,5 +1,5 @@
 -- Texts cut at single bytes, which the configuration and the record share.
-use Rattle.std.specs.Prelude.{ℕ, ◌<◌, Bool, ◌==◌, ◌||◌, nat_lt, List, [], length, Option, None, Some, if◌then◌else◌}
+use Rattle.std.specs.Prelude.{ℕ, Bool, ◌==◌, ◌||◌, nat_lt, List, [], length, Option, None, Some, if◌then◌else◌}
 use Rattle.std.specs.List.{position_or_len, after_first, slice_split}
 
 -- a space or a tab

@@ -7,3 +7,4 @@ pub mod Replay
 pub mod Told
 pub mod Run
 pub mod RunFault
+pub mod LastLine

@@ -1,5 +1,5 @@
 -- Why a run ended before the record did, and what it then says.
-use Rattle.std.specs.Prelude.{◌≡◌, ℕ, Bool, true, false, List, [], ◌∷◌, ◌++◌, Contains, Option, None, Some, Result, Ok, Err, ⊤, ◌⊎◌, IsTrue}
+use Rattle.std.specs.Prelude.{◌≡◌, ℕ, List, [], ◌∷◌, ◌++◌, Contains, Option, Result, Ok, Err, ⊤, ◌⊎◌}
 use Rattle.std.specs.Io.KnownBytes.{Appends}
 use Rattle.hx_outside.specs.Fronts.{AppendsFront}
 use Rattle.hx_outside.specs.declared.FileFault.{FileFault}

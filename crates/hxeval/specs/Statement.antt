@@ -1,6 +1,5 @@
 -- The statements of a configuration, by their words. (HAProxy configuration manual 2.4, sections 4.2 and 7.2.)
 use Rattle.std.specs.Prelude.{◌≡◌, ℕ, ◌-◌, ◌<◌, ◌==◌, ◌&&◌, ◌||◌, Bool, true, false, not, nat_lt, List, [], ◌∷◌, ◌++◌, length, take, codes, Option, None, Some, if◌then◌else◌, slice_index, slice_index_or, option_and_then}
-use Rattle.std.specs.Option.{option_map}
 use Rattle.std.specs.List.{list_all}
 use Rattle.std.specs.Str.{bytes_eq}
 use Rattle.hxeval.specs.Rules.{Rule}

@@ -20,6 +20,11 @@ pub enum MachineFault {
 }
 
 impl From<AllocError> for MachineFault {
+    ghost use Rattle.std.specs.Prelude.{◌≡◌};
+    ghost use Rattle.hxeval.specs.declared.machine.MachineFault.TheVariants.{NoMemory};
+
+    ghost from_gives = { λ _ fault. fault ≡ NoMemory };
+
     fn from(_: AllocError) -> MachineFault {
         MachineFault::NoMemory
     }
