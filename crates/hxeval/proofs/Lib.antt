@@ -6,3 +6,5 @@ pub mod StatusLemmas
 pub mod StatementLemmas
 pub mod ConnectionsLemmas
 pub mod LastLineLemmas
+pub mod ExplainLemmas
+pub mod MachineLemmas

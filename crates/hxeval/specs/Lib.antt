@@ -8,3 +8,5 @@ pub mod Told
 pub mod Run
 pub mod RunFault
 pub mod LastLine
+pub mod Explanation
+pub mod Machine

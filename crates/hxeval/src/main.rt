@@ -15,19 +15,24 @@ mod run_fault;
 mod statement;
 #[cfg(test)]
 mod tests;
+mod texts;
 mod world;
 
 use crate::explain::explain;
 use crate::last_line::LastLine;
 use crate::machine::{arguments, environment};
 use crate::run::run;
+use crate::texts::{Arguments, Entries};
 use hx_outside::{DirFiles, StdSink, StdSource};
 use std::io::writer;
 use std::process::ExitCode;
 
 fn main(rt: HostRuntime) -> ExitCode {
     let alloc = rt.alloc();
-    let (Ok(words), Ok(env)) = (arguments(&rt, alloc), environment(&rt, alloc)) else {
+    let (Ok(words), Ok(env)) = (
+        arguments(alloc, &Arguments(&rt)),
+        environment(alloc, &Entries(&rt)),
+    ) else {
         let _ = eprintln!(rt; "hxeval: the command line and the environment can't be taken in");
         return ExitCode::from(7);
     };
@@ -35,6 +40,7 @@ fn main(rt: HostRuntime) -> ExitCode {
     let mut record = StdSource::new(rt.reader());
     let mut out = LastLine::new(StdSink::new(writer(&rt)));
     let status = run(alloc, &words, &env, &mut files, &mut record, &mut out);
-    explain(&rt, status, &words, files.faults() > 0, out.line());
+    let mut err = StdSink::new(rt.stderr());
+    let _ = explain(&mut err, status, &words, files.faults() > 0, out.line());
     ExitCode::from(status)
 }

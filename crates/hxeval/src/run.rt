@@ -67,7 +67,7 @@ pub fn run<F: Files, S: Source, K: Sink>(
 }
 
 /// The name of the configuration, where the words are `run CONFIG`.
-fn config_name(words: &[Vec<u8>]) -> Option<&[u8]>
+pub fn config_name(words: &[Vec<u8>]) -> Option<&[u8]>
     ensures { option_copied result ≡ config_name (texts_of words.now) }
 {
     match words {

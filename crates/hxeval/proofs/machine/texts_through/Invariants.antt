@@ -1,0 +1,10 @@
+use Rattle.std.proofs.Common.{◌≡◌, ◌++◌, drop, length}
+use Rattle.std.specs.Prelude.{IfSome}
+use Rattle.hxeval.specs.Run.{texts_of}
+use Rattle.hxeval.proofs.machine.texts_through.Given as goal
+
+abbrev pub invariant-loop-index : goal.invariant-loop-index
+invariant-loop-index g l = record {
+  read : IfSome (g.T.Texts.texts l.texts) (λ all. texts_of l.read.items ++ drop l.index all ≡ drop l.first all);
+  room : length l.buffer ≡ length l.fn.buffer;
+}
