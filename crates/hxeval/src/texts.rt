@@ -25,36 +25,24 @@ pub trait Texts {
 
 /// The arguments of the program, its name first. They tell no texts.
 #[derive(Drop)]
-pub struct Arguments<'e, E>(pub &'e E);
+pub struct Arguments<E>(pub E);
 
-impl<E: Env> Texts for Arguments<'_, E> {
+impl<E: Env> Texts for Arguments<E> {
     ghost texts = { λ _. untold };
 
-    fn text_at(&self, index: usize, buffer: &mut [u8]) -> Result<usize, FillError>
-        ensures bound { WritesAtMost result buffer.new }
-        ensures text { IfOk result (λ len. IfSome untold (λ all. (index < length all) × (get_or all index [] ≡ take len buffer.new))) }
-        ensures end { IsErrOf result FillError.NotPresent → IfSome untold (λ all. length all ≤ index) }
-        ensures too_long { IsErrOf result FillError.TooLong
-            → IfSome untold (λ all. (index < length all) × (length buffer.old < length (get_or all index []))) }
-    {
+    fn text_at(&self, index: usize, buffer: &mut [u8]) -> Result<usize, FillError> {
         self.0.arg(index, buffer)
     }
 }
 
 /// The entries of the environment, each `NAME=VALUE`. They tell no texts.
 #[derive(Drop)]
-pub struct Entries<'e, E>(pub &'e E);
+pub struct Entries<E>(pub E);
 
-impl<E: Env> Texts for Entries<'_, E> {
+impl<E: Env> Texts for Entries<E> {
     ghost texts = { λ _. untold };
 
-    fn text_at(&self, index: usize, buffer: &mut [u8]) -> Result<usize, FillError>
-        ensures bound { WritesAtMost result buffer.new }
-        ensures text { IfOk result (λ len. IfSome untold (λ all. (index < length all) × (get_or all index [] ≡ take len buffer.new))) }
-        ensures end { IsErrOf result FillError.NotPresent → IfSome untold (λ all. length all ≤ index) }
-        ensures too_long { IsErrOf result FillError.TooLong
-            → IfSome untold (λ all. (index < length all) × (length buffer.old < length (get_or all index []))) }
-    {
+    fn text_at(&self, index: usize, buffer: &mut [u8]) -> Result<usize, FillError> {
         self.0.var_at(index, buffer)
     }
 }
