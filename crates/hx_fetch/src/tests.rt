@@ -270,3 +270,52 @@ fn a_value_that_is_no_address_keeps_its_place(rt: HostRuntime) -> Result<(), Fai
     assert_eq!(rt; mismatch(rt.alloc(), head, ABSENT)?, None);
     Ok(())
 }
+
+/// Fetches of bytes, and whether those are lent.
+const LENT: &[(&str, bool)] = &[
+    ("var(txn.v)", true),
+    ("method", true),
+    ("req.ver", true),
+    ("path", true),
+    ("query", true),
+    ("url", true),
+    ("hdr(x)", true),
+    ("fhdr(x)", true),
+    ("cook(a)", true),
+    ("url_param(b)", true),
+    ("str(s)", false),
+    ("bin(6a4B)", false),
+    ("base", false),
+];
+
+/// Whether a place holds bytes that are lent.
+fn is_lent(place: &Option<Sample<'_>>) -> bool {
+    match place {
+        Some(Sample::Str(Bytes::Lent(_))) => true,
+        Some(Sample::Bin(Bytes::Lent(_))) => true,
+        Some(Sample::Method(Bytes::Lent(_))) => true,
+        _ => false,
+    }
+}
+
+#[test]
+fn bytes_are_lent_but_for_arguments_and_base(rt: HostRuntime) -> Result<(), Fail> {
+    let alloc = rt.alloc();
+    let (message, _) = read_head(alloc, RICH)?;
+    let vars = variables(alloc)?;
+    let conn = connection();
+    let world = World {
+        message: &message,
+        conn: &conn,
+        vars: &vars,
+    };
+    for (spelled, lent) in LENT {
+        let fetch = fetch_of(alloc, spelled)?;
+        assert_eq!(rt; is_lent(&chosen(alloc, &fetch, &world)?), *lent);
+        let mut places = occurrences(alloc, &fetch, &world)?;
+        while let Some(place) = places.take() {
+            assert_eq!(rt; is_lent(&place), *lent);
+        }
+    }
+    Ok(())
+}

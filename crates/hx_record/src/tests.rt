@@ -183,6 +183,46 @@ fn a_line_has_at_most_65536_bytes(rt: HostRuntime) -> Result<(), Fail> {
 }
 
 #[test]
+fn a_long_request_and_a_long_line_are_read_byte_by_byte(rt: HostRuntime) -> Result<(), Fail> {
+    let alloc = rt.alloc();
+    let body = vec![in alloc; b'a'; 1_048_576]?;
+    let comment = vec![in alloc; b'#'; 65_536]?;
+    let whole = joined(
+        alloc,
+        &[
+            CONN,
+            b"req 1 1048576\n",
+            &body,
+            b"\n",
+            &comment,
+            b"\nclose 1",
+        ],
+    )?;
+    let mut source = MemSource::new(whole, 1, Vec::new(alloc));
+    let mut reader = Reader::new(alloc, ANY);
+    let _ = reader.next_event(&mut source)?;
+    match reader.next_event(&mut source)? {
+        Some(
+            Placed {
+                offset: 38,
+                event: Event::Req { id: 1, bytes },
+            },
+        ) => assert!(rt; bytes.as_slice() == body.as_slice()),
+        _ => assert!(rt; false),
+    }
+    match reader.next_event(&mut source)? {
+        Some(
+            Placed {
+                offset,
+                event: Event::Close { id: 1 },
+            },
+        ) => assert_eq!(rt; offset, 38 + 14 + 1_048_577 + 65_537),
+        _ => assert!(rt; false),
+    }
+    Ok(())
+}
+
+#[test]
 fn pieces_of_any_size_give_what_the_whole_gives(rt: HostRuntime) -> Result<(), Fail> {
     let whole = joined(
         rt.alloc(),

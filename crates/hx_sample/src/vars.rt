@@ -9,7 +9,7 @@ use std::alloc::Global;
 use std::marker::Model;
 
 /// The variables of the process, of the transaction, the request and the response that are under way,
-/// and of each connection's session (HAProxy configuration manual 2.4, section 2.8). Contracts see
+/// and of each connection's session (HAProxy configuration manual 2.4, section 7.3.2, `var`). Contracts see
 /// them as finite maps, one for each scope and for sessions one for each connection.
 #[derive(Drop)]
 pub struct Vars {

@@ -6,7 +6,7 @@ use Rattle.std.specs.Net.Addr.{octets_of}
 use Rattle.std.specs.Str.{bytes_eq}
 use Rattle.std.specs.Prelude.{codes}
 use Rattle.std.proofs.NetLemmas.Texts.{IsZeroRun-longest_zero_run, longest_zero_run_first}
-use Rattle.hx_text.specs.Address.{groups_of, IsFirstLongestRun}
+use Rattle.hx_text.specs.Address.{groups_of, is_mapped, IsZeroRun, IsFirstLongestRun}
 use Rattle.std.specs.Net.Text.{dotted_text, ipv4_text, ipv6_text, hex, groups_text, longest_zero_run, hex_groups_text}
 
 -- a group of one, two, three and four digits
@@ -50,17 +50,14 @@ unfolding ipv6_text
 other_text groups is_not = rw is_not refl
 
 -- the same, as the code reads the groups
-abbrev Front : List ℕ → Bool
-Front groups = bytes_eq (take 6 groups) (0 ∷ 0 ∷ 0 ∷ 0 ∷ 0 ∷ 0xffff ∷ [])
-
-pub mapped_line : (address : ℕ) (groups : List ℕ) → groups ≡ groups_of address → Front groups ≡ true → ([] ++ codes "::ffff:") ++ dotted_text (get_or groups 6 0 / 256) (get_or groups 6 0 % 256) (get_or groups 7 0 / 256) (get_or groups 7 0 % 256) ≡ ipv6_text (groups_of address)
+pub mapped_line : (address : ℕ) (groups : List ℕ) → groups ≡ groups_of address → is_mapped groups ≡ true → ([] ++ codes "::ffff:") ++ dotted_text (get_or groups 6 0 / 256) (get_or groups 6 0 % 256) (get_or groups 7 0 / 256) (get_or groups 7 0 % 256) ≡ ipv6_text (groups_of address)
 mapped_line address groups e is =
-    let is' : Front (groups_of address) ≡ true = subst (λ gs. Front gs ≡ true) e is in
+    let is' : is_mapped (groups_of address) ≡ true = subst (λ gs. is_mapped gs ≡ true) e is in
     let P : List ℕ → Type 0 = λ gs. ([] ++ codes "::ffff:") ++ dotted_text (get_or gs 6 0 / 256) (get_or gs 6 0 % 256) (get_or gs 7 0 / 256) (get_or gs 7 0 % 256) ≡ ipv6_text (groups_of address) in
     subst P (sym e) (sym (mapped_text (groups_of address) is'))
 
-pub other_line : (address : ℕ) (groups : List ℕ) → groups ≡ groups_of address → Front groups ≡ false → [] ++ hex_groups_text groups ≡ ipv6_text (groups_of address)
-other_line address groups e is_not = ap hex_groups_text e ∙ sym (other_text (groups_of address) (subst (λ gs. Front gs ≡ false) e is_not))
+pub other_line : (address : ℕ) (groups : List ℕ) → groups ≡ groups_of address → is_mapped groups ≡ false → [] ++ hex_groups_text groups ≡ ipv6_text (groups_of address)
+other_line address groups e is_not = ap hex_groups_text e ∙ sym (other_text (groups_of address) (subst (λ gs. is_mapped gs ≡ false) e is_not))
 
 -- the run that is written `::`
 pub first_longest_run : (groups : List ℕ) → IsFirstLongestRun groups (longest_zero_run groups)
@@ -69,3 +66,24 @@ first_longest_run groups = record {
   longest = λ start len run. (longest_zero_run_first groups start len run).0;
   first = λ start run. (longest_zero_run_first groups start _ run).1 refl;
 }
+
+same_run : (groups : List ℕ) (run other : ℕ × ℕ) → IsFirstLongestRun groups run → IsFirstLongestRun groups other → run ≡ other
+same_run groups run other a b =
+    let len : run.1 ≡ other.1 = omega (arith, b.longest run.0 run.1 a.zeros, a.longest other.0 other.1 b.zeros) in
+    let here : IsZeroRun groups other.0 run.1 = subst (λ n. IsZeroRun groups other.0 n) (sym len) b.zeros in
+    let there : IsZeroRun groups run.0 other.1 = subst (λ n. IsZeroRun groups run.0 n) len a.zeros in
+    let start : run.0 ≡ other.0 = omega (arith, a.first other.0 here, b.first run.0 there) in
+    ap (λ s. (s, run.1)) start ∙ ap (λ n. (other.0, n)) len
+
+-- the text of an address with a run that is compressed, and of one without
+pub compressed_run : (groups : List ℕ) (run : ℕ × ℕ) → is_mapped groups ≡ false → IsFirstLongestRun groups run → 2 ≤ run.1
+    → ipv6_text groups ≡ groups_text (take run.0 groups) ++ codes "::" ++ groups_text (drop (run.0 + run.1) groups)
+compressed_run groups run other is long =
+    other_text groups other ∙ sym (compressed groups run (same_run groups run (longest_zero_run groups) is (first_longest_run groups)) long [])
+
+pub plain_groups : (groups : List ℕ) → is_mapped groups ≡ false → ((start len : ℕ) → IsZeroRun groups start len → len ≤ 1)
+    → ipv6_text groups ≡ groups_text groups
+plain_groups groups other short =
+    let run = longest_zero_run groups in
+    let most : run.1 ≤ 1 = short run.0 run.1 (first_longest_run groups).zeros in
+    other_text groups other ∙ plain_text groups (omega (arith, most))

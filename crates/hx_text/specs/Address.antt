@@ -6,6 +6,7 @@ use Rattle.std.specs.Int.{w32, from_be_bytes, to_be_bytes}
 use Rattle.std.specs.Net.Grammar.{IsColonHex}
 use Rattle.std.specs.Net.Reader.{read_ipv6, whole_value}
 use Rattle.std.specs.Net.Text.{ipv4_text, ipv6_text}
+use Rattle.std.specs.Str.{bytes_eq}
 use Rattle.hx_text.specs.Number.{number_up_to}
 use Rattle.hx_text.specs.declared.address.Ip.{Ip}
 use Rattle.hx_text.specs.declared.address.Ip.TheVariants.{V4, V6}
@@ -132,6 +133,10 @@ pub record IsFirstLongestRun (groups : List ℕ) (run : ℕ × ℕ) : Type 0 whe
   pub zeros : IsZeroRun groups run.0 run.1
   pub longest : (start len : ℕ) → IsZeroRun groups start len → len ≤ run.1
   pub first : (start : ℕ) → IsZeroRun groups start run.1 → run.0 ≤ start
+
+-- the groups of an address of ::ffff:0:0/96
+abbrev pub is_mapped : List ℕ → Bool
+is_mapped groups = bytes_eq (take 6 groups) (0 ∷ 0 ∷ 0 ∷ 0 ∷ 0 ∷ 0xffff ∷ [])
 
 -- ::ffff:a.b.c.d of a.b.c.d (RFC 4291 section 2.5.5.2)
 abbrev pub mapped : ℕ → ℕ

@@ -42,6 +42,7 @@ impl Octets {
         Octets { bytes }
     }
 
+    /// The bytes, lent.
     pub fn as_slice(&self) -> &[u8]
         ensures { result.now ≡ self.now }
     {

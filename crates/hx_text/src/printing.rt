@@ -1,8 +1,8 @@
-ghost use Rattle.std.specs.Prelude.{◌≡◌, ◌+◌, ◌*◌, ◌/◌, ◌%◌, ◌^◌, ◌<◌, ◌≤◌, [], ◌∷◌, ◌++◌, length, take, drop, bytes_eq, Some, codes, decimal, flat_map};
+ghost use Rattle.std.specs.Prelude.{◌≡◌, ℕ, false, ◌+◌, ◌*◌, ◌/◌, ◌%◌, ◌^◌, ◌<◌, ◌≤◌, [], ◌∷◌, ◌++◌, length, take, drop, bytes_eq, Some, codes, decimal, flat_map};
 ghost use Rattle.std.specs.Char.{digit_char};
 ghost use Rattle.std.specs.Int.{w32, to_be_bytes};
 ghost use Rattle.std.specs.Net.Text as Text;
-ghost use Rattle.hx_text.specs.Address.{groups_of, ip_of, ip_text, IsFirstLongestRun};
+ghost use Rattle.hx_text.specs.Address.{groups_of, ip_of, ip_text, is_mapped, IsZeroRun, IsFirstLongestRun};
 
 use crate::address::Ip;
 use arrayvec::ArrayVec;
@@ -234,9 +234,14 @@ pub fn printed_ip_reads_back(ip: Ip)
     }
 }
 
-/// The run of zero groups that `print_ip` writes `::`, where it has two groups or more, is the one
-/// that RFC 5952 asks for: the longest, and the first of that length.
+/// The text of an IPv6 address outside `::ffff:0:0/96` is its groups with colons between them, where the longest run of
+/// zero groups, and the first of that length, is written `::` if it has two groups or more, and none if no run has.
+/// (RFC 5952, section 4.2.)
 pub fn printed_run_is_first_longest(address: u128)
-    ensures { let groups = groups_of address in
-        IsFirstLongestRun groups (Text.longest_zero_run groups) }
+    ensures compressed { (run : ℕ × ℕ) → is_mapped (groups_of address) ≡ false → IsFirstLongestRun (groups_of address) run → 2 ≤ run.1
+        → ip_text (Ip.V6 address) ≡ Text.groups_text (take run.0 (groups_of address)) ++ codes "::"
+        ++ Text.groups_text (drop (run.0 + run.1) (groups_of address)) }
+    ensures plain { is_mapped (groups_of address) ≡ false
+        → ((start len : ℕ) → IsZeroRun (groups_of address) start len → len ≤ 1) → ip_text (Ip.V6 address) ≡ Text.groups_text (groups_of address) }
+    ensures some { (run : ℕ × ℕ) × IsFirstLongestRun (groups_of address) run }
 {}

@@ -31,6 +31,7 @@ impl Words {
         self.words.len()
     }
 
+    /// Whether there is no word.
     pub fn is_empty(&self) -> bool
         ensures { result ≡ (length self.now == 0) }
     {

@@ -170,6 +170,7 @@ told_decided rules world s left left' old new a going undecided =
     record {
       took = a.took;
       consumed = a.consumed;
+      going_on = ap (λ (o : Outcome). o.status) here;
       written = rw (ap (λ (o : Outcome). o.text) here, append-nil) a.appended;
     }
 

@@ -1,6 +1,6 @@
 -- The rule that words spell, read from the left, is the one that spells them.
 use Rattle.std.proofs.Common.{◌≡◌, ℕ, suc, ◌+◌, ◌-◌, ◌<◌, ◌≤◌, ◌&&◌, Bool, true, false, cond, List, [], ◌∷◌, ◌++◌, length, take, get_or, Option, None, Some, IfSome, arith, refl, sym, ◌∙◌, ap, length-append, ltb}
-use Rattle.std.specs.Prelude.{codes, option_and_then}
+use Rattle.std.specs.Prelude.{◌↔◌, codes, option_and_then}
 use Rattle.std.specs.List.{list_all}
 use Rattle.std.specs.Str.{bytes_eq}
 use Rattle.std.proofs.Math.Seq.{take-append_seam, get_or-append_seam, drop-cons}
@@ -114,3 +114,6 @@ spells_found words (Some rule) is = spells words rule (sym is)
 
 pub spells_only : (words : List (List ℕ)) (found : Option Rule) → found ≡ rule_of words → (rule : Rule) → Spells words rule → found ≡ Some rule
 spells_only words found is rule s = is ∙ spelled words rule s
+
+pub one_rule : (words : List (List ℕ)) (rule : Rule) → (rule_of words ≡ Some rule) ↔ Spells words rule
+one_rule words rule = (spells words rule, spelled words rule)

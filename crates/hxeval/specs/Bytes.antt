@@ -1,10 +1,6 @@
--- Texts cut at single bytes, which the configuration and the record share.
-use Rattle.std.specs.Prelude.{ℕ, Bool, ◌==◌, ◌||◌, nat_lt, List, [], length, Option, None, Some, if◌then◌else◌}
+-- Texts cut at single bytes.
+use Rattle.std.specs.Prelude.{ℕ, Bool, nat_lt, List, [], length, Option, None, Some, if◌then◌else◌}
 use Rattle.std.specs.List.{position_or_len, after_first, slice_split}
-
--- a space or a tab
-abbrev pub is_blank : ℕ → Bool
-is_blank b = b == 32 || b == 9
 
 -- what stands behind the first byte that passes the test, where one does
 abbrev pub behind_first : (ℕ → Bool) → List ℕ → Option (List ℕ)

@@ -26,7 +26,7 @@ abbrev pub config_reason : List ℕ → List ℕ
 config_reason code =
     if bytes_eq code (codes "1") then codes ": the line ends inside a quote (1 OpenQuote)\n" else
     (if bytes_eq code (codes "2") then codes ": \\x needs two hexadecimal digits behind it (2 BadEscape)\n" else
-    (if bytes_eq code (codes "3") then codes ": $ in double quotes needs a variable's name behind it (3 BadVariable)\n" else
+    (if bytes_eq code (codes "3") then codes ": $ in double quotes needs NAME or {NAME} behind it (3 BadVariable)\n" else
     (if bytes_eq code (codes "4") then codes ": the line has more than 256 words (4 TooManyWords)\n" else
     codes ": the line spells no statement that is supported (9 Unsupported)\n")))
 
@@ -38,7 +38,7 @@ record_reason code =
     (if bytes_eq code (codes "5") then codes ": this line has more than 65536 bytes (5 LineTooLong)\n" else
     (if bytes_eq code (codes "6") then codes ": the connection of this line isn't open (6 UnknownConn)\n" else
     (if bytes_eq code (codes "7") then codes ": the connection of this line is open already (7 ConnOpen)\n" else
-    codes ": no event that is supported begins here (1 BadLine)\n")))))
+    codes ": no event that is supported stands here, or a request's line feed is missing (1 BadLine)\n")))))
 
 abbrev pub config_refused : (name place code : List ℕ) → List ℕ
 config_refused name place code = codes "hxeval: " ++ (name ++ (codes ":" ++ (place ++ config_reason code)))

@@ -1,5 +1,6 @@
 -- The beginning of the last line of a text, as it is kept while the text goes by.
-use Rattle.std.specs.Prelude.{ℕ, Bool, ◌==◌, nat_lt, List, [], ◌∷◌, ◌++◌, length, if◌then◌else◌}
+use Rattle.std.specs.Prelude.{ℕ, Bool, not, ◌==◌, nat_lt, List, [], ◌∷◌, ◌++◌, length, if◌then◌else◌}
+use Rattle.std.specs.List.{list_all}
 
 -- what is kept of the line that is under way, and whether it ended
 pub record Kept : Type 0 where
@@ -18,3 +19,7 @@ kept before byte = record { line = up_to_64 (if before.ended then [] else before
 abbrev pub kept_all : Kept → List ℕ → Kept
 kept_all before [] = before
 kept_all before (byte ∷ bytes) = kept_all (kept before byte) bytes
+
+-- bytes of which none ends a line
+abbrev pub is_inside : List ℕ → Bool
+is_inside bytes = list_all (λ byte. not (byte == 10)) bytes

@@ -59,8 +59,10 @@ pub record Told (rules : List Rule) (left old new : Option (List ℕ)) (result :
   pub appended : Appends old new wrote
   pub ends : Ends (answers_of rules bytes) rest result
 
--- exactly the answers were written to the events that the bytes taken from the source decide, whatever would have followed them
+-- exactly the answers were written to the events that the bytes taken from the source decide, whatever would have followed them;
+-- none of those events is refused, nor is the record by these bytes
 pub record ToldDecided (rules : List Rule) (left left' old new : Option (List ℕ)) : Type 0 where
   pub took : List ℕ
   pub consumed : Consumes left left' took
+  pub going_on : (replayed rules start (decided took record_limit)).status ≡ 5
   pub written : Appends old new (replayed rules start (decided took record_limit)).text

@@ -32,6 +32,7 @@ impl Connections {
         }
     }
 
+    /// Whether the connection of this number is open.
     pub fn is_open(&self, id: u32) -> bool
         ensures { result ≡ set.contains self.now id }
     {

@@ -128,7 +128,7 @@ fn config_reason(code: &[u8]) -> &[u8]
     match code {
         b"1" => b": the line ends inside a quote (1 OpenQuote)\n",
         b"2" => b": \\x needs two hexadecimal digits behind it (2 BadEscape)\n",
-        b"3" => b": $ in double quotes needs a variable's name behind it (3 BadVariable)\n",
+        b"3" => b": $ in double quotes needs NAME or {NAME} behind it (3 BadVariable)\n",
         b"4" => b": the line has more than 256 words (4 TooManyWords)\n",
         _ => b": the line spells no statement that is supported (9 Unsupported)\n",
     }
@@ -145,7 +145,8 @@ fn record_reason(code: &[u8]) -> &[u8]
         b"5" => b": this line has more than 65536 bytes (5 LineTooLong)\n",
         b"6" => b": the connection of this line isn't open (6 UnknownConn)\n",
         b"7" => b": the connection of this line is open already (7 ConnOpen)\n",
-        _ => b": no event that is supported begins here (1 BadLine)\n",
+        _ =>
+            b": no event that is supported stands here, or a request's line feed is missing (1 BadLine)\n",
     }
 }
 
@@ -241,7 +242,7 @@ mod tests {
             ),
             (
                 b"config 1 3\n",
-                b"hxeval: deny.cfg:1: $ in double quotes needs a variable's name behind it (3 BadVariable)\n",
+                b"hxeval: deny.cfg:1: $ in double quotes needs NAME or {NAME} behind it (3 BadVariable)\n",
             ),
             (
                 b"config 1 4\n",
@@ -259,7 +260,7 @@ mod tests {
         let cases: [(&[u8], &[u8]); 7] = [
             (
                 b"record 38 1\n",
-                b"hxeval: record, byte 38: no event that is supported begins here (1 BadLine)\n",
+                b"hxeval: record, byte 38: no event that is supported stands here, or a request's line feed is missing (1 BadLine)\n",
             ),
             (
                 b"record 0 2\n",

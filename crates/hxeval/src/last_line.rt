@@ -1,7 +1,7 @@
-ghost use Rattle.std.specs.Prelude.{◌≡◌, ◌<◌, ◌≤◌, [], true, length, take, IfOk, OnErr, IsErrOf, if◌then◌else◌};
+ghost use Rattle.std.specs.Prelude.{◌≡◌, ℕ, List, ◌<◌, ◌≤◌, [], ◌∷◌, ◌++◌, true, length, take, IfOk, OnErr, IsErrOf, if◌then◌else◌};
 ghost use Rattle.std.specs.Io.KnownBytes.{WriteAppends};
 ghost use Rattle.hx_outside.specs.Count.{Rose};
-ghost use Rattle.hxeval.specs.LastLine.{kept, kept_all, up_to_64};
+ghost use Rattle.hxeval.specs.LastLine.{Kept, is_inside, kept, kept_all, up_to_64};
 
 use hx_outside::{Sink, SinkFault};
 use std::marker::Model;
@@ -104,9 +104,13 @@ impl<K> LastLine<K> {
         }
     }
 
+    #[tactic(auto, using(crate::proofs::LastLineLemmas::last_line))]
     /// The beginning of the last line, with its line feed where that was kept.
     pub fn line(&self) -> &[u8]
-        ensures { result.now ≡ self.now.tail.line }
+        ensures line { result.now ≡ self.now.tail.line }
+        // Once a whole line went by, whatever came before it, what is kept is that line's beginning.
+        ensures law { (before : Kept) (line : List ℕ) → before.ended ≡ true → is_inside line ≡ true
+            → kept_all before (line ++ 10 ∷ []) ≡ record { line = take 64 (line ++ 10 ∷ []); ended = true } }
     {
         self.tail.line()
     }

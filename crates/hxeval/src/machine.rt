@@ -118,8 +118,8 @@ fn push_variable(
     Ok(())
 }
 
-#[tactic(auto, unfolding(crate::specs::Machine::variable_of))]
 /// The variable that an entry `NAME=VALUE` is, cut at its first `=`; one without `=` is none.
+#[tactic(auto, unfolding(crate::specs::Machine::variable_of))]
 fn variable(alloc: Global, entry: &[u8]) -> Result<Option<(Vec<u8>, Vec<u8>)>, AllocError>
     ensures { IfOk result (λ found. owned found ≡ variable_of entry.now) }
 {

@@ -25,6 +25,7 @@ impl Model for Rule {
 }
 
 impl Rule {
+    /// The rule with these values, which are the words of its condition; `unless` turns the condition round.
     pub fn new(unless: bool, values: Vec<Octets>) -> Rule
         ensures { result ≡ record { unless = unless; values = values.items } }
     {
@@ -65,6 +66,7 @@ impl Model for Rules {
 }
 
 impl Rules {
+    /// No rules yet. It takes no memory.
     pub fn new(alloc: Global) -> Rules
         ensures { result ≡ [] }
     {
@@ -73,6 +75,7 @@ impl Rules {
         }
     }
 
+    /// Puts a rule behind the others; where memory runs out it is dropped, and the others stay.
     pub fn push(&mut self, rule: Rule) -> Result<(), NoMemory>
         ensures ok { OnOk result (self.new ≡ self.old ++ rule ∷ []) }
         ensures err { OnErr result (self.new ≡ self.old) }

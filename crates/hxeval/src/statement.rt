@@ -15,6 +15,8 @@ pub fn rule_of(alloc: Global, words: &[Octets]) -> Result<Option<Rule>, NoMemory
     ensures value { IfOk result (λ rule. rule ≡ rule_of words.now) }
     ensures spells { IfOk result (λ rule. IfSome rule (Spells words.now)) }
     ensures only { IfOk result (λ rule. (other : Rule) → Spells words.now other → rule ≡ Some other) }
+    // The function that the value is told by gives a rule exactly where the words spell it.
+    ensures law { (rule : Rule) → (rule_of words.now ≡ Some rule) ↔ Spells words.now rule }
 {
     read_rule(alloc, words)
 }

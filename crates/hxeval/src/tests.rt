@@ -1,5 +1,5 @@
 use crate::run::run;
-use hx_outside::{MemFiles, MemSink, MemSource};
+use hx_outside::{MemFiles, MemSink, MemSource, read_to_end};
 use std::alloc::Global;
 use std::test::Fail;
 
@@ -164,7 +164,7 @@ fn a_head_of_101_header_lines_is_read_and_of_102_is_bad(rt: HostRuntime) -> Resu
 
 #[test]
 fn the_first_faulty_line_refuses_the_configuration(rt: HostRuntime) -> Result<(), Fail> {
-    let cases: [(&[u8], &[u8]); 19] = [
+    let cases: [(&[u8], &[u8]); 22] = [
         (b"http-request allow", b"config 1 9\n"),
         (b"http-request tarpit", b"config 1 9\n"),
         (b"\n# a\nhttp-request deny\n\"", b"config 3 9\n"),
@@ -184,6 +184,9 @@ fn the_first_faulty_line_refuses_the_configuration(rt: HostRuntime) -> Result<()
         (b"http-request deny if { path \"$1\" }", b"config 1 3\n"),
         (b"http-request set-header Y \"$A\"", b"config 1 9\n"),
         (b"\r\r\n", b"config 1 9\n"),
+        (b"http-request set-header Y \"${A\"", b"config 1 3\n"),
+        (b"http-request set-header Y \"$A", b"config 1 1\n"),
+        (b"http-request set-header Y \\xZ", b"config 1 2\n"),
     ];
     let record = record_of(rt.alloc(), &[b"GET /a HTTP/1.1\r\n\r\n"])?;
     for (config, text) in cases {
@@ -209,6 +212,13 @@ fn a_line_has_at_most_256_words(rt: HostRuntime) -> Result<(), Fail> {
         assert_eq!(rt; ended, status);
         assert_eq!(rt; written.as_slice(), text);
     }
+    let mut config = Vec::new(rt.alloc());
+    for _ in 0..257 {
+        config.extend_from_slice(b"a ")?;
+    }
+    let (ended, written) = ran(rt.alloc(), config.as_slice(), b"")?;
+    assert_eq!(rt; ended, 3);
+    assert_eq!(rt; written.as_slice(), b"config 1 4\n".as_slice());
     Ok(())
 }
 
@@ -281,6 +291,25 @@ fn a_failure_outside_ends_the_run_after_a_front_of_the_text(rt: HostRuntime) -> 
 }
 
 #[test]
+fn an_answer_is_written_before_the_next_event_is_read(rt: HostRuntime) -> Result<(), Fail> {
+    let alloc = rt.alloc();
+    let head = b"GET /a?x HTTP/1.1\r\n\r\n".as_slice();
+    let record = record_of(alloc, &[head, head])?;
+    let second = b"req 1 21\nGET /a?x HTTP/1.1\r\n\r\n\n".len();
+    let words = vec![in alloc; b"run".to_vec(alloc)?, b"c".to_vec(alloc)?]?;
+    let files = vec![in alloc; (b"c".to_vec(alloc)?, Vec::new(alloc))]?;
+    let mut files = MemFiles::new(files, Vec::new(alloc));
+    let mut source = MemSource::new(record, 8, Vec::new(alloc));
+    let mut sink = MemSink::new(alloc, 3, vec![in alloc; 1u64]?);
+    let status = run(alloc, &words, &[], &mut files, &mut source, &mut sink);
+    assert_eq!(rt; status, 6);
+    let left = read_to_end(alloc, &mut source, 1000)?;
+    assert!(rt; left.len() + 8 > second);
+    assert!(rt; left.ends_with(b"\r\n\r\n\n"));
+    Ok(())
+}
+
+#[test]
 fn a_record_is_refused_at_its_place(rt: HostRuntime) -> Result<(), Fail> {
     let cases: [(&[u8], &[u8], &[u8]); 17] = [
         (CONN, CONN, b"record 38 7\n"),
@@ -312,6 +341,10 @@ fn a_record_is_refused_at_its_place(rt: HostRuntime) -> Result<(), Fail> {
         assert_eq!(rt; status, 4);
         assert_eq!(rt; written.as_slice(), text);
     }
+    let long = vec![in rt.alloc(); b'a'; 65_537]?;
+    let (status, written) = ran(rt.alloc(), b"", long.as_slice())?;
+    assert_eq!(rt; status, 4);
+    assert_eq!(rt; written.as_slice(), b"record 0 5\n".as_slice());
     Ok(())
 }
 

@@ -1,6 +1,15 @@
-use Rattle.hx_text.specs.Address.{groups_of}
-use Rattle.hx_text.proofs.PrintLemmas.{first_longest_run}
+use Rattle.std.specs.Net.Text.{longest_zero_run}
+use Rattle.hx_text.specs.Address.{groups_of, ip_text}
+use Rattle.hx_text.proofs.PrintLemmas.{first_longest_run, compressed_run, plain_groups}
 use Rattle.hx_text.proofs.printing.printed_run_is_first_longest.Goals as goal
 
-pub returns : goal.returns
-returns c = first_longest_run (groups_of c.args.address)
+pub returns-clause-compressed : goal.returns-clause-compressed
+unfolding ip_text
+returns-clause-compressed c = compressed_run (groups_of c.args.address)
+
+pub returns-clause-plain : goal.returns-clause-plain
+unfolding ip_text
+returns-clause-plain c = plain_groups (groups_of c.args.address)
+
+pub returns-clause-some : goal.returns-clause-some
+returns-clause-some c = (longest_zero_run (groups_of c.args.address), first_longest_run (groups_of c.args.address))
