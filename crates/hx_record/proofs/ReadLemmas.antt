@@ -11,7 +11,7 @@ use Rattle.hx_record.specs.declared.piece.Piece.{Piece}
 use Rattle.hx_record.specs.declared.piece.Piece.TheVariants.{Undecided, TooLong, Finish, Fault, Skip, Found}
 use Rattle.hx_record.specs.Refusal.{code_of}
 use Rattle.hx_record.specs.Record.{Items, Unknown, Bad, follow, tail_of}
-use Rattle.hx_record.specs.Reading.{State, MayFollow, items_behind, decided_now, Reads}
+use Rattle.hx_record.specs.Reading.{State, MayFollow, items_behind, decided_now, Reads, KeptByReads, AsksOnly}
 use Rattle.hx_record.proofs.PieceLemmas.{Takes}
 use Rattle.hx_record.proofs.PendingLemmas.{undecided_open}
 use Rattle.hx_record.proofs.StateLemmas.{now_takes, now_decided, skip_passes, found_passes, undecided_now, skip_now, skip_behind, found_behind, finish_behind, fault_behind, long_behind}
@@ -129,6 +129,63 @@ asked_fill before s after left left' source source' source'' b a e = record {
   over = λ ended. both_ends s.ended (undecided_now_open s e).0 (b.stays ended).1;
   same = λ known. absurd (known (sym (a.same known).1 ∙ undecided_now s e));
 }
+
+-- what is undecided is unknown, where nothing follows that is known
+pub undecided_items : (s : State) → piece_now s ≡ Undecided → (s.ended ≡ false) × (items_behind s false [] ≡ Unknown)
+undecided_items s e =
+    let going = (undecided_now_open s e).0 in
+    (going, ap (λ ends. items_behind s ends []) (sym going) ∙ undecided_now s e)
+
+-- ---- which reads were made
+
+pub keeps_consumes : (a b : Option (List ℕ)) → Keeps a b → Consumes a b []
+keeps_consumes a b k = consumes_keeps a a b [] (consumes_none a) k
+
+-- the same as Behind, and that each read so far was made where it may be
+pub record Asks {S : Type 0} (left : S → Option (List ℕ)) (before s : State) (source source' : S) : Type 0 where
+  pub behind : Behind before s (left source) (left source')
+  pub so_far : (holds : S → Bool → List ℕ → Bool) → holds source before.ended [] ≡ true → KeptByReads left before holds → holds source' s.ended behind.took ≡ true
+
+pub asks_start : {S : Type 0} (left : S → Option (List ℕ)) (s : State) (source : S) → Asks left s s source source
+unfolding behind_start
+asks_start left s source = record { behind = behind_start s (left source); so_far = λ holds start kept. start }
+
+pub asks_skip : {S : Type 0} (left : S → Option (List ℕ)) (before s : State) (source source' : S) (used : ℕ) → Asks left before s source source' → piece_now s ≡ Skip used
+    → Asks left before (passed_by s used) source source'
+unfolding behind_skip
+asks_skip left before s source source' used a e =
+    record { behind = behind_skip before s (left source) (left source') used a.behind e; so_far = λ holds start kept. a.so_far holds start kept }
+
+-- a read that may be made
+may_read : {S : Type 0} (left : S → Option (List ℕ)) (before s : State) (source source' source'' : S) (ended : Bool) (more : List ℕ) → (a : Asks left before s source source')
+    → piece_now s ≡ Undecided → Consumes (left source') (left source'') more → (holds : S → Bool → List ℕ → Bool) → holds source before.ended [] ≡ true
+    → KeptByReads left before holds → holds source'' ended (a.behind.took ++ more) ≡ true
+may_read left before s source source' source'' ended more a e consumed holds start kept =
+    let (going, unknown) = undecided_items s e in
+    let same = a.behind.same false [] (λ over. both_ends s.ended going over) in
+    let here : items_behind before false a.behind.took ≡ Unknown =
+    ap (λ bytes. items_behind before false bytes) (sym (append-nil a.behind.took)) ∙ same ∙ unknown in
+    let now : holds source' false a.behind.took ≡ true = subst (λ over. holds source' over a.behind.took ≡ true) going (a.so_far holds start kept) in
+    kept.kept source' source'' ended a.behind.took more here now consumed
+
+pub asks_fill : {S : Type 0} (left : S → Option (List ℕ)) (before s after : State) (source source' source'' : S) → Asks left before s source source' → piece_now s ≡ Undecided
+    → Grows s after (left source') (left source'') → Asks left before after source source''
+unfolding behind_fill
+asks_fill left before s after source source' source'' a e g = record {
+  behind = behind_fill before s after (left source) (left source') (left source'') a.behind (undecided_items s e).0 g;
+  so_far = may_read left before s source source' source'' after.ended g.got a e g.consumed;
+}
+
+pub asks_only : {S : Type 0} (left : S → Option (List ℕ)) (before s after : State) (source source' : S) → Asks left before s source source' → after.ended ≡ s.ended
+    → AsksOnly left before after source source'
+asks_only left before s after source source' a same =
+    record { holds_still = λ holds start kept. (a.behind.took, subst (λ over. holds source' over a.behind.took ≡ true) (sym same) (a.so_far holds start kept)) }
+
+-- the same behind a read that failed
+pub asks_failed : {S : Type 0} (left : S → Option (List ℕ)) (before s : State) (source source' source'' : S) → Asks left before s source source' → piece_now s ≡ Undecided
+    → Keeps (left source') (left source'') → AsksOnly left before s source source''
+asks_failed left before s source source' source'' a e k =
+    record { holds_still = λ holds start kept. (a.behind.took ++ [], may_read left before s source source' source'' s.ended [] a e (keeps_consumes (left source') (left source'') k) holds start kept) }
 
 -- ---- what the call answers
 
@@ -250,12 +307,6 @@ follow_found limit (Found used event) at rest offset code h e = cc
 -- an event is no refusal
 pub found_no_fault : (s : State) (offset code : ℕ) → IsFound (piece_now s) → decided_now s ≡ Bad offset code → ⊥
 found_no_fault s offset code h e = follow_found s.limit (piece_now s) s.at _ offset code h (sym (now_decided s) ∙ e)
-
--- what is undecided is unknown, where nothing follows that is known
-pub undecided_items : (s : State) → piece_now s ≡ Undecided → (s.ended ≡ false) × (items_behind s false [] ≡ Unknown)
-undecided_items s e =
-    let going = (undecided_now_open s e).0 in
-    (going, ap (λ ends. items_behind s ends []) (sym going) ∙ undecided_now s e)
 
 -- the end is told only behind the record's end
 pub finish_ended : (s : State) → piece_now s ≡ Finish → s.ended ≡ true

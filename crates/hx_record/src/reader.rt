@@ -2,7 +2,7 @@ ghost use Rattle.std.specs.Prelude.{◌≡◌, ◌≢◌, ℕ, ◌+◌, ◌-◌,
 ghost use Rattle.std.specs.Io.KnownBytes.{Keeps, IsAtEnd};
 ghost use Rattle.hx_outside.specs.Count.{Rose};
 ghost use Rattle.hx_record.specs.Record.{Unknown, Bad};
-ghost use Rattle.hx_record.specs.Reading.{State, MayFollow, items_behind, decided_now, Reads};
+ghost use Rattle.hx_record.specs.Reading.{State, MayFollow, items_behind, AsksOnly, decided_now, Reads};
 ghost use Rattle.hx_record.specs.Parts.{IsFound, piece_now, passed_by, Grows, IsOutside};
 
 use crate::events::Placed;
@@ -90,6 +90,8 @@ impl Reader {
         // The source is left alone where the pending bytes tell the next item, and behind its end.
         ensures unasked { decided_now self.old ≢ Unknown → source.new ≡ source.old }
         ensures over { self.old.ended ≡ true → source.new ≡ source.old }
+        // Within the call it is read only while the bytes taken don't tell that item and the end isn't told.
+        ensures asks { AsksOnly S.left self.old self.new source.old source.new }
 
         // A refusal stays.
         ensures again { (offset code : ℕ) → decided_now self.old ≡ Bad offset code

@@ -1,6 +1,6 @@
 use Rattle.std.proofs.Common.{◌≡◌, ◌≤◌, true}
 use Rattle.std.specs.Io.KnownBytes.{IsAtEnd}
-use Rattle.hx_record.proofs.ReadLemmas.{Behind, Asked, work}
+use Rattle.hx_record.proofs.ReadLemmas.{Asks, Asked, work}
 use Rattle.hx_record.proofs.reader.Reader.next_event.Given as goal
 
 abbrev pub invariant-pieces : goal.invariant-pieces
@@ -8,7 +8,7 @@ invariant-pieces g l =
     let left = g.S.Source.left in
     let faults = g.S.Source.faults in
     record {
-      behind : Behind l.fn.self l.self (left l.fn.source) (left l.source);
+      asks : Asks left l.fn.self l.self l.fn.source l.source;
       asked : Asked l.fn.self l.self l.fn.source l.source;
       ended : l.self.ended ≡ true → IsAtEnd (left l.source);
       later : faults l.fn.source ≤ faults l.source;
