@@ -131,6 +131,7 @@ source_moved env held name left left' old mid new s nothing = record {
   told = record {
     took = s.told.took;
     consumed = s.told.consumed;
+    going_on = s.told.going_on;
     written = rw append-nil at (Appends-trans old mid new (replayed s.rules start (decided s.told.took record_limit)).text [] s.told.written nothing);
   };
 }
