@@ -313,9 +313,12 @@ fn bytes_are_lent_but_for_arguments_and_base(rt: HostRuntime) -> Result<(), Fail
         let fetch = fetch_of(alloc, spelled)?;
         assert_eq!(rt; is_lent(&chosen(alloc, &fetch, &world)?), *lent);
         let mut places = occurrences(alloc, &fetch, &world)?;
-        while let Some(place) = places.take() {
-            assert_eq!(rt; is_lent(&place), *lent);
+        for _ in 0..9u32 {
+            if let Some(place) = places.take() {
+                assert_eq!(rt; is_lent(&place), *lent);
+            }
         }
+        assert!(rt; places.take().is_none());
     }
     Ok(())
 }
