@@ -74,8 +74,8 @@ impl<'f, 'w> Iterator for Lines<'f, 'w> {
     }
 }
 
-#[tactic(auto, using(crate::proofs::Lists::drop_at))]
 /// The first line of the name from position `start` on, and the position behind it.
+#[tactic(auto, using(crate::proofs::Lists::drop_at))]
 fn next_line<'w>(
     message: &'w Message,
     name: Option<&[u8]>,

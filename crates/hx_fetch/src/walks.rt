@@ -13,8 +13,8 @@ use hx_sample::{Bytes, Sample, Samples, cast};
 use hx_text::{Kind, NoMemory};
 use std::alloc::Global;
 
-#[tactic(auto, using(crate::proofs::Lists::none_left, crate::proofs::Lists::some_left, crate::proofs::Lists::next_left))]
 /// Goes past so many texts, and answers whether there are as many.
+#[tactic(auto, using(crate::proofs::Lists::none_left, crate::proofs::Lists::some_left, crate::proofs::Lists::next_left))]
 fn goes_past(texts: &mut Texts<'_, '_>, count: u64) -> bool
     ensures enough { IsTrue result ↔ (count ≤ length texts.old) }
     ensures rest { OnTrue result (texts.new ≡ drop count texts.old) }
@@ -27,8 +27,8 @@ fn goes_past(texts: &mut Texts<'_, '_>, count: u64) -> bool
     true
 }
 
-#[tactic(auto, using(crate::proofs::Lists::get_of_left))]
 /// The text behind the first `before` ones, if there is one.
+#[tactic(auto, using(crate::proofs::Lists::get_of_left))]
 fn nth<'w>(source: Source<'_, 'w>, before: u64) -> Option<&'w [u8]>
     ensures { option_copied result ≡ slice_get (source_texts source.entry) before }
 {
@@ -40,9 +40,9 @@ fn nth<'w>(source: Source<'_, 'w>, before: u64) -> Option<&'w [u8]>
     }
 }
 
-#[tactic(auto, using(crate::proofs::Lists::back_at, crate::proofs::Lists::back_behind, crate::proofs::Lists::back_past, crate::proofs::Lists::none_left, crate::proofs::Lists::next_left))]
 /// The text behind which there are `behind` more, if there is one: where one reader of the texts that
 /// is so far ahead comes to their end, another stands there.
+#[tactic(auto, using(crate::proofs::Lists::back_at, crate::proofs::Lists::back_behind, crate::proofs::Lists::back_past, crate::proofs::Lists::none_left, crate::proofs::Lists::next_left))]
 fn nth_back<'w>(source: Source<'_, 'w>, behind: u64) -> Option<&'w [u8]>
     requires { behind < 2 ^ 63 }
     ensures { option_copied result ≡ slice_get (reverse (source_texts source.entry)) behind }

@@ -104,8 +104,8 @@ impl<K> LastLine<K> {
         }
     }
 
-    #[tactic(auto, using(crate::proofs::LastLineLemmas::last_line))]
     /// The beginning of the last line, with its line feed where that was kept.
+    #[tactic(auto, using(crate::proofs::LastLineLemmas::last_line))]
     pub fn line(&self) -> &[u8]
         ensures line { result.now ≡ self.now.tail.line }
         // Once a whole line went by, whatever came before it, what is kept is that line's beginning.
