@@ -1,5 +1,4 @@
 pub mod FindLemmas
-pub mod NumberWords
 pub mod WordLemmas
 pub mod PieceLemmas
 pub mod ItemLemmas

@@ -7,7 +7,7 @@ ghost use Rattle.hx_record.specs.Said.{what_is_said, words_after, IsSomeWords};
 
 use crate::find::first_at;
 use crate::refusal::Refusal;
-use hx_text::{Ip, read_i64, read_ip};
+use hx_text::{Ip, read_ip, read_number};
 
 /// How many bytes a request has at most.
 const REQUEST_MAX: u32 = 1_048_576;
@@ -41,34 +41,12 @@ pub(crate) enum Line<'a> {
     },
 }
 
-fn begins_with_minus(text: &[u8]) -> bool
-    ensures { IsTrue result ↔ (slice_index text.now 0 ≡ 45) }
-{
-    matches!(text, [b'-', ..])
-}
-
-/// The number that `text` writes in decimal digits alone, where it is at most `most`.
-#[tactic(auto, using(crate::proofs::NumberWords::minus_none, crate::proofs::NumberWords::no_int_none))]
-fn read_number(text: &[u8], most: u32) -> Option<u32>
-    ensures value { result ≡ number_up_to most text.now }
-    ensures within { IfSome result (λ n. n ≤ most) }
-{
-    if begins_with_minus(text) {
-        return None;
-    }
-    let n = read_i64(text)?.unsigned_abs();
-    if n <= u64::from(most) {
-        Some(n as u32)
-    } else {
-        None
-    }
-}
-
 fn number(word: &[u8], most: u32) -> Result<u32, Refusal>
     ensures value { result ≡ number_of_word most word.now }
     ensures within { IfOk result (λ n. n ≤ most) }
 {
-    read_number(word, most).ok_or(Refusal::BadNumber)
+    let n = read_number(word, u64::from(most)).ok_or(Refusal::BadNumber)?;
+    Ok(n as u32)
 }
 
 fn port(word: &[u8]) -> Result<u16, Refusal>

@@ -20,6 +20,6 @@ pub use kinds::{By, Kind, Out};
 pub use mapping::{map4to6, mapped_stands_for, six_to_four};
 pub use names::{Scope, VarName};
 pub use network::{Net, read_net};
-pub use numbers::{print_i64, printed_i64_reads_back, read_i64};
+pub use numbers::{print_i64, printed_i64_reads_back, read_i64, read_number};
 pub use octets::Octets;
 pub use printing::{print_ip, printed_ip_reads_back, printed_run_is_first_longest};

@@ -23,10 +23,10 @@ fn parse_number(text: &str, most: u64) -> Option<u64>
     }
 }
 
-/// The number that `text` writes, or none where it isn't a text of decimal digits, or writes more
-/// than `most`.
+/// The number that `text` writes in decimal digits alone. None exactly where the text is anything
+/// else (a sign, a blank, no digit at all), or the number is above `most`. Zeros may lead.
 #[tactic(auto, using(crate::proofs::NumberLemmas::no_number))]
-pub(crate) fn read_number(text: &[u8], most: u64) -> Option<u64>
+pub fn read_number(text: &[u8], most: u64) -> Option<u64>
     ensures value { result ≡ number_up_to most text.now }
     ensures within { IfSome result (λ n. n ≤ most) }
 {

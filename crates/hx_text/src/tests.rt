@@ -1,6 +1,6 @@
 use crate::{
     Ip, Net, Octets, Scope, VarName, map4to6, print_i64, print_ip, read_i64, read_ip, read_net,
-    six_to_four,
+    read_number, six_to_four,
 };
 use std::test::Fail;
 
@@ -24,6 +24,25 @@ fn numbers_are_read_within_64_bits(rt: HostRuntime) {
     ];
     for (text, want) in table {
         assert_eq!(rt; read_i64(text), want);
+    }
+}
+
+#[test]
+fn numbers_without_a_sign_are_read_up_to_a_limit(rt: HostRuntime) {
+    let table: [(&[u8], u64, Option<u64>); 10] = [
+        (b"0", 0, Some(0)),
+        (b"1", 0, None),
+        (b"0080", 80, Some(80)),
+        (b"81", 80, None),
+        (b"18446744073709551615", u64::MAX, Some(u64::MAX)),
+        (b"18446744073709551616", u64::MAX, None),
+        (b"-0", 9, None),
+        (b"+1", 9, None),
+        (b" 1", 9, None),
+        (b"", 9, None),
+    ];
+    for (text, most, want) in table {
+        assert_eq!(rt; read_number(text, most), want);
     }
 }
 
