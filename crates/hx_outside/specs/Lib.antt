@@ -4,6 +4,7 @@ pub mod Faults
 pub mod Files
 pub mod Fronts
 pub mod Guarded
+pub mod Log
 pub mod MemFiles
 pub mod MemSink
 pub mod MemSource

@@ -5,6 +5,7 @@
 mod dir_files;
 mod fault;
 mod files;
+mod log_source;
 mod mem_files;
 mod mem_sink;
 mod mem_source;
@@ -16,6 +17,7 @@ mod std_source;
 pub use dir_files::DirFiles;
 pub use fault::{Failed, FileFault, ReadFault, SinkFault};
 pub use files::Files;
+pub use log_source::LogSource;
 pub use mem_files::MemFiles;
 pub use mem_sink::MemSink;
 pub use mem_source::MemSource;

@@ -1,22 +1,26 @@
-ghost use Rattle.std.specs.Prelude.{◌≡◌, ℕ, ◌+◌, ◌<◌, ◌≤◌, List, Option, length, vec_len, IfOk, OnOk, OnErr, IfSome, IsErrOf};
+ghost use Rattle.std.specs.Prelude.{◌≡◌, ℕ, ◌+◌, ◌<◌, ◌≤◌, List, Option, None, length, vec_len, IfOk, OnOk, OnErr, IfSome, IsErrOf};
 ghost use Rattle.std.specs.Io.{ReadsAtMost};
 ghost use Rattle.std.specs.Io.KnownBytes.{ReadConsumes, Consumes, IsAtEnd};
 ghost use Rattle.hx_outside.specs.Count.{Rose};
 ghost use Rattle.hx_outside.specs.Fronts.{TakesFront};
+ghost use Rattle.hx_outside.specs.Log.{Log, Logs, given};
 
 use crate::fault::{Failed, ReadFault};
 use std::alloc::Global;
 
 /// Bytes that come in pieces, until the end.
 ///
-/// A source has two meanings, which contracts speak of. `left` is the bytes not yet read, for a
+/// A source has three meanings, which contracts speak of. `left` is the bytes not yet read, for a
 /// source that tells them; told bytes stay told. `faults` is a count that never falls and rises
 /// with each `Failed`, so that a failure in the midst of a longer call shows by the count before
-/// and after that call; one that stands at the last value of a u64 counts as risen.
+/// and after that call; one that stands at the last value of a u64 counts as risen. `log` is what
+/// each read so far gave, for a source that tells it, so that a longer call can say when it reads.
 pub trait Source {
     ghost left: { Self → Option (List ℕ) };
 
     ghost faults: { Self → ℕ };
+
+    ghost log: { Self → Option Log } = { λ source. None };
 
     /// Puts the next bytes at the front of `buf`, and answers how many: 0 only at the end. `buf`
     /// must not be empty.
@@ -27,7 +31,8 @@ pub trait Source {
         ensures bound { ReadsAtMost result buf.new }
         ensures bytes { ReadConsumes (left self.old) (left self.new) result buf.new }
         ensures later { faults self.old ≤ faults self.new }
-        ensures failed { OnErr result (Rose (faults self.old) (faults self.new)) };
+        ensures failed { OnErr result (Rose (faults self.old) (faults self.new)) }
+        ensures log { Logs (log self.old) (log self.new) (given result buf.new) };
 }
 
 /// How many bytes `read_to_end` asks for at once.

@@ -36,6 +36,23 @@ fn a_source_gives_pieces_and_fails_at_the_chosen_reads(rt: HostRuntime) -> Resul
 }
 
 #[test]
+fn a_log_keeps_what_each_read_gave(rt: HostRuntime) -> Result<(), Fail> {
+    let source = MemSource::new(bytes(&rt, b"abcdefghij")?, 8, numbers(&rt, &[2])?);
+    let mut source = LogSource::new(rt.alloc(), source);
+    let mut buf = [0u8; 16];
+    for _ in 0..4u32 {
+        let _ = source.read(&mut buf);
+    }
+    let want: [Option<&[u8]>; 4] = [Some(b"abcdefgh"), None, Some(b"ij"), Some(b"")];
+    let reads = source.log().ok_or("out of memory")?;
+    assert_eq!(rt; reads.len(), want.len());
+    for (read, want) in reads.iter().zip(want) {
+        assert!(rt; read.as_deref() == want);
+    }
+    Ok(())
+}
+
+#[test]
 fn a_source_is_read_to_its_end_up_to_the_limit(rt: HostRuntime) -> Result<(), Fail> {
     let text = b"twenty bytes of text";
     let cases: [(usize, &[u64], Result<(), ReadFault>); 5] = [

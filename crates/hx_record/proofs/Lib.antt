@@ -7,4 +7,5 @@ pub mod PendingLemmas
 pub mod WindowLemmas
 pub mod StateLemmas
 pub mod ReadLemmas
+pub mod AskLemmas
 pub mod OrderLemmas

@@ -2,6 +2,7 @@
 use Rattle.std.proofs.Common.{◌≡◌, ◌≢◌, ℕ, ◌+◌, ◌-◌, ◌<◌, ◌≤◌, Bool, true, false, cond, List, [], ◌++◌, length, take, drop, Option, Some, None, Ok, Err, refl, sym, ap, subst, ◌∙◌, arith, lt-ltb, inl, inr, length-take-le, length-drop, length-append, append_assoc, append-nil, add-zero, take-append-drop}
 use Rattle.std.proofs.lemmas.Bool.{false≢true, cases_lt, le-ltb}
 use Rattle.std.specs.Io.KnownBytes.{Consumes, Keeps}
+use Rattle.hx_outside.specs.Log.{Log}
 use Rattle.hx_record.specs.declared.events.Event.{Event}
 use Rattle.hx_record.specs.declared.refusal.Refusal.{Refusal}
 use Rattle.hx_record.specs.declared.fault.RecordFault.{RecordFault}
@@ -11,7 +12,7 @@ use Rattle.hx_record.specs.declared.piece.Piece.{Piece}
 use Rattle.hx_record.specs.declared.piece.Piece.TheVariants.{Undecided, TooLong, Finish, Fault, Skip, Found}
 use Rattle.hx_record.specs.Refusal.{code_of}
 use Rattle.hx_record.specs.Record.{Items, Unknown, Bad, follow, tail_of}
-use Rattle.hx_record.specs.Reading.{State, MayFollow, items_behind, decided_now, Reads, KeptByReads, AsksOnly}
+use Rattle.hx_record.specs.Reading.{State, MayFollow, items_behind, decided_now, Reads}
 use Rattle.hx_record.proofs.PieceLemmas.{Takes}
 use Rattle.hx_record.proofs.PendingLemmas.{undecided_open}
 use Rattle.hx_record.proofs.StateLemmas.{now_takes, now_decided, skip_passes, found_passes, undecided_now, skip_now, skip_behind, found_behind, finish_behind, fault_behind, long_behind}
@@ -57,7 +58,7 @@ pub record Asked {A : Type 0} (before after : State) (source source' : A) : Type
   pub over : before.ended ≡ true → source' ≡ source
   pub same : decided_now before ≢ Unknown → (source' ≡ source) × (decided_now after ≡ decided_now before)
 
-pub behind_start : (s : State) (left : Option (List ℕ)) → Behind s s left left
+unfoldable pub behind_start : (s : State) (left : Option (List ℕ)) → Behind s s left left
 behind_start s left = record {
   took = [];
   consumed = consumes_none left;
@@ -73,13 +74,13 @@ pub asked_start : {A : Type 0} (s : State) (source : A) → Asked s s source sou
 asked_start s source = record { over = λ ended. refl; same = λ known. (refl, refl) }
 
 -- bytes that were passed
-passes : (before s : State) (left left' : Option (List ℕ)) (used : ℕ) → (b : Behind before s left left') → used ≤ length s.pending → (before.pending ++ b.took ≡ (b.passed ++ take used s.pending) ++ drop used s.pending) × (s.at + used ≡ before.at + length (b.passed ++ take used s.pending))
+pub passes : (before s : State) (left left' : Option (List ℕ)) (used : ℕ) → (b : Behind before s left left') → used ≤ length s.pending → (before.pending ++ b.took ≡ (b.passed ++ take used s.pending) ++ drop used s.pending) × (s.at + used ≡ before.at + length (b.passed ++ take used s.pending))
 passes before s left left' used b fits = (
   b.bytes ∙ ap (λ bytes. b.passed ++ bytes) (sym (take-append-drop used s.pending)) ∙ sym (append_assoc b.passed (take used s.pending) (drop used s.pending)),
   omega (arith, b.place, length-append b.passed (take used s.pending), length-take-le used s.pending fits),
 )
 
-pub behind_skip : (before s : State) (left left' : Option (List ℕ)) (used : ℕ) → Behind before s left left' → piece_now s ≡ Skip used → Behind before (passed_by s used) left left'
+unfoldable pub behind_skip : (before s : State) (left left' : Option (List ℕ)) (used : ℕ) → Behind before s left left' → piece_now s ≡ Skip used → Behind before (passed_by s used) left left'
 behind_skip before s left left' used b e =
     let fits = (skip_passes s used e).1 in
     let moved = passes before s left left' used b fits in
@@ -106,11 +107,11 @@ undecided_now_open s e =
     let is_open = undecided_open s.ended (s.limit - s.at) s.pending e in
     (is_open.0, is_open.1)
 
-both_ends : {A : Type 0} (ended : Bool) → ended ≡ false → ended ≡ true → A
+pub both_ends : {A : Type 0} (ended : Bool) → ended ≡ false → ended ≡ true → A
 both_ends ended going over = absurd (false≢true (sym going ∙ over))
 
-pub behind_fill : (before s after : State) (left left' left'' : Option (List ℕ)) → Behind before s left left' → s.ended ≡ false → Grows s after left' left'' → Behind before after left left''
-behind_fill before s after left left' left'' b going g = record {
+unfoldable pub behind_fill : (before s after : State) (left left' left'' : Option (List ℕ)) (log log' : Option Log) → Behind before s left left' → s.ended ≡ false → Grows s after left' left'' log log' → Behind before after left left''
+behind_fill before s after left left' left'' log log' b going g = record {
   took = b.took ++ g.got;
   consumed = consumes_then left left' left'' b.took g.got b.consumed g.consumed;
   passed = b.passed;
@@ -129,63 +130,6 @@ asked_fill before s after left left' source source' source'' b a e = record {
   over = λ ended. both_ends s.ended (undecided_now_open s e).0 (b.stays ended).1;
   same = λ known. absurd (known (sym (a.same known).1 ∙ undecided_now s e));
 }
-
--- what is undecided is unknown, where nothing follows that is known
-pub undecided_items : (s : State) → piece_now s ≡ Undecided → (s.ended ≡ false) × (items_behind s false [] ≡ Unknown)
-undecided_items s e =
-    let going = (undecided_now_open s e).0 in
-    (going, ap (λ ends. items_behind s ends []) (sym going) ∙ undecided_now s e)
-
--- ---- which reads were made
-
-pub keeps_consumes : (a b : Option (List ℕ)) → Keeps a b → Consumes a b []
-keeps_consumes a b k = consumes_keeps a a b [] (consumes_none a) k
-
--- the same as Behind, and that each read so far was made where it may be
-pub record Asks {S : Type 0} (left : S → Option (List ℕ)) (before s : State) (source source' : S) : Type 0 where
-  pub behind : Behind before s (left source) (left source')
-  pub so_far : (holds : S → Bool → List ℕ → Bool) → holds source before.ended [] ≡ true → KeptByReads left before holds → holds source' s.ended behind.took ≡ true
-
-pub asks_start : {S : Type 0} (left : S → Option (List ℕ)) (s : State) (source : S) → Asks left s s source source
-unfolding behind_start
-asks_start left s source = record { behind = behind_start s (left source); so_far = λ holds start kept. start }
-
-pub asks_skip : {S : Type 0} (left : S → Option (List ℕ)) (before s : State) (source source' : S) (used : ℕ) → Asks left before s source source' → piece_now s ≡ Skip used
-    → Asks left before (passed_by s used) source source'
-unfolding behind_skip
-asks_skip left before s source source' used a e =
-    record { behind = behind_skip before s (left source) (left source') used a.behind e; so_far = λ holds start kept. a.so_far holds start kept }
-
--- a read that may be made
-may_read : {S : Type 0} (left : S → Option (List ℕ)) (before s : State) (source source' source'' : S) (ended : Bool) (more : List ℕ) → (a : Asks left before s source source')
-    → piece_now s ≡ Undecided → Consumes (left source') (left source'') more → (holds : S → Bool → List ℕ → Bool) → holds source before.ended [] ≡ true
-    → KeptByReads left before holds → holds source'' ended (a.behind.took ++ more) ≡ true
-may_read left before s source source' source'' ended more a e consumed holds start kept =
-    let (going, unknown) = undecided_items s e in
-    let same = a.behind.same false [] (λ over. both_ends s.ended going over) in
-    let here : items_behind before false a.behind.took ≡ Unknown =
-    ap (λ bytes. items_behind before false bytes) (sym (append-nil a.behind.took)) ∙ same ∙ unknown in
-    let now : holds source' false a.behind.took ≡ true = subst (λ over. holds source' over a.behind.took ≡ true) going (a.so_far holds start kept) in
-    kept.kept source' source'' ended a.behind.took more here now consumed
-
-pub asks_fill : {S : Type 0} (left : S → Option (List ℕ)) (before s after : State) (source source' source'' : S) → Asks left before s source source' → piece_now s ≡ Undecided
-    → Grows s after (left source') (left source'') → Asks left before after source source''
-unfolding behind_fill
-asks_fill left before s after source source' source'' a e g = record {
-  behind = behind_fill before s after (left source) (left source') (left source'') a.behind (undecided_items s e).0 g;
-  so_far = may_read left before s source source' source'' after.ended g.got a e g.consumed;
-}
-
-pub asks_only : {S : Type 0} (left : S → Option (List ℕ)) (before s after : State) (source source' : S) → Asks left before s source source' → after.ended ≡ s.ended
-    → AsksOnly left before after source source'
-asks_only left before s after source source' a same =
-    record { holds_still = λ holds start kept. (a.behind.took, subst (λ over. holds source' over a.behind.took ≡ true) (sym same) (a.so_far holds start kept)) }
-
--- the same behind a read that failed
-pub asks_failed : {S : Type 0} (left : S → Option (List ℕ)) (before s : State) (source source' source'' : S) → Asks left before s source source' → piece_now s ≡ Undecided
-    → Keeps (left source') (left source'') → AsksOnly left before s source source''
-asks_failed left before s source source' source'' a e k =
-    record { holds_still = λ holds start kept. (a.behind.took ++ [], may_read left before s source source' source'' s.ended [] a e (keeps_consumes (left source') (left source'') k) holds start kept) }
 
 -- ---- what the call answers
 
@@ -277,8 +221,8 @@ work_skip s used place e =
     let limit = h.2 place in
     omega (arith, length-drop used s.pending)
 
-pub work_fill : (s after : State) (left left' : Option (List ℕ)) → s.at ≤ s.limit → piece_now s ≡ Undecided → Grows s after left left' → work after < work s
-work_fill s after left left' place e g =
+pub work_fill : (s after : State) (left left' : Option (List ℕ)) (log log' : Option Log) → s.at ≤ s.limit → piece_now s ≡ Undecided → Grows s after left left' log log' → work after < work s
+work_fill s after left left' log log' place e g =
     let is_open = undecided_now_open s e in
     let size = length-append s.pending g.got in
     at_end after.ended refl where
@@ -307,6 +251,12 @@ follow_found limit (Found used event) at rest offset code h e = cc
 -- an event is no refusal
 pub found_no_fault : (s : State) (offset code : ℕ) → IsFound (piece_now s) → decided_now s ≡ Bad offset code → ⊥
 found_no_fault s offset code h e = follow_found s.limit (piece_now s) s.at _ offset code h (sym (now_decided s) ∙ e)
+
+-- what is undecided is unknown, where nothing follows that is known
+pub undecided_items : (s : State) → piece_now s ≡ Undecided → (s.ended ≡ false) × (items_behind s false [] ≡ Unknown)
+undecided_items s e =
+    let going = (undecided_now_open s e).0 in
+    (going, ap (λ ends. items_behind s ends []) (sym going) ∙ undecided_now s e)
 
 -- the end is told only behind the record's end
 pub finish_ended : (s : State) → piece_now s ≡ Finish → s.ended ≡ true

@@ -5,6 +5,7 @@ pub mod Piece
 pub mod Record
 pub mod InOrder
 pub mod Reading
+pub mod Asking
 pub mod Parts
 pub mod Held
 pub mod Window

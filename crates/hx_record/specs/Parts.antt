@@ -1,6 +1,7 @@
 -- What the parts of a reader do.
-use Rattle.std.specs.Prelude.{◌≡◌, ℕ, ◌+◌, ◌<◌, List, [], ◌++◌, length, drop, true, false, Option}
+use Rattle.std.specs.Prelude.{◌≡◌, ℕ, ◌+◌, ◌<◌, List, [], ◌++◌, length, drop, true, false, Option, Some}
 use Rattle.std.specs.Io.KnownBytes.{Consumes, IsAtEnd}
+use Rattle.hx_outside.specs.Log.{Log, Logs}
 use Rattle.hx_record.specs.declared.fault.RecordFault.{RecordFault}
 use Rattle.hx_record.specs.declared.fault.RecordFault.TheVariants as faults
 use Rattle.hx_record.specs.declared.piece.Tail.TheVariants.{Open}
@@ -28,17 +29,19 @@ abbrev pub passed_by : State → ℕ → State
 passed_by s used = record s { at = s.at + used; pending = drop used s.pending }
 
 -- a read took so many bytes, and put them behind those that were there: none only at the end
-pub record Took (left left' : Option (List ℕ)) (before after : List ℕ) (count : ℕ) : Type 0 where
+pub record Took (left left' : Option (List ℕ)) (log log' : Option Log) (before after : List ℕ) (count : ℕ) : Type 0 where
   pub got : List ℕ
   pub consumed : Consumes left left' got
+  pub logged : Logs log log' (Some got)
   pub bytes : after ≡ before ++ got
   pub size : length got ≡ count
   pub end : count ≡ 0 → IsAtEnd left'
 
 -- a read took bytes, one at least, or told the record's end
-pub record Grows (before after : State) (left left' : Option (List ℕ)) : Type 0 where
+pub record Grows (before after : State) (left left' : Option (List ℕ)) (log log' : Option Log) : Type 0 where
   pub got : List ℕ
   pub consumed : Consumes left left' got
+  pub logged : Logs log log' (Some got)
   pub limit : after.limit ≡ before.limit
   pub at : after.at ≡ before.at
   pub pending : after.pending ≡ before.pending ++ got

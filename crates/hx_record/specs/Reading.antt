@@ -1,10 +1,10 @@
 -- What a reader tells of itself, and what a call of it answers.
-use Rattle.std.specs.Prelude.{◌≡◌, ℕ, ◌+◌, List, [], ◌++◌, length, Bool, true, false, Option, Some, None, Result, Ok, Err}
+use Rattle.std.specs.Prelude.{◌≡◌, ℕ, ◌+◌, List, [], ◌++◌, length, Bool, true, Option, Some, None, Result, Ok, Err}
 use Rattle.std.specs.Io.KnownBytes.{Consumes}
 use Rattle.hx_record.specs.declared.events.Placed.{Placed}
 use Rattle.hx_record.specs.declared.fault.RecordFault.{RecordFault}
 use Rattle.hx_record.specs.declared.fault.RecordFault.TheVariants as faults
-use Rattle.hx_record.specs.Record.{Items, Unknown, Done, Bad, Then, items_from}
+use Rattle.hx_record.specs.Record.{Items, Done, Bad, Then, items_from}
 
 -- The limit on the whole record, how many bytes of it the reader has passed, the bytes that it took from there on, and
 -- whether a read told it the record's end.
@@ -46,15 +46,3 @@ pub record Reads (before after : State) (left left' : Option (List ℕ)) (result
   pub limit : after.limit ≡ before.limit
   pub stays : before.ended ≡ true → (took ≡ []) × (after.ended ≡ true)
   pub answers : (ends : Bool) (more : List ℕ) → MayFollow after ends more → Answers (items_behind before ends (took ++ more)) (items_behind after ends more) result
-
--- Something that is said of a source, of whether a read told the record's end, and of the bytes taken in a call, and that each
--- read keeps which may be made: one before the end was told, where the bytes taken decide no item. A read takes bytes, or tells
--- the end, or fails.
-pub record KeptByReads {S : Type 0} (left : S → Option (List ℕ)) (before : State) (holds : S → Bool → List ℕ → Bool) : Type 0 where
-  pub kept : (source source' : S) (ended : Bool) (took more : List ℕ) → items_behind before false took ≡ Unknown → holds source false took ≡ true
-      → Consumes (left source) (left source') more → holds source' ended (took ++ more) ≡ true
-
--- A call reads only where it may: whatever holds when it begins and is kept by each read that may be made holds when it is done.
-pub record AsksOnly {S : Type 0} (left : S → Option (List ℕ)) (before after : State) (source source' : S) : Type 0 where
-  pub holds_still : (holds : S → Bool → List ℕ → Bool) → holds source before.ended [] ≡ true → KeptByReads left before holds
-      → (took : List ℕ) × (holds source' after.ended took ≡ true)

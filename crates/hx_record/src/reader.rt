@@ -1,8 +1,10 @@
 ghost use Rattle.std.specs.Prelude.{◌≡◌, ◌≢◌, ℕ, ◌+◌, ◌-◌, ◌<◌, ◌≤◌, [], true, false, Ok, Err, Some, None, length, IfOk, IfErr, OnOk, OnErr, IsSome};
 ghost use Rattle.std.specs.Io.KnownBytes.{Keeps, IsAtEnd};
 ghost use Rattle.hx_outside.specs.Count.{Rose};
+ghost use Rattle.hx_outside.specs.Log.{Since};
 ghost use Rattle.hx_record.specs.Record.{Unknown, Bad};
-ghost use Rattle.hx_record.specs.Reading.{State, MayFollow, items_behind, AsksOnly, decided_now, Reads};
+ghost use Rattle.hx_record.specs.Reading.{State, MayFollow, items_behind, decided_now, Reads};
+ghost use Rattle.hx_record.specs.Asking.{Asks, Notes};
 ghost use Rattle.hx_record.specs.Parts.{IsFound, piece_now, passed_by, Grows, IsOutside};
 
 use crate::events::Placed;
@@ -87,11 +89,12 @@ impl Reader {
         ensures undecided { result ≡ Err RecordFault.Failed
             → (self.new.ended ≡ false) × (items_behind self.new false [] ≡ Unknown) }
 
-        // The source is left alone where the pending bytes tell the next item, and behind its end.
+        // The source is read only where the bytes that it gave tell no item, and no more once it
+        // told its end: by its log, where it tells one, and else at the beginning of a call.
+        ensures asks { Since (S.log source.old) (S.log source.new)
+            (λ reads. Asks self.old self.new reads) }
         ensures unasked { decided_now self.old ≢ Unknown → source.new ≡ source.old }
         ensures over { self.old.ended ≡ true → source.new ≡ source.old }
-        // Within the call it is read only while the bytes taken don't tell that item and the end isn't told.
-        ensures asks { AsksOnly S.left self.old self.new source.old source.new }
 
         // A refusal stays.
         ensures again { (offset code : ℕ) → decided_now self.old ≡ Bad offset code
@@ -185,8 +188,10 @@ impl Reader {
     /// Takes bytes from the source, or the record's end. After an `Err` nothing was taken.
     fn fill<S: Source>(&mut self, source: &mut S) -> Result<(), RecordFault>
         requires { self.old.ended ≡ false }
-        ensures ok { OnOk result (Grows self.old self.new (S.left source.old) (S.left source.new)) }
+        ensures ok { OnOk result (Grows self.old self.new (S.left source.old) (S.left source.new)
+            (S.log source.old) (S.log source.new)) }
         ensures err { OnErr result (self.new ≡ self.old) }
+        ensures log { IfErr result (λ fault. Notes fault (S.log source.old) (S.log source.new)) }
         ensures kept { OnErr result (Keeps (S.left source.old) (S.left source.new)) }
         ensures later { S.faults source.old ≤ S.faults source.new }
         ensures failed { result ≡ Err RecordFault.Failed

@@ -1,7 +1,7 @@
 ghost use Rattle.std.specs.Prelude.{◌<◌};
 
 use super::*;
-use hx_outside::MemSource;
+use hx_outside::{LogSource, MemSource};
 use std::alloc::{AllocError, Global};
 use std::fmt::Write;
 use std::str;
@@ -63,6 +63,29 @@ fn told(
             Err(RecordFault::Failed) => out.push_str("failed; ")?,
             Err(RecordFault::NoMemory) => return Err("out of memory".into()),
         }
+    }
+    Ok(out)
+}
+
+/// How many reads of its source a reader made up to the end of each of six calls.
+fn reads_made(
+    rt: &HostRuntime,
+    record_bytes: &[u8],
+    piece: usize,
+    fails: &[u64],
+) -> Result<String, Fail>
+    requires { 0 < piece }
+{
+    let alloc = rt.alloc();
+    let bytes = Vec::from_slice(alloc, record_bytes)?;
+    let source = MemSource::new(bytes, piece, Vec::from_slice(alloc, fails)?);
+    let mut source = LogSource::new(alloc, source);
+    let mut reader = Reader::new(alloc, ANY);
+    let mut out = String::new(alloc);
+    'calls: for _ in 0..6u32 {
+        let _ = reader.next_event(&mut source);
+        let reads = source.log().ok_or("out of memory")?.len();
+        write!(out, "{reads} ")?;
     }
     Ok(out)
 }
@@ -247,6 +270,23 @@ fn pieces_of_any_size_give_what_the_whole_gives(rt: HostRuntime) -> Result<(), F
                 at_once.as_str()
             );
         }
+    }
+    Ok(())
+}
+
+#[test]
+fn a_source_is_read_only_while_the_next_event_is_undecided(rt: HostRuntime) -> Result<(), Fail> {
+    let closes = b"close 1\n#\nclose 2\nclose 3";
+    let cases: [(&[u8], usize, &[u64], &str); 6] = [
+        (closes, 100, &[], "1 1 2 2 2 2 "),
+        (closes, 8, &[], "1 3 5 5 5 5 "),
+        (closes, 9, &[], "1 2 4 4 4 4 "),
+        (closes, 9, &[2, 3], "1 2 3 4 6 6 "),
+        (b"close 1\nreq 1 3\nabcclose 2\n", 20, &[], "1 1 1 1 1 1 "),
+        (b"", 1, &[1, 2], "1 2 3 3 3 3 "),
+    ];
+    for (bytes, piece, fails, want) in cases {
+        assert_eq!(rt; reads_made(&rt, bytes, piece, fails)?.as_str(), want);
     }
     Ok(())
 }

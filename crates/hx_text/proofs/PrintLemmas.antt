@@ -1,5 +1,5 @@
 -- The parts of std's text of an IPv6 address, by cases.
-use Rattle.std.proofs.Common.{◌≡◌, ℕ, ◌+◌, ◌/◌, ◌%◌, ◌<◌, ◌≤◌, Bool, true, false, List, [], ◌∷◌, ◌++◌, take, drop, arith, refl, append_assoc, subst, sym, ap, ◌∙◌, get_or}
+use Rattle.std.proofs.Common.{◌≡◌, ℕ, ◌+◌, ◌/◌, ◌%◌, ◌<◌, ◌≤◌, true, false, List, [], ◌∷◌, ◌++◌, take, drop, arith, refl, append_assoc, subst, sym, ap, ◌∙◌, get_or}
 use Rattle.std.proofs.lemmas.Bool.{lt-leb, le-leb, lt-ltb, le-ltb}
 use Rattle.std.specs.Char.{digit_char}
 use Rattle.std.specs.Net.Addr.{octets_of}

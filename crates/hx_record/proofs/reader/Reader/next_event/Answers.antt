@@ -1,17 +1,18 @@
-use Rattle.std.proofs.Common.{◌≡◌, ◌∙◌, refl, sym, arith}
+use Rattle.std.proofs.Common.{◌≡◌, ◌∙◌, sym, arith}
 use Rattle.std.proofs.Common.{add-zero}
 use Rattle.std.proofs.lemmas.Bool.{false≢true}
 use Rattle.hx_record.specs.Record.{Unknown, Bad}
-use Rattle.hx_record.specs.Parts.{passed_by}
 use Rattle.hx_record.specs.Reading.{decided_now}
 use Rattle.hx_record.proofs.StateLemmas.{skip_passes, found_passes, fault_within, undecided_now, found_now, finish_now, fault_now, long_now}
-use Rattle.hx_record.proofs.ReadLemmas.{asks_start, asks_skip, asks_fill, asks_only, asks_failed, asked_start, asked_skip, asked_fill, reads_found, reads_none, reads_fault, reads_long, undecided_now_open, undecided_items, finish_ended, told, found_no_fault, work_skip, work_fill}
+use Rattle.hx_record.proofs.ReadLemmas.{behind_start, behind_skip, behind_fill, asked_start, asked_skip, asked_fill, reads_found, reads_none, reads_fault, reads_long, undecided_now_open, undecided_items, finish_ended, told, found_no_fault, work_skip, work_fill}
+use Rattle.hx_record.proofs.AskLemmas.{asks_start, asks_skip, asks_fill, asks_now, asks_found, asks_outside}
 use Rattle.hx_record.proofs.reader.Reader.next_event.Goals as goal
 
 pub pieces-init : goal.pieces-init
 pieces-init g c = record {
-  asks = asks_start g.S.Source.left c.args.self.now c.args.source.now;
+  behind = behind_start c.args.self.now (g.S.Source.left c.args.source.now);
   asked = asked_start c.args.self.now c.args.source.now;
+  asks = asks_start c.args.self.now (g.S.Source.left c.args.source.now) (g.S.Source.log c.args.source.now);
   ended = c.requires;
   later = omega arith;
 }
@@ -41,9 +42,11 @@ pieces-preserved g c =
     let left = g.S.Source.left in
     let e = sym c.in_ok-judge.ensures.ok ∙ c.in-Skip.is in
     let so_far = c.pieces.invariant in
+    let log = g.S.Source.log in
     rw (c.advance.ensures, c.judge.ensures.same) (record {
-      asks = asks_skip left c.args.self.now c.pieces.self c.args.source.now c.pieces.source c.in-Skip.used so_far.asks e;
+      behind = behind_skip c.args.self.now c.pieces.self (left c.args.source.now) (left c.pieces.source) c.in-Skip.used so_far.behind e;
       asked = asked_skip c.args.self.now c.pieces.self c.args.source.now c.pieces.source c.in-Skip.used so_far.asked e;
+      asks = asks_skip c.args.self.now c.pieces.self (left c.args.source.now) (left c.pieces.source) (log c.args.source.now) (log c.pieces.source) c.in-Skip.used so_far.behind e so_far.asks;
       ended = so_far.ended;
       later = so_far.later;
     })
@@ -62,19 +65,19 @@ pub returns-in-Found-clause-reads : goal.returns-in-Found-clause-reads
 returns-in-Found-clause-reads g c =
     let left = g.S.Source.left in
     let e = sym c.in_ok-judge.ensures.ok ∙ c.in-Found.is in
-    rw (c.place-offset.ensures, c.advance-in-Found.ensures, c.judge.ensures.same, add-zero) (reads_found c.args.self.now c.pieces.self (left c.args.source.now) (left c.pieces.source) c.in-Found.used c.in-Found.event c.pieces.invariant.asks.behind e)
+    rw (c.place-offset.ensures, c.advance-in-Found.ensures, c.judge.ensures.same, add-zero) (reads_found c.args.self.now c.pieces.self (left c.args.source.now) (left c.pieces.source) c.in-Found.used c.in-Found.event c.pieces.invariant.behind e)
 
 pub returns-in-Finish-clause-reads : goal.returns-in-Finish-clause-reads
 returns-in-Finish-clause-reads g c =
     let left = g.S.Source.left in
     let e = sym c.in_ok-judge.ensures.ok ∙ c.in-Finish.is in
-    rw c.judge.ensures.same (reads_none c.args.self.now c.pieces.self (left c.args.source.now) (left c.pieces.source) c.pieces.invariant.asks.behind e)
+    rw c.judge.ensures.same (reads_none c.args.self.now c.pieces.self (left c.args.source.now) (left c.pieces.source) c.pieces.invariant.behind e)
 
 pub returns-in-TooLong-clause-reads : goal.returns-in-TooLong-clause-reads
 returns-in-TooLong-clause-reads g c =
     let left = g.S.Source.left in
     let e = sym c.in_ok-judge.ensures.ok ∙ c.in-TooLong.is in
-    rw (c.limit-offset.ensures, c.code.ensures, c.judge.ensures.same) (reads_long c.args.self.now c.pieces.self (left c.args.source.now) (left c.pieces.source) c.pieces.invariant.asks.behind e)
+    rw (c.limit-offset.ensures, c.code.ensures, c.judge.ensures.same) (reads_long c.args.self.now c.pieces.self (left c.args.source.now) (left c.pieces.source) c.pieces.invariant.behind e)
 
 pub place-offset-requires-in-Fault : goal.place-offset-requires-in-Fault
 place-offset-requires-in-Fault g c =
@@ -85,7 +88,7 @@ pub returns-in-Fault-clause-reads : goal.returns-in-Fault-clause-reads
 returns-in-Fault-clause-reads g c =
     let left = g.S.Source.left in
     let e = sym c.in_ok-judge.ensures.ok ∙ c.in-Fault.is in
-    rw (c.place-offset-in-Fault.ensures, c.code-in-Fault.ensures, c.judge.ensures.same) (reads_fault c.args.self.now c.pieces.self (left c.args.source.now) (left c.pieces.source) c.in-Fault.skip c.in-Fault.refusal c.pieces.invariant.asks.behind e)
+    rw (c.place-offset-in-Fault.ensures, c.code-in-Fault.ensures, c.judge.ensures.same) (reads_fault c.args.self.now c.pieces.self (left c.args.source.now) (left c.pieces.source) c.in-Fault.skip c.in-Fault.refusal c.pieces.invariant.behind e)
 
 -- what was refused at first
 
@@ -160,13 +163,13 @@ pub returns-in-Err-clause-unasked : goal.returns-in-Err-clause-unasked
 returns-in-Err-clause-unasked g c known =
     let e = sym c.in_ok-judge.ensures.ok ∙ c.in-Undecided.is in
     let left = g.S.Source.left in
-    ((asked_fill c.args.self.now c.pieces.self c.fill.new.self (left c.args.source.now) (left c.pieces.source) c.args.source.now c.pieces.source c.fill.new.source c.pieces.invariant.asks.behind c.pieces.invariant.asked e).same known).0
+    ((asked_fill c.args.self.now c.pieces.self c.fill.new.self (left c.args.source.now) (left c.pieces.source) c.args.source.now c.pieces.source c.fill.new.source c.pieces.invariant.behind c.pieces.invariant.asked e).same known).0
 
 pub returns-in-Err-clause-over : goal.returns-in-Err-clause-over
 returns-in-Err-clause-over g c ended =
     let e = sym c.in_ok-judge.ensures.ok ∙ c.in-Undecided.is in
     let left = g.S.Source.left in
-    (asked_fill c.args.self.now c.pieces.self c.fill.new.self (left c.args.source.now) (left c.pieces.source) c.args.source.now c.pieces.source c.fill.new.source c.pieces.invariant.asks.behind c.pieces.invariant.asked e).over ended
+    (asked_fill c.args.self.now c.pieces.self c.fill.new.self (left c.args.source.now) (left c.pieces.source) c.args.source.now c.pieces.source c.fill.new.source c.pieces.invariant.behind c.pieces.invariant.asked e).over ended
 
 -- the other clauses
 
@@ -176,7 +179,7 @@ returns-in-Found-clause-moves g c =
     let passes = found_passes c.pieces.self c.in-Found.used c.in-Found.event e in
     let some = passes.0 in
     let within = passes.2 c.judge.ensures.place in
-    let place = c.pieces.invariant.asks.behind.place in
+    let place = c.pieces.invariant.behind.place in
     rw (c.advance-in-Found.ensures, c.judge.ensures.same) (λ event. (omega arith, within))
 
 pub returns-in-Finish-clause-none : goal.returns-in-Finish-clause-none
@@ -187,48 +190,64 @@ returns-in-Finish-clause-none g c none =
 pub pieces-smaller-in-Ok : goal.pieces-smaller-in-Ok
 pieces-smaller-in-Ok g c =
     let left = g.S.Source.left in
+    let log = g.S.Source.log in
     let e = sym c.in_ok-judge.ensures.ok ∙ c.in-Undecided.is in
     let grows = rw c.judge.ensures.same at c.in-Ok.ensures.ok in
-    work_fill c.pieces.self c.fill.new.self (left c.pieces.source) (left c.fill.new.source) c.judge.ensures.place e grows
+    work_fill c.pieces.self c.fill.new.self (left c.pieces.source) (left c.fill.new.source) (log c.pieces.source) (log c.fill.new.source) c.judge.ensures.place e grows
 
 pub pieces-preserved-in-Ok : goal.pieces-preserved-in-Ok
 pieces-preserved-in-Ok g c =
     let left = g.S.Source.left in
+    let log = g.S.Source.log in
     let e = sym c.in_ok-judge.ensures.ok ∙ c.in-Undecided.is in
     let so_far = c.pieces.invariant in
     let grows = rw c.judge.ensures.same at c.in-Ok.ensures.ok in
     record {
-      asks = asks_fill left c.args.self.now c.pieces.self c.fill.new.self c.args.source.now c.pieces.source c.fill.new.source so_far.asks e grows;
-      asked = asked_fill c.args.self.now c.pieces.self c.fill.new.self (left c.args.source.now) (left c.pieces.source) c.args.source.now c.pieces.source c.fill.new.source so_far.asks.behind so_far.asked e;
+      behind = behind_fill c.args.self.now c.pieces.self c.fill.new.self (left c.args.source.now) (left c.pieces.source) (left c.fill.new.source) (log c.pieces.source) (log c.fill.new.source) so_far.behind (undecided_items c.pieces.self e).0 grows;
+      asked = asked_fill c.args.self.now c.pieces.self c.fill.new.self (left c.args.source.now) (left c.pieces.source) c.args.source.now c.pieces.source c.fill.new.source so_far.behind so_far.asked e;
+      asks = asks_fill c.args.self.now c.pieces.self c.fill.new.self (left c.args.source.now) (left c.pieces.source) (left c.fill.new.source) (log c.args.source.now) (log c.pieces.source) (log c.fill.new.source) so_far.behind e grows so_far.asks;
       ended = λ over. (grows.ended over).1;
       later = omega (arith, so_far.later, c.in-Ok.ensures.later);
     }
 
--- which reads were made
+-- when the source was read
 
 pub returns-in_err-judge-clause-asks : goal.returns-in_err-judge-clause-asks
 returns-in_err-judge-clause-asks g c =
-    rw c.judge.ensures.same (asks_only g.S.Source.left c.args.self.now c.pieces.self c.pieces.self c.args.source.now c.pieces.source c.pieces.invariant.asks refl)
+    let left = g.S.Source.left in
+    let log = g.S.Source.log in
+    rw c.judge.ensures.same (asks_now c.args.self.now c.pieces.self (left c.args.source.now) (left c.pieces.source) (log c.args.source.now) (log c.pieces.source) c.pieces.invariant.behind c.pieces.invariant.asks)
 
 pub returns-in-Err-clause-asks : goal.returns-in-Err-clause-asks
 returns-in-Err-clause-asks g c =
+    let left = g.S.Source.left in
+    let log = g.S.Source.log in
     let e = sym c.in_ok-judge.ensures.ok ∙ c.in-Undecided.is in
-    rw (c.in-Err.ensures.err, c.judge.ensures.same) (asks_failed g.S.Source.left c.args.self.now c.pieces.self c.args.source.now c.pieces.source c.fill.new.source
-    c.pieces.invariant.asks e c.in-Err.ensures.kept)
+    rw (c.in-Err.ensures.err, c.judge.ensures.same) (asks_outside c.args.self.now c.pieces.self (left c.args.source.now) (left c.pieces.source) (log c.args.source.now) (log c.pieces.source) (log c.fill.new.source)
+    c.in-Err.fault c.pieces.invariant.behind e c.in-Err.ensures.log c.pieces.invariant.asks)
 
 pub returns-in-Found-clause-asks : goal.returns-in-Found-clause-asks
 returns-in-Found-clause-asks g c =
-    rw (c.advance-in-Found.ensures, c.judge.ensures.same) (asks_only g.S.Source.left c.args.self.now c.pieces.self (passed_by c.pieces.self c.in-Found.used)
-    c.args.source.now c.pieces.source c.pieces.invariant.asks refl)
+    let left = g.S.Source.left in
+    let log = g.S.Source.log in
+    let e = sym c.in_ok-judge.ensures.ok ∙ c.in-Found.is in
+    rw (c.advance-in-Found.ensures, c.judge.ensures.same) (asks_found c.args.self.now c.pieces.self (left c.args.source.now) (left c.pieces.source) (log c.args.source.now) (log c.pieces.source)
+    c.in-Found.used c.in-Found.event c.pieces.invariant.behind e c.pieces.invariant.asks)
 
 pub returns-in-Finish-clause-asks : goal.returns-in-Finish-clause-asks
 returns-in-Finish-clause-asks g c =
-    rw c.judge.ensures.same (asks_only g.S.Source.left c.args.self.now c.pieces.self c.pieces.self c.args.source.now c.pieces.source c.pieces.invariant.asks refl)
+    let left = g.S.Source.left in
+    let log = g.S.Source.log in
+    rw c.judge.ensures.same (asks_now c.args.self.now c.pieces.self (left c.args.source.now) (left c.pieces.source) (log c.args.source.now) (log c.pieces.source) c.pieces.invariant.behind c.pieces.invariant.asks)
 
 pub returns-in-TooLong-clause-asks : goal.returns-in-TooLong-clause-asks
 returns-in-TooLong-clause-asks g c =
-    rw c.judge.ensures.same (asks_only g.S.Source.left c.args.self.now c.pieces.self c.pieces.self c.args.source.now c.pieces.source c.pieces.invariant.asks refl)
+    let left = g.S.Source.left in
+    let log = g.S.Source.log in
+    rw c.judge.ensures.same (asks_now c.args.self.now c.pieces.self (left c.args.source.now) (left c.pieces.source) (log c.args.source.now) (log c.pieces.source) c.pieces.invariant.behind c.pieces.invariant.asks)
 
 pub returns-in-Fault-clause-asks : goal.returns-in-Fault-clause-asks
 returns-in-Fault-clause-asks g c =
-    rw c.judge.ensures.same (asks_only g.S.Source.left c.args.self.now c.pieces.self c.pieces.self c.args.source.now c.pieces.source c.pieces.invariant.asks refl)
+    let left = g.S.Source.left in
+    let log = g.S.Source.log in
+    rw c.judge.ensures.same (asks_now c.args.self.now c.pieces.self (left c.args.source.now) (left c.pieces.source) (log c.args.source.now) (log c.pieces.source) c.pieces.invariant.behind c.pieces.invariant.asks)

@@ -14,6 +14,7 @@ returns-clause-ok g c =
     record {
       got = take count rest;
       consumed = read.bytes.0;
+      logged = read.log;
       bytes = grown c.self.inside.buf.items c.read_behind.new.buf.items c.self.inside.start end count c.self.invariant.order read.within read.front ∙ ap (λ (held : Held). held.bytes ++ take count rest) c.self.view_is;
       size = length-take-le count rest (omega (arith, read.within, read.len));
       end = λ none. read.bytes.1 none (omega (arith, read.len));
