@@ -30,7 +30,7 @@ reads_of reads = map (λ read. option_map (λ bytes. bytes.items) read) reads
 abbrev pub log_of : {A : Type 0} → Option (Vec (Option (Vec ℕ A)) A) → Option Log
 log_of kept = option_map (λ reads. reads_of reads.items) kept
 
--- where a log is told, exactly these reads were made since it was the old one, and the property P holds of them
+-- where a log is told, P holds of the reads that were made since it was the old one
 abbrev pub Since : Option Log → Option Log → (Log → Type 0) → Type 0
 Since old None P = ⊤
 Since None (Some new) P = ⊥

@@ -10,8 +10,8 @@ use crate::source::Source;
 use std::alloc::Global;
 use std::marker::Model;
 
-/// A source that keeps what each read of another one gave, while there is memory: a fake to watch
-/// readers by.
+/// A source that keeps what each read of another one gave: a fake to watch readers by. It gives the
+/// log up where memory runs out.
 #[derive(Debug, Drop)]
 pub struct LogSource<S> {
     alloc: Global,
@@ -40,7 +40,7 @@ impl<S> LogSource<S> {
     }
 
     /// What each read gave, oldest first: its bytes, none of them at the end, and None for one that
-    /// failed. None where memory ran out.
+    /// failed. None where the log was given up.
     pub fn log(&self) -> Option<&[Option<Vec<u8>>]>
         ensures { option_map reads_of (option_copied result) ≡ self.now.log }
     {
@@ -59,7 +59,7 @@ impl<S> LogSource<S> {
     }
 }
 
-/// The reads and one more. None where memory runs out.
+/// The reads and one more. None, which gives the log up, where memory runs out.
 fn noted(
     alloc: Global,
     reads: Vec<Option<Vec<u8>>>,
@@ -92,6 +92,8 @@ impl<S: Source> Source for LogSource<S> {
         ensures later { S.faults self.old.inner ≤ S.faults self.new.inner }
         ensures failed { OnErr result (Rose (S.faults self.old.inner) (S.faults self.new.inner)) }
         ensures log { Logs self.old.log self.new.log (given result buf.new) }
+        // The source within is read once.
+        ensures once { Logs (S.log self.old.inner) (S.log self.new.inner) (given result buf.new) }
     {
         let result = self.inner.read(buf);
         match &result {

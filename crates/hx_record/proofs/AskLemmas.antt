@@ -1,16 +1,15 @@
--- When a reader has asked its source so far in a call.
-use Rattle.std.proofs.Common.{◌≡◌, ℕ, ◌+◌, ◌<◌, take, Bool, true, false, List, [], ◌∷◌, ◌++◌, length, Option, Some, None, arith, refl, sym, ap, ◌∙◌, append_assoc, append-nil}
+-- When a reader has read its source so far in a call.
+use Rattle.std.proofs.Common.{◌≡◌, ◌≢◌, Result, Err, ℕ, ◌<◌, Bool, true, false, List, [], ◌∷◌, ◌++◌, length, Option, Some, None, arith, refl, sym, ap, ◌∙◌, append_assoc, append-nil}
+use Rattle.std.specs.Bool.{⊤}
 use Rattle.hx_outside.specs.Log.{Log, Logs, Since}
-use Rattle.hx_record.specs.declared.events.Event.{Event}
 use Rattle.hx_record.specs.declared.fault.RecordFault.{RecordFault}
 use Rattle.hx_record.specs.declared.fault.RecordFault.TheVariants as faults
-use Rattle.hx_record.specs.declared.piece.Piece.TheVariants.{Undecided, Skip, Found}
+use Rattle.hx_record.specs.declared.piece.Piece.TheVariants.{Undecided, Skip}
 use Rattle.hx_record.specs.Record.{Unknown}
-use Rattle.hx_record.specs.Reading.{State, items_behind, decided_now}
-use Rattle.hx_record.specs.Asking.{after_read, after_reads, AreDue, Asks, Notes}
+use Rattle.hx_record.specs.State.{State, items_behind, decided_now}
+use Rattle.hx_record.specs.Asking.{after_read, after_reads, AreDue, FailureIsTold, WereDue}
 use Rattle.hx_record.specs.Parts.{piece_now, passed_by, Grows}
-use Rattle.hx_record.proofs.StateLemmas.{found_passes}
-use Rattle.hx_record.proofs.ReadLemmas.{Behind, behind_start, behind_skip, behind_fill, undecided_items, both_ends, passes}
+use Rattle.hx_record.proofs.ReadLemmas.{Behind, behind_start, behind_skip, behind_fill, undecided_items, both_ends}
 
 -- ---- reads, by a log that is told
 
@@ -40,19 +39,40 @@ due_more : (s : State) (reads : Log) (read : Option (List ℕ)) → AreDue s rea
 due_more s [] read due going unknown = (going, unknown, tt)
 due_more s (first ∷ reads) read due going unknown = (due.0, due.1, due_more (after_read s first) reads read due.2 going unknown)
 
+-- none of the reads failed
+abbrev pub Gave : Log → Type 0
+Gave [] = ⊤
+Gave (None ∷ reads) = ⊥
+Gave (Some got ∷ reads) = Gave reads
+
+gave_more : (reads : Log) (got : List ℕ) → Gave reads → Gave (reads ++ (Some got ∷ []))
+gave_more [] got gave = tt
+gave_more (None ∷ reads) got gave = absurd gave
+gave_more (Some first ∷ reads) got gave = gave_more reads got gave
+
+-- reads that gave, and a result that tells no failure
+told_other : {A : Type 0} → (reads : Log) (result : Result A RecordFault) → result ≢ Err faults.Failed → Gave reads → FailureIsTold result reads
+told_other [] result other gave = other
+told_other (None ∷ reads) result other gave = absurd gave
+told_other (Some first ∷ reads) result other gave = told_other reads result other gave
+
+-- one that failed behind them, and a result that tells it
+told_failed : (A : Type 0) (reads : Log) → Gave reads → FailureIsTold {A = A} (Err faults.Failed) (reads ++ (None ∷ []))
+told_failed A [] gave = (refl, refl)
+told_failed A (None ∷ reads) gave = absurd gave
+told_failed A (Some first ∷ reads) gave = told_failed A reads gave
+
 -- ---- so far
 
 -- the reads were due, and gave the bytes taken
 pub record Told (before s : State) (took : List ℕ) (reads : Log) : Type 0 where
   pub due : AreDue before reads
   pub same : after_reads before reads ≡ record before { pending = before.pending ++ took; ended = s.ended }
-
-told_start : (s : State) → Told s s [] []
-told_start s = record { due = tt; same = rw (append-nil s.pending) refl }
+  pub gave : Gave reads
 
 pub asks_start : (s : State) (left : Option (List ℕ)) (log : Option Log) → Since log log (Told s s (behind_start s left).took)
 unfolding behind_start
-asks_start s left log = since_start log (Told s s []) (told_start s)
+asks_start s left log = since_start log (Told s s []) (record { due = tt; same = rw (append-nil s.pending) refl; gave = tt })
 
 -- where nothing is decided, nothing was decided by the bytes taken
 unknown_before : (before s : State) (left left' : Option (List ℕ)) → (b : Behind before s left left') → piece_now s ≡ Undecided
@@ -84,7 +104,7 @@ pub asks_skip : (before s : State) (left left' : Option (List ℕ)) (log log' : 
     → Since log log' (Told before s b.took) → Since log log' (Told before (passed_by s used) (behind_skip before s left left' used b e).took)
 unfolding behind_skip
 asks_skip before s left left' log log' used b e so_far =
-    since_map log log' (Told before s b.took) (Told before (passed_by s used) b.took) so_far (λ reads t. record { due = t.due; same = t.same })
+    since_map log log' (Told before s b.took) (Told before (passed_by s used) b.took) so_far (λ reads t. record { due = t.due; same = t.same; gave = t.gave })
 
 pub asks_fill : (before s after : State) (left left' left'' : Option (List ℕ)) (log log' log'' : Option Log) → (b : Behind before s left left') → (e : piece_now s ≡ Undecided)
     → (g : Grows s after left' left'' log' log'') → Since log log' (Told before s b.took)
@@ -96,40 +116,25 @@ asks_fill before s after left left' left'' log log' log'' b e g so_far =
       due = told_due before s left left' reads (Some g.got) b e t;
       same = after_reads_more before reads (Some g.got) ∙ ap (λ (s : State). after_read s (Some g.got)) t.same
           ∙ after_got before s after b.took g.got (undecided_items s e).0 g.some (λ over. (g.ended over).0);
+      gave = gave_more reads g.got t.gave;
     })
 
 -- ---- behind the call
 
-asked : (before s after : State) (took passed : List ℕ) (reads : Log) → before.pending ++ took ≡ passed ++ after.pending → after.at ≡ before.at + length passed → after.ended ≡ s.ended
-    → Told before s took reads → Asks before after reads
-asked before s after took passed reads bytes place ended t = record {
-  due = t.due;
-  ended = ended ∙ sym (ap (λ (s : State). s.ended) t.same);
-  passed = passed;
-  bytes = ap (λ (s : State). s.pending) t.same ∙ bytes;
-  place = place;
-}
+-- where no read failed
+pub due_now : {A : Type 0} → (before s : State) (took : List ℕ) (log log' : Option Log) (result : Result A RecordFault) → result ≢ Err faults.Failed → Since log log' (Told before s took)
+    → Since log log' (WereDue before (record before { pending = before.pending ++ took; ended = s.ended }) result)
+due_now before s took log log' result other so_far =
+    since_map log log' (Told before s took) (WereDue before (record before { pending = before.pending ++ took; ended = s.ended }) result) so_far
+    (λ reads t. record { due = t.due; gave = t.same; told = told_other reads result other t.gave })
 
-pub asks_now : (before s : State) (left left' : Option (List ℕ)) (log log' : Option Log) → (b : Behind before s left left') → Since log log' (Told before s b.took) → Since log log' (Asks before s)
-asks_now before s left left' log log' b so_far =
-    since_map log log' (Told before s b.took) (Asks before s) so_far (λ reads t. asked before s s b.took b.passed reads b.bytes b.place refl t)
-
-pub asks_found : (before s : State) (left left' : Option (List ℕ)) (log log' : Option Log) (used : ℕ) (event : Event) → (b : Behind before s left left') → piece_now s ≡ Found used event
-    → Since log log' (Told before s b.took) → Since log log' (Asks before (passed_by s used))
-asks_found before s left left' log log' used event b e so_far =
-    let moved = passes before s left left' used b (found_passes s used event e).1 in
-    since_map log log' (Told before s b.took) (Asks before (passed_by s used)) so_far
-    (λ reads t. asked before s (passed_by s used) b.took (b.passed ++ take used s.pending) reads moved.0 moved.1 refl t)
-
--- behind a read that failed, and where memory ran out before one
-pub asks_outside : (before s : State) (left left' : Option (List ℕ)) (log log' log'' : Option Log) (fault : RecordFault) → (b : Behind before s left left') → piece_now s ≡ Undecided
-    → Notes fault log' log'' → Since log log' (Told before s b.took) → Since log log'' (Asks before s)
-asks_outside before s left left' log log' log'' (faults.Bad offset code) b e noted so_far = absurd noted
-asks_outside before s left left' log log' log'' faults.Failed b e noted so_far =
-    since_more log log' log'' None (Told before s b.took) (Asks before s) so_far noted
-    (λ reads t. asked before s s b.took b.passed (reads ++ (None ∷ [])) b.bytes b.place refl (record {
+-- where the last one did
+pub due_failed : (A : Type 0) (before s : State) (left left' : Option (List ℕ)) (log log' log'' : Option Log) → (b : Behind before s left left') → piece_now s ≡ Undecided → Logs log' log'' None
+    → Since log log' (Told before s b.took) → Since log log'' (WereDue {A = A} before (record before { pending = before.pending ++ b.took; ended = s.ended }) (Err faults.Failed))
+due_failed A before s left left' log log' log'' b e one so_far =
+    since_more log log' log'' None (Told before s b.took) (WereDue {A = A} before (record before { pending = before.pending ++ b.took; ended = s.ended }) (Err faults.Failed)) so_far one
+    (λ reads t. record {
       due = told_due before s left left' reads None b e t;
-      same = after_reads_more before reads None ∙ t.same;
-    }))
-asks_outside before s left left' log log' log'' faults.NoMemory b e noted so_far =
-    rw noted (asks_now before s left left' log log' b so_far)
+      gave = after_reads_more before reads None ∙ t.same;
+      told = told_failed A reads t.gave;
+    })

@@ -8,4 +8,5 @@ pub mod WindowLemmas
 pub mod StateLemmas
 pub mod ReadLemmas
 pub mod AskLemmas
+pub mod AnswerLemmas
 pub mod OrderLemmas

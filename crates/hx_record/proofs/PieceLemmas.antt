@@ -13,7 +13,7 @@ use Rattle.hx_record.specs.declared.piece.Tail.{Tail}
 use Rattle.hx_record.specs.declared.piece.Tail.TheVariants.{Ends, Beyond, Open}
 use Rattle.hx_record.specs.declared.piece.Piece.{Piece}
 use Rattle.hx_record.specs.declared.piece.Piece.TheVariants.{Undecided, TooLong, Finish, Fault, Skip, Found}
-use Rattle.hx_record.specs.Line.{Said, Nothing, Says, Asks, line_says}
+use Rattle.hx_record.specs.Line.{Said, Nothing, Says, Announces, line_says}
 use Rattle.hx_record.specs.Piece.{behind, request, of_line, line_len, last_line, piece}
 
 -- ---- the three ways in which the definition computes
@@ -67,7 +67,7 @@ line_takes : (tail : Tail) (line : Result Said Refusal) (used : ℕ) (rest : Lis
 line_takes tail (Err refusal) used rest n some fits = omega arith
 line_takes tail (Ok Nothing) used rest n some fits = (some, omega arith)
 line_takes tail (Ok (Says event)) used rest n some fits = (some, omega arith)
-line_takes tail (Ok (Asks id len)) used rest n some fits = request_takes tail id len used rest n some fits
+line_takes tail (Ok (Announces id len)) used rest n some fits = request_takes tail id len used rest n some fits
 
 last_takes : (bytes : List ℕ) → Takes Ends (length bytes) (last_line bytes)
 last_takes [] = refl
@@ -116,7 +116,7 @@ line_decided : (tail : Tail) (line : Result Said Refusal) (used : ℕ) (rest mor
 line_decided tail (Err refusal) used rest more known = refl
 line_decided tail (Ok Nothing) used rest more known = refl
 line_decided tail (Ok (Says event)) used rest more known = refl
-line_decided tail (Ok (Asks id len)) used rest more known = request_decided tail id len used rest more known
+line_decided tail (Ok (Announces id len)) used rest more known = request_decided tail id len used rest more known
 
 pub piece_decided : (tail : Tail) (seen more : List ℕ) → piece Open seen ≢ Undecided → piece tail (seen ++ more) ≡ piece Open seen
 piece_decided tail seen more known = elim (cases_lt 65536 (line_len seen)) [

@@ -1,22 +1,17 @@
 -- What a reader has done so far in a call, and what each piece makes of it.
-use Rattle.std.proofs.Common.{◌≡◌, ◌≢◌, ℕ, ◌+◌, ◌-◌, ◌<◌, ◌≤◌, Bool, true, false, cond, List, [], ◌++◌, length, take, drop, Option, Some, None, Ok, Err, refl, sym, ap, subst, ◌∙◌, arith, lt-ltb, inl, inr, length-take-le, length-drop, length-append, append_assoc, append-nil, add-zero, take-append-drop}
+use Rattle.std.proofs.Common.{◌≡◌, ◌≢◌, ℕ, ◌+◌, ◌-◌, ◌<◌, ◌≤◌, Bool, true, false, cond, List, [], ◌++◌, length, take, drop, Option, Some, None, refl, sym, ap, subst, ◌∙◌, arith, lt-ltb, inl, inr, length-take-le, length-drop, length-append, append_assoc, append-nil, add-zero, take-append-drop}
 use Rattle.std.proofs.lemmas.Bool.{false≢true, cases_lt, le-ltb}
 use Rattle.std.specs.Io.KnownBytes.{Consumes, Keeps}
 use Rattle.hx_outside.specs.Log.{Log}
-use Rattle.hx_record.specs.declared.events.Event.{Event}
-use Rattle.hx_record.specs.declared.refusal.Refusal.{Refusal}
-use Rattle.hx_record.specs.declared.fault.RecordFault.{RecordFault}
-use Rattle.hx_record.specs.declared.fault.RecordFault.TheVariants as faults
 use Rattle.hx_record.specs.declared.piece.Tail.TheVariants.{Ends, Beyond, Open}
 use Rattle.hx_record.specs.declared.piece.Piece.{Piece}
 use Rattle.hx_record.specs.declared.piece.Piece.TheVariants.{Undecided, TooLong, Finish, Fault, Skip, Found}
-use Rattle.hx_record.specs.Refusal.{code_of}
 use Rattle.hx_record.specs.Record.{Items, Unknown, Bad, follow, tail_of}
-use Rattle.hx_record.specs.Reading.{State, MayFollow, items_behind, decided_now, Reads}
+use Rattle.hx_record.specs.State.{State, MayFollow, items_behind, decided_now}
 use Rattle.hx_record.proofs.PieceLemmas.{Takes}
 use Rattle.hx_record.proofs.PendingLemmas.{undecided_open}
-use Rattle.hx_record.proofs.StateLemmas.{now_takes, now_decided, skip_passes, found_passes, undecided_now, skip_now, skip_behind, found_behind, finish_behind, fault_behind, long_behind}
-use Rattle.hx_record.specs.Parts.{IsFound, piece_now, passed_by, Grows, IsOutside}
+use Rattle.hx_record.proofs.StateLemmas.{now_takes, now_decided, skip_passes, undecided_now, skip_now, skip_behind}
+use Rattle.hx_record.specs.Parts.{IsFound, piece_now, passed_by, Grows}
 
 -- ---- bytes that are told, in a row
 
@@ -129,82 +124,6 @@ pub asked_fill : {A : Type 0} (before s after : State) (left left' : Option (Lis
 asked_fill before s after left left' source source' source'' b a e = record {
   over = λ ended. both_ends s.ended (undecided_now_open s e).0 (b.stays ended).1;
   same = λ known. absurd (known (sym (a.same known).1 ∙ undecided_now s e));
-}
-
--- ---- what the call answers
-
-pub reads_found : (before s : State) (left left' : Option (List ℕ)) (used : ℕ) (event : Event) → Behind before s left left' → piece_now s ≡ Found used event → Reads before (passed_by s used) left left' (Ok (Some (record { offset = s.at; event = event })))
-reads_found before s left left' used event b e =
-    let fits = (found_passes s used event e).1 in
-    let moved = passes before s left left' used b fits in
-    record {
-      took = b.took;
-      consumed = b.consumed;
-      passed = b.passed ++ take used s.pending;
-      bytes = moved.0;
-      place = moved.1;
-      limit = b.limit;
-      stays = b.stays;
-      answers = λ ends more may. b.same ends more may ∙ found_behind s ends more used event may e;
-    }
-
-pub reads_none : (before s : State) (left left' : Option (List ℕ)) → Behind before s left left' → piece_now s ≡ Finish → Reads before s left left' (Ok None)
-reads_none before s left left' b e = record {
-  took = b.took;
-  consumed = b.consumed;
-  passed = b.passed;
-  bytes = b.bytes;
-  place = b.place;
-  limit = b.limit;
-  stays = b.stays;
-  answers = λ ends more may. let done = finish_behind s ends more may e in (b.same ends more may ∙ done, done);
-}
-
-pub reads_fault : (before s : State) (left left' : Option (List ℕ)) (skip : ℕ) (refusal : Refusal) → Behind before s left left' → piece_now s ≡ Fault skip refusal → Reads before s left left' (Err (faults.Bad (s.at + skip) (code_of refusal)))
-reads_fault before s left left' skip refusal b e = record {
-  took = b.took;
-  consumed = b.consumed;
-  passed = b.passed;
-  bytes = b.bytes;
-  place = b.place;
-  limit = b.limit;
-  stays = b.stays;
-  answers = λ ends more may. let bad = fault_behind s ends more skip refusal may e in (b.same ends more may ∙ bad, bad);
-}
-
-pub reads_long : (before s : State) (left left' : Option (List ℕ)) → Behind before s left left' → piece_now s ≡ TooLong → Reads before s left left' (Err (faults.Bad s.limit 4))
-reads_long before s left left' b e = record {
-  took = b.took;
-  consumed = b.consumed;
-  passed = b.passed;
-  bytes = b.bytes;
-  place = b.place;
-  limit = b.limit;
-  stays = b.stays;
-  answers = λ ends more may. let bad = long_behind s ends more may e in (b.same ends more may ∙ bad, bad);
-}
-
-pub reads_outside : (before s : State) (left left' left'' : Option (List ℕ)) (fault : RecordFault) → Behind before s left left' → Keeps left' left'' → IsOutside fault → Reads before s left left'' (Err fault)
-reads_outside before s left left' left'' (faults.Bad offset code) b k h = absurd h
-reads_outside before s left left' left'' faults.Failed b k h = record {
-  took = b.took;
-  consumed = consumes_keeps left left' left'' b.took b.consumed k;
-  passed = b.passed;
-  bytes = b.bytes;
-  place = b.place;
-  limit = b.limit;
-  stays = b.stays;
-  answers = λ ends more may. sym (b.same ends more may);
-}
-reads_outside before s left left' left'' faults.NoMemory b k h = record {
-  took = b.took;
-  consumed = consumes_keeps left left' left'' b.took b.consumed k;
-  passed = b.passed;
-  bytes = b.bytes;
-  place = b.place;
-  limit = b.limit;
-  stays = b.stays;
-  answers = λ ends more may. sym (b.same ends more may);
 }
 
 -- ---- how much is left to do

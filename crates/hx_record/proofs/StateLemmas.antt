@@ -10,7 +10,7 @@ use Rattle.hx_record.specs.declared.piece.Piece.TheVariants.{Undecided, TooLong,
 use Rattle.hx_record.specs.Refusal.{code_of}
 use Rattle.hx_record.specs.Piece.{piece}
 use Rattle.hx_record.specs.Record.{Unknown, Done, Bad, Then, follow, tail_of, items_from}
-use Rattle.hx_record.specs.Reading.{State, MayFollow, items_behind, decided_now}
+use Rattle.hx_record.specs.State.{State, MayFollow, items_behind, decided_now}
 use Rattle.hx_record.proofs.PieceLemmas.{Takes, takes, piece_decided}
 use Rattle.hx_record.proofs.WindowLemmas.{take_all}
 use Rattle.hx_record.proofs.ItemLemmas.{rest_step}

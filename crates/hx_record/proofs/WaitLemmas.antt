@@ -6,7 +6,7 @@ use Rattle.std.proofs.lemmas.List.{take-append-le}
 use Rattle.hx_record.specs.declared.refusal.Refusal.TheVariants as refusals
 use Rattle.hx_record.specs.declared.piece.Tail.TheVariants.{Open}
 use Rattle.hx_record.specs.declared.piece.Piece.TheVariants.{Undecided, Fault}
-use Rattle.hx_record.specs.Line.{Asks, line_says}
+use Rattle.hx_record.specs.Line.{Announces, line_says}
 use Rattle.hx_record.specs.Piece.{request, line_len, piece}
 use Rattle.hx_record.proofs.PieceLemmas.{piece_long, piece_whole, line_len-append}
 use Rattle.hx_record.specs.Parts.{IsWait}
@@ -25,7 +25,7 @@ unfolding request
 request_open id len used rest few = rw (le-ltb len (length rest) few) refl
 
 -- behind a line that asks for a request, its bytes and one more are wanted
-pub wait_request : (bytes : List ℕ) (id len line : ℕ) → piece Open bytes ≡ Undecided → line ≡ line_len bytes → line < length bytes → Ok (Asks id len) ≡ line_says (strip_last 13 (take line bytes)) → IsWait bytes (line + len + 2)
+pub wait_request : (bytes : List ℕ) (id len line : ℕ) → piece Open bytes ≡ Undecided → line ≡ line_len bytes → line < length bytes → Ok (Announces id len) ≡ line_says (strip_last 13 (take line bytes)) → IsWait bytes (line + len + 2)
 wait_request bytes id len line undecided first inside says more few = elim (cases_lt 65536 (line_len bytes)) [
   | inl long ↦ let no_fault : Fault 0 refusals.LineTooLong ≡ Undecided = sym (piece_long Open bytes long) ∙ undecided in cc
   | inr short ↦
@@ -34,6 +34,6 @@ wait_request bytes id len line undecided first inside says more few = elim (case
       let size = length-append bytes more in
       let whole = piece_whole Open (bytes ++ more) (omega arith) (omega arith) in
       let front : take (line_len bytes) (bytes ++ more) ≡ take (line_len bytes) bytes = take-append-le (line_len bytes) bytes more (omega arith) in
-      let said : line_says (strip_last 13 (take (line_len bytes) bytes)) ≡ Ok (Asks id len) = rw (← first) (sym says) in
+      let said : line_says (strip_last 13 (take (line_len bytes) bytes)) ≡ Ok (Announces id len) = rw (← first) (sym says) in
       whole ∙ rw (same, front, said) (request_open id len (line_len bytes + 1) (drop (line_len bytes + 1) (bytes ++ more)) (omega (arith, length-drop (line_len bytes + 1) (bytes ++ more))))
 ]

@@ -1,7 +1,7 @@
 -- What a reader's fields stand for.
 use Rattle.std.specs.Prelude.{◌≤◌}
 use Rattle.hx_record.specs.Piece.{line_len}
-use Rattle.hx_record.specs.Reading.{State}
+use Rattle.hx_record.specs.State.{State}
 use Rattle.hx_record.specs.declared.reader.Reader.TheInside.{Inside}
 use Rattle.hx_record.specs.Parts.{IsWait}
 

@@ -4,8 +4,9 @@ pub mod Said
 pub mod Piece
 pub mod Record
 pub mod InOrder
-pub mod Reading
+pub mod State
 pub mod Asking
+pub mod Reading
 pub mod Parts
 pub mod Held
 pub mod Window

@@ -15,14 +15,14 @@ use Rattle.hx_record.specs.declared.refusal.Refusal.TheVariants.{BadLine, BadNum
 pub data Said : Type 0 where
   Nothing : Said
   Says : (event : Event) → Said
-  Asks : (id len : ℕ) → Said
+  Announces : (id len : ℕ) → Said
 
 infixl 10 ◌>>=◌
 abbrev ◌>>=◌ : {A B : Type 0} → Result A Refusal → (A → Result B Refusal) → Result B Refusal
 Err refusal >>= f = Err refusal
 Ok a >>= f = f a
 
--- The words of a line: the pieces between its single spaces. So a word may be empty.
+-- The words of a line: what its spaces cut it into. Two spaces in a row have an empty word between them.
 abbrev pub words_of : List ℕ → List (List ℕ)
 words_of line = slice_split (λ b. b == 32) line
 
@@ -50,7 +50,7 @@ unfoldable pub req_says : List (List ℕ) → Result Said Refusal
 req_says (id ∷ len ∷ []) = do
   i ← number_of_word (2 ^ 32 - 1) id
   n ← number_of_word (2 ^ 20) len
-  Ok (Asks i n)
+  Ok (Announces i n)
 req_says _ = Err BadLine
 
 -- the word behind `close`: a number of 32 bits

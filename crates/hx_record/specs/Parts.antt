@@ -1,5 +1,5 @@
 -- What the parts of a reader do.
-use Rattle.std.specs.Prelude.{◌≡◌, ℕ, ◌+◌, ◌<◌, List, [], ◌++◌, length, drop, true, false, Option, Some}
+use Rattle.std.specs.Prelude.{◌≡◌, ℕ, ◌+◌, ◌<◌, List, [], ◌++◌, length, drop, true, false, Option, None, Some}
 use Rattle.std.specs.Io.KnownBytes.{Consumes, IsAtEnd}
 use Rattle.hx_outside.specs.Log.{Log, Logs}
 use Rattle.hx_record.specs.declared.fault.RecordFault.{RecordFault}
@@ -9,7 +9,7 @@ use Rattle.hx_record.specs.declared.piece.Piece.{Piece}
 use Rattle.hx_record.specs.declared.piece.Piece.TheVariants.{Undecided, Found}
 use Rattle.hx_record.specs.Piece.{piece}
 use Rattle.hx_record.specs.Record.{first_piece}
-use Rattle.hx_record.specs.Reading.{State}
+use Rattle.hx_record.specs.State.{State}
 
 -- the bytes begin with an event
 abbrev pub IsFound : Piece → Type 0
@@ -53,3 +53,9 @@ abbrev pub IsOutside : RecordFault → Type 0
 IsOutside (faults.Bad offset code) = ⊥
 IsOutside faults.Failed = Unit {0}
 IsOutside faults.NoMemory = Unit {0}
+
+-- a read that failed is in the log, and where memory ran out there was none
+abbrev pub Notes : RecordFault → Option Log → Option Log → Type 0
+Notes (faults.Bad offset code) old new = ⊥
+Notes faults.Failed old new = Logs old new None
+Notes faults.NoMemory old new = new ≡ old

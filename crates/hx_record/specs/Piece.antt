@@ -3,7 +3,7 @@ use Rattle.std.specs.Prelude.{ℕ, ◌+◌, List, [], ◌∷◌, length, take, d
 use Rattle.std.specs.List.{position_or_len}
 use Rattle.std.specs.Io.BufRead.{strip_last}
 use Rattle.memchr.specs.Find.{is_byte}
-use Rattle.hx_record.specs.Line.{Said, Nothing, Says, Asks, line_says}
+use Rattle.hx_record.specs.Line.{Said, Nothing, Says, Announces, line_says}
 use Rattle.hx_record.specs.declared.events.Event.TheVariants.{Req}
 use Rattle.hx_record.specs.declared.refusal.Refusal.{Refusal}
 use Rattle.hx_record.specs.declared.refusal.Refusal.TheVariants as refusals
@@ -31,7 +31,7 @@ abbrev pub of_line : Tail → Result Said Refusal → ℕ → List ℕ → Piece
 of_line tail (Err refusal) used rest = Fault 0 refusal
 of_line tail (Ok Nothing) used rest = Skip used
 of_line tail (Ok (Says event)) used rest = Found used event
-of_line tail (Ok (Asks id len)) used rest = request tail id len used rest
+of_line tail (Ok (Announces id len)) used rest = request tail id len used rest
 
 -- how many bytes stand before the first LF, or in all where there is none
 abbrev pub line_len : List ℕ → ℕ

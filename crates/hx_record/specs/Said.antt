@@ -1,6 +1,6 @@
 -- What the code reads in a line, in the words of the definitions.
 use Rattle.std.specs.Prelude.{◌≡◌, ℕ, List, [], ◌∷◌, Option, Some, None, Result, Ok, Err}
-use Rattle.hx_record.specs.Line.{Said, Nothing, Says, Asks, words_of}
+use Rattle.hx_record.specs.Line.{Said, Nothing, Says, Announces, words_of}
 use Rattle.hx_record.specs.declared.events.Event.TheVariants as events
 use Rattle.hx_record.specs.declared.refusal.Refusal.{Refusal}
 use Rattle.hx_record.specs.declared.line.Line.{Line}
@@ -10,7 +10,7 @@ use Rattle.hx_record.specs.declared.line.Line.TheVariants as lines
 abbrev pub said : Line → Said
 said lines.Skip = Nothing
 said (lines.Conn id src src_port dst dst_port) = Says (events.Conn id src src_port dst dst_port)
-said (lines.Req id len) = Asks id len
+said (lines.Req id len) = Announces id len
 said (lines.Close id) = Says (events.Close id)
 said (lines.Cli session text) = Says (events.Cli session text.now)
 

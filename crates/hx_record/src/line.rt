@@ -1,13 +1,11 @@
 ghost use Rattle.std.specs.Prelude.{◌≡◌, [], ◌∷◌, IsTrue, ◌↔◌, slice_index, MatchResult, IfOk, IfSome, ◌≤◌, None, ◌-◌, ◌^◌};
 ghost use Rattle.std.specs.Option.{option_copied};
-ghost use Rattle.std.specs.Io.BufRead.{strip_last};
 ghost use Rattle.hx_text.specs.Number.{number_up_to};
 ghost use Rattle.hx_record.specs.Line.{words_of, number_of_word, address_of_word, line_says, words_say, conn_says, req_says, close_says, cli_says};
 ghost use Rattle.hx_record.specs.Said.{what_is_said, words_after, IsSomeWords};
 
-use crate::find::first_at;
 use crate::refusal::Refusal;
-use hx_text::{Ip, read_ip, read_number};
+use hx_text::{Ip, cut_at, read_ip, read_number};
 
 /// How many bytes a request has at most.
 const REQUEST_MAX: u32 = 1_048_576;
@@ -63,17 +61,13 @@ fn address(word: &[u8]) -> Result<Ip, Refusal>
 }
 
 /// The text before the first space, and what stands behind it, where there is one.
-#[tactic(auto, using(crate::proofs::WordLemmas::words_cut, crate::proofs::WordLemmas::words_whole))]
 fn cut(text: &[u8]) -> (&[u8], Option<&[u8]>)
     ensures { words_of text.now ≡ result.0.now ∷ words_after (option_copied result.1) }
 {
-    let at = first_at(b' ', text, 0);
-    if at == text.len() {
-        return (text, None);
+    match cut_at(b' ', text) {
+        Some((word, rest)) => (word, Some(rest)),
+        None => (text, None),
     }
-    let (word, behind) = text.split_at(at);
-    let (_, rest) = behind.split_at(1);
-    (word, Some(rest))
 }
 
 /// The next word, and what stands behind it. Refused where none is left.
@@ -185,15 +179,5 @@ pub(crate) fn read_line(line: &[u8]) -> Result<Line<'_>, Refusal>
     match line {
         [] | [b'#', ..] => Ok(Line::Skip),
         _ => read_words(line),
-    }
-}
-
-/// The line without the CR that ends it, where there is one.
-pub(crate) fn without_cr(line: &[u8]) -> &[u8]
-    ensures { result.now ≡ strip_last 13 line.now }
-{
-    match line {
-        [front @ .., b'\r'] => front,
-        _ => line,
     }
 }

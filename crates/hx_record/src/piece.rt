@@ -6,9 +6,9 @@ ghost use Rattle.hx_record.specs.Parts.{IsFound, IsWait};
 
 use crate::events::Event;
 use crate::find::first_at;
-use crate::line::{Line, read_line, without_cr};
+use crate::line::{Line, read_line};
 use crate::refusal::Refusal;
-use hx_text::{NoMemory, Octets};
+use hx_text::{NoMemory, Octets, without_cr};
 use std::alloc::Global;
 
 /// How many bytes a line has at most before its LF.

@@ -1,11 +1,10 @@
 ghost use Rattle.std.specs.Prelude.{◌≡◌, ◌≢◌, ℕ, ◌+◌, ◌-◌, ◌<◌, ◌≤◌, [], true, false, Ok, Err, Some, None, length, IfOk, IfErr, OnOk, OnErr, IsSome};
 ghost use Rattle.std.specs.Io.KnownBytes.{Keeps, IsAtEnd};
 ghost use Rattle.hx_outside.specs.Count.{Rose};
-ghost use Rattle.hx_outside.specs.Log.{Since};
 ghost use Rattle.hx_record.specs.Record.{Unknown, Bad};
-ghost use Rattle.hx_record.specs.Reading.{State, MayFollow, items_behind, decided_now, Reads};
-ghost use Rattle.hx_record.specs.Asking.{Asks, Notes};
-ghost use Rattle.hx_record.specs.Parts.{IsFound, piece_now, passed_by, Grows, IsOutside};
+ghost use Rattle.hx_record.specs.State.{State, decided_now};
+ghost use Rattle.hx_record.specs.Reading.{Reads};
+ghost use Rattle.hx_record.specs.Parts.{IsFound, piece_now, passed_by, Grows, IsOutside, Notes};
 
 use crate::events::Placed;
 use crate::fault::RecordFault;
@@ -35,7 +34,7 @@ pub struct Reader {
 }
 
 impl Model for Reader {
-    ghost use Rattle.hx_record.specs.Reading.{State};
+    ghost use Rattle.hx_record.specs.State.{State};
 
     ghost Value = { State };
 
@@ -66,17 +65,18 @@ impl Reader {
     /// The next event of the record, and the place at which its line begins. None at the record's
     /// end.
     ///
-    /// `source` is the same at each call of one reader. It is asked only where the bytes that it
+    /// `source` is the same at each call of one reader. It is read only where the bytes that it
     /// gave don't tell the next item, and no more once it told its end. `Bad` where the record is
-    /// refused: each later call answers the same. `Failed` only where the source's count of faults
-    /// rose in this call, and `NoMemory` where memory runs out: a later call goes on with the bytes
-    /// that were taken.
+    /// refused: each later call answers the same. `Failed` exactly where a read failed, which the
+    /// source counts, and `NoMemory` where memory runs out: nothing that was read is lost, and a
+    /// later call goes on from there.
     pub fn next_event<S: Source>(&mut self, source: &mut S) -> Result<Option<Placed>, RecordFault>
         requires { self.old.ended ≡ true → IsAtEnd (S.left source.old) }
 
-        // Which bytes were taken and passed, and that the answer is the first item of what is left,
-        // whatever follows.
-        ensures reads { Reads self.old self.new (S.left source.old) (S.left source.new) result }
+        // Which bytes were taken, by which reads, and passed, and that the answer is the first item
+        // of what is left, whatever follows.
+        ensures reads { Reads self.old self.new (S.left source.old) (S.left source.new)
+            (S.log source.old) (S.log source.new) result }
         ensures moves { IfOk result (λ event. IsSome event
             → (self.old.at < self.new.at) × (self.new.at ≤ self.new.limit)) }
 
@@ -87,12 +87,10 @@ impl Reader {
         ensures failed { result ≡ Err RecordFault.Failed
             → Rose (S.faults source.old) (S.faults source.new) }
         ensures undecided { result ≡ Err RecordFault.Failed
-            → (self.new.ended ≡ false) × (items_behind self.new false [] ≡ Unknown) }
+            → (self.new.ended ≡ false) × (decided_now self.new ≡ Unknown) }
 
-        // The source is read only where the bytes that it gave tell no item, and no more once it
-        // told its end: by its log, where it tells one, and else at the beginning of a call.
-        ensures asks { Since (S.log source.old) (S.log source.new)
-            (λ reads. Asks self.old self.new reads) }
+        // `reads` says of each read that it was due, for a source that tells its log. These say of
+        // any source that it is left alone where none is due when the call begins.
         ensures unasked { decided_now self.old ≢ Unknown → source.new ≡ source.old }
         ensures over { self.old.ended ≡ true → source.new ≡ source.old }
 

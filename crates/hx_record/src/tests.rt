@@ -277,12 +277,13 @@ fn pieces_of_any_size_give_what_the_whole_gives(rt: HostRuntime) -> Result<(), F
 #[test]
 fn a_source_is_read_only_while_the_next_event_is_undecided(rt: HostRuntime) -> Result<(), Fail> {
     let closes = b"close 1\n#\nclose 2\nclose 3";
-    let cases: [(&[u8], usize, &[u64], &str); 6] = [
+    let cases: [(&[u8], usize, &[u64], &str); 7] = [
         (closes, 100, &[], "1 1 2 2 2 2 "),
         (closes, 8, &[], "1 3 5 5 5 5 "),
         (closes, 9, &[], "1 2 4 4 4 4 "),
         (closes, 9, &[2, 3], "1 2 3 4 6 6 "),
         (b"close 1\nreq 1 3\nabcclose 2\n", 20, &[], "1 1 1 1 1 1 "),
+        (b"close x\nclose 1\n", 8, &[], "1 1 1 1 1 1 "),
         (b"", 1, &[1, 2], "1 2 3 3 3 3 "),
     ];
     for (bytes, piece, fails, want) in cases {

@@ -1,11 +1,12 @@
 ghost use Rattle.std.specs.Prelude.{◌≡◌, [], ◌∷◌, IfSome, IfNone, option_map};
+ghost use Rattle.std.specs.Io.BufRead.{strip_last};
 ghost use Rattle.hx_text.specs.Address.{pieces, cut_of, last_cut_of};
 
 use memchr::{memchr, memrchr};
 
 /// The text before the first byte of this value, and the text after it. None exactly where no byte
 /// has the value.
-pub(crate) fn cut_at(byte: u8, text: &[u8]) -> Option<(&[u8], &[u8])>
+pub fn cut_at(byte: u8, text: &[u8]) -> Option<(&[u8], &[u8])>
     ensures value { option_map (λ p. (p.0.now, p.1.now)) result ≡ cut_of byte text.now }
     ensures cut { IfSome result (λ p. pieces byte text.now ≡ p.0.now ∷ pieces byte p.1.now) }
     ensures whole { IfNone result (pieces byte text.now ≡ text.now ∷ []) }
@@ -28,5 +29,15 @@ pub(crate) fn cut_behind_last(byte: u8, text: &[u8]) -> Option<(&[u8], &[u8])>
     match memrchr(byte, text) {
         Some(at) => Some(text.split_at(at + 1)),
         None => None,
+    }
+}
+
+/// The line without the one carriage return that may end it.
+pub fn without_cr(line: &[u8]) -> &[u8]
+    ensures { result.now ≡ strip_last 13 line.now }
+{
+    match line {
+        [front @ .., b'\r'] => front,
+        _ => line,
     }
 }

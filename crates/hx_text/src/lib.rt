@@ -15,6 +15,7 @@ mod printing;
 mod tests;
 
 pub use address::{Ip, read_ip};
+pub use cut::{cut_at, without_cr};
 pub use fault::NoMemory;
 pub use kinds::{By, Kind, Out};
 pub use mapping::{map4to6, mapped_stands_for, six_to_four};

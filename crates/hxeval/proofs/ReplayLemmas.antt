@@ -4,8 +4,10 @@ use mathlib.Core.Bool.{true≢false}
 use Rattle.std.specs.Io.KnownBytes.{Appends, Consumes, IsAtEnd}
 use Rattle.std.proofs.KnownBytes.{Appends-trans, Appends-nil, Consumes-trans, Consumes-nil}
 use Rattle.hx_outside.specs.Fronts.{AppendsFront}
+use Rattle.hx_outside.specs.Log.{Log}
 use Rattle.hx_record.specs.Record.{Items, Unknown, items_from, decided}
-use Rattle.hx_record.specs.Reading.{State, items_behind, MayFollow, Answers, Reads}
+use Rattle.hx_record.specs.State.{State, items_behind, decided_now, MayFollow}
+use Rattle.hx_record.specs.Reading.{Answers, Reads}
 use Rattle.hx_record.specs.declared.Event.{Event}
 use Rattle.hx_record.specs.declared.Event.TheVariants.{Conn, Req, Close, Cli}
 use Rattle.hx_record.specs.declared.Placed.{Placed}
@@ -50,8 +52,8 @@ answered_start rules left out = record {
 }
 
 -- a call of the reader
-pub answered_reads : (rules : List Rule) (world : World) (s s' : State) (left left' left'' old new : Option (List ℕ)) (result : Result (Option Placed) RecordFault)
-    → Answered AreSame rules world s left left' old new → Reads s s' left' left'' result
+pub answered_reads : {log log' : Option Log} → (rules : List Rule) (world : World) (s s' : State) (left left' left'' old new : Option (List ℕ)) (result : Result (Option Placed) RecordFault)
+    → Answered AreSame rules world s left left' old new → Reads s s' left' left'' log log' result
     → Answered (Answer result) rules world s' left left'' old new
 answered_reads rules world s s' left left' left'' old new result a r = record {
   took = a.took ++ r.took;
@@ -177,10 +179,11 @@ told_decided rules world s left left' old new a going undecided =
 -- the same of any fault of the reader that is the source's
 pub told_source : (rules : List Rule) (world : World) (s : State) (left left' old new : Option (List ℕ)) (fault : RecordFault) → reader_fault fault ≡ Source
     → Answered (Answer (Err fault)) rules world s left left' old new
-    → (fault ≡ reader.Failed → (s.ended ≡ false) × (items_behind s false [] ≡ Unknown)) → ToldDecided rules left left' old new
+    → (fault ≡ reader.Failed → (s.ended ≡ false) × (decided_now s ≡ Unknown)) → ToldDecided rules left left' old new
 told_source rules world s left left' old new (reader.Bad offset code) is a undecided = cc
 told_source rules world s left left' old new reader.Failed is a undecided =
-    let (going, unknown) = undecided refl in told_decided rules world s left left' old new a going unknown
+    let (going, unknown) = undecided refl in
+    told_decided rules world s left left' old new a going (ap (λ ends. items_behind s ends []) (sym going) ∙ unknown)
 told_source rules world s left left' old new reader.NoMemory is a undecided = cc
 
 -- an event that is answered

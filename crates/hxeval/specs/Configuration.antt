@@ -1,7 +1,8 @@
 -- The configuration: its lines, the rules that they spell, and the first line with a fault.
 -- (HAProxy configuration manual 2.4, sections 2.1 and 2.2.)
-use Rattle.std.specs.Prelude.{ℕ, ◌+◌, ◌-◌, ◌==◌, List, [], ◌∷◌, ◌++◌, length, take, Option, None, Some, Result, Ok, Err, if◌then◌else◌, slice_index, unwrap_or, option_to_list}
+use Rattle.std.specs.Prelude.{ℕ, ◌+◌, List, [], ◌∷◌, ◌++◌, Option, None, Some, Result, Ok, Err, unwrap_or, option_to_list}
 use Rattle.std.specs.List.{slice_split}
+use Rattle.std.specs.Io.BufRead.{strip_last}
 use Rattle.memchr.specs.Find.{is_byte}
 use Rattle.hx_words.specs.Fault.{word_fault_code}
 use Rattle.hx_words.specs.Variable.{Env}
@@ -10,10 +11,6 @@ use Rattle.hx_words.specs.declared.WordFault.{WordFault}
 use Rattle.hxeval.specs.Rules.{Rule}
 use Rattle.hxeval.specs.Statement.{rule_of}
 use Rattle.hxeval.specs.declared.load.Refusal.{Refusal}
-
--- a line without the one carriage return that may end it
-abbrev pub without_return : List ℕ → List ℕ
-without_return line = if slice_index line (length line - 1) == 13 then take (length line - 1) line else line
 
 -- the code of a statement that isn't supported
 abbrev pub unsupported : ℕ
@@ -43,10 +40,10 @@ then_rules (Err code) number behind = Err (record { line = number; code = code }
 then_rules (Ok rule) number (Ok more) = Ok (option_to_list rule ++ more)
 then_rules (Ok rule) number (Err refusal) = Err refusal
 
--- the rules of lines, the first of which has this number
+-- the rules of lines, the first of which has this number; a carriage return that ends a line is no part of it
 abbrev pub loaded_from : Env → ℕ → List (List ℕ) → Result (List Rule) Refusal
 loaded_from env number [] = Ok []
-loaded_from env number (line ∷ lines) = then_rules (line_rule env (without_return line)) number (loaded_from env (number + 1) lines)
+loaded_from env number (line ∷ lines) = then_rules (line_rule env (strip_last 13 line)) number (loaded_from env (number + 1) lines)
 
 -- a configuration, cut at line feeds: its rules in order, or the first line with a fault, counted from 1, and its code
 unfoldable pub loaded : Env → List ℕ → Result (List Rule) Refusal

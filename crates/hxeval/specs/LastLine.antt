@@ -7,6 +7,11 @@ pub record Kept : Type 0 where
   pub line : List ℕ
   pub ended : Bool
 
+-- a sink beside what is kept of the last line that went through it
+pub record Watched (K : Type 0) : Type 0 where
+  pub sink : K
+  pub tail : Kept
+
 -- bytes with one more behind them, up to 64
 abbrev pub up_to_64 : List ℕ → ℕ → List ℕ
 up_to_64 line byte = if nat_lt (length line) 64 then line ++ byte ∷ [] else line

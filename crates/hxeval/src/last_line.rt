@@ -86,17 +86,25 @@ fn store(line: &mut [u8; MAX_KEPT_LEN], len: usize, byte: u8) -> usize
 }
 
 /// A sink that hands on all that it is given, and keeps the beginning of the last line that went through it.
+/// Contracts see the sink, and what is kept.
 #[derive(Drop)]
 pub struct LastLine<K> {
     sink: K,
     tail: Tail,
 }
 
+impl<K> Model for LastLine<K> {
+    ghost use Rattle.hxeval.specs.LastLine.{Watched};
+
+    ghost Value = { Watched K };
+
+    ghost view = { λ out. record { sink = out.sink; tail = out.tail } };
+}
+
 impl<K> LastLine<K> {
     /// Before any line, over this sink.
     pub fn new(sink: K) -> LastLine<K>
-        ensures sink { result.sink ≡ sink }
-        ensures tail { result.tail ≡ record { line = []; ended = true } }
+        ensures { result ≡ record { sink = sink; tail = record { line = []; ended = true } } }
     {
         LastLine {
             sink,
@@ -117,9 +125,9 @@ impl<K> LastLine<K> {
 }
 
 impl<K: Sink> Sink for LastLine<K> {
-    ghost written = { λ kept. K.written kept.sink };
+    ghost written = { λ out. K.written out.sink };
 
-    ghost faults = { λ kept. K.faults kept.sink };
+    ghost faults = { λ out. K.faults out.sink };
 
     fn write(&mut self, bytes: &[u8]) -> Result<usize, SinkFault>
         requires { 0 < length bytes.now }

@@ -1,12 +1,12 @@
 ghost use Rattle.std.specs.Prelude.{◌≡◌, ℕ, ◌≤◌, List, IfOk, IfSome, Ok, Err, length};
 ghost use Rattle.hx_words.specs.Variable.{pairs_of};
-ghost use Rattle.hxeval.specs.Configuration.{without_return, line_rule, loaded};
+ghost use Rattle.hxeval.specs.Configuration.{line_rule, loaded};
 ghost use Rattle.hxeval.specs.declared.load.Refusal.{Refusal};
 
 use crate::bytes::cut;
 use crate::rules::{Rule, Rules};
 use crate::statement::rule_of;
-use hx_text::NoMemory;
+use hx_text::{NoMemory, without_cr};
 use hx_words::split;
 use std::alloc::Global;
 use thiserror::Error;
@@ -58,7 +58,7 @@ pub fn load(alloc: Global, env: &[(Vec<u8>, Vec<u8>)], config: &[u8]) -> Result<
     'lines: while let Some(text) = rest {
         let (line, behind) = cut(text, b'\n');
         number += 1;
-        if let Some(rule) = line_rule(alloc, env, without_return(line), number)? {
+        if let Some(rule) = line_rule(alloc, env, without_cr(line), number)? {
             rules.push(rule)?;
         }
         rest = behind;
@@ -98,15 +98,5 @@ fn line_rule(
             })),
             None => Err(LoadFault::NoMemory),
         },
-    }
-}
-
-/// A line without the one carriage return that may end it.
-fn without_return(line: &[u8]) -> &[u8]
-    ensures { result.now ≡ without_return line.now }
-{
-    match line.split_last() {
-        Some((b'\r', rest)) => rest,
-        _ => line,
     }
 }

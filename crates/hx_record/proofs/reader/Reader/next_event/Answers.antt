@@ -1,11 +1,13 @@
 use Rattle.std.proofs.Common.{◌≡◌, ◌∙◌, sym, arith}
 use Rattle.std.proofs.Common.{add-zero}
 use Rattle.std.proofs.lemmas.Bool.{false≢true}
+use Rattle.std.proofs.lemmas.Result.{err_from_is_err_and}
 use Rattle.hx_record.specs.Record.{Unknown, Bad}
-use Rattle.hx_record.specs.Reading.{decided_now}
+use Rattle.hx_record.specs.State.{decided_now}
 use Rattle.hx_record.proofs.StateLemmas.{skip_passes, found_passes, fault_within, undecided_now, found_now, finish_now, fault_now, long_now}
-use Rattle.hx_record.proofs.ReadLemmas.{behind_start, behind_skip, behind_fill, asked_start, asked_skip, asked_fill, reads_found, reads_none, reads_fault, reads_long, undecided_now_open, undecided_items, finish_ended, told, found_no_fault, work_skip, work_fill}
-use Rattle.hx_record.proofs.AskLemmas.{asks_start, asks_skip, asks_fill, asks_now, asks_found, asks_outside}
+use Rattle.hx_record.proofs.ReadLemmas.{behind_start, behind_skip, behind_fill, asked_start, asked_skip, asked_fill, undecided_now_open, undecided_items, finish_ended, told, found_no_fault, work_skip, work_fill}
+use Rattle.hx_record.proofs.AskLemmas.{asks_start, asks_skip, asks_fill}
+use Rattle.hx_record.proofs.AnswerLemmas.{reads_found, reads_none, reads_fault, reads_long, reads_no_memory, reads_outside}
 use Rattle.hx_record.proofs.reader.Reader.next_event.Goals as goal
 
 pub pieces-init : goal.pieces-init
@@ -61,23 +63,41 @@ advance-requires-in-Found-clause-limit g c =
     let e = sym c.in_ok-judge.ensures.ok ∙ c.in-Found.is in
     rw c.judge.ensures.same ((found_passes c.pieces.self c.in-Found.used c.in-Found.event e).2 c.judge.ensures.place)
 
+pub returns-in_err-judge-clause-reads : goal.returns-in_err-judge-clause-reads
+returns-in_err-judge-clause-reads g c =
+    let left = g.S.Source.left in
+    let log = g.S.Source.log in
+    let p = err_from_is_err_and c.from_residual.result c.from_residual.ensures.1 in
+    rw (p.1, p.2, c.judge.ensures.same) (reads_no_memory c.args.self.now c.pieces.self (left c.args.source.now) (left c.pieces.source) (log c.args.source.now) (log c.pieces.source) c.pieces.invariant.behind c.pieces.invariant.asks)
+
+pub returns-in-Err-clause-reads : goal.returns-in-Err-clause-reads
+returns-in-Err-clause-reads g c =
+    let left = g.S.Source.left in
+    let log = g.S.Source.log in
+    let e = sym c.in_ok-judge.ensures.ok ∙ c.in-Undecided.is in
+    rw (c.in-Err.ensures.err, c.judge.ensures.same) (reads_outside c.args.self.now c.pieces.self (left c.args.source.now) (left c.pieces.source) (left c.fill.new.source)
+    (log c.args.source.now) (log c.pieces.source) (log c.fill.new.source) c.in-Err.fault c.pieces.invariant.behind c.pieces.invariant.asks e c.in-Err.ensures.kept c.in-Err.ensures.log)
+
 pub returns-in-Found-clause-reads : goal.returns-in-Found-clause-reads
 returns-in-Found-clause-reads g c =
     let left = g.S.Source.left in
+    let log = g.S.Source.log in
     let e = sym c.in_ok-judge.ensures.ok ∙ c.in-Found.is in
-    rw (c.place-offset.ensures, c.advance-in-Found.ensures, c.judge.ensures.same, add-zero) (reads_found c.args.self.now c.pieces.self (left c.args.source.now) (left c.pieces.source) c.in-Found.used c.in-Found.event c.pieces.invariant.behind e)
+    rw (c.place-offset.ensures, c.advance-in-Found.ensures, c.judge.ensures.same, add-zero) (reads_found c.args.self.now c.pieces.self (left c.args.source.now) (left c.pieces.source) (log c.args.source.now) (log c.pieces.source) c.in-Found.used c.in-Found.event c.pieces.invariant.behind c.pieces.invariant.asks e)
 
 pub returns-in-Finish-clause-reads : goal.returns-in-Finish-clause-reads
 returns-in-Finish-clause-reads g c =
     let left = g.S.Source.left in
+    let log = g.S.Source.log in
     let e = sym c.in_ok-judge.ensures.ok ∙ c.in-Finish.is in
-    rw c.judge.ensures.same (reads_none c.args.self.now c.pieces.self (left c.args.source.now) (left c.pieces.source) c.pieces.invariant.behind e)
+    rw c.judge.ensures.same (reads_none c.args.self.now c.pieces.self (left c.args.source.now) (left c.pieces.source) (log c.args.source.now) (log c.pieces.source) c.pieces.invariant.behind c.pieces.invariant.asks e)
 
 pub returns-in-TooLong-clause-reads : goal.returns-in-TooLong-clause-reads
 returns-in-TooLong-clause-reads g c =
     let left = g.S.Source.left in
+    let log = g.S.Source.log in
     let e = sym c.in_ok-judge.ensures.ok ∙ c.in-TooLong.is in
-    rw (c.limit-offset.ensures, c.code.ensures, c.judge.ensures.same) (reads_long c.args.self.now c.pieces.self (left c.args.source.now) (left c.pieces.source) c.pieces.invariant.behind e)
+    rw (c.limit-offset.ensures, c.code.ensures, c.judge.ensures.same) (reads_long c.args.self.now c.pieces.self (left c.args.source.now) (left c.pieces.source) (log c.args.source.now) (log c.pieces.source) c.pieces.invariant.behind c.pieces.invariant.asks e)
 
 pub place-offset-requires-in-Fault : goal.place-offset-requires-in-Fault
 place-offset-requires-in-Fault g c =
@@ -87,8 +107,9 @@ place-offset-requires-in-Fault g c =
 pub returns-in-Fault-clause-reads : goal.returns-in-Fault-clause-reads
 returns-in-Fault-clause-reads g c =
     let left = g.S.Source.left in
+    let log = g.S.Source.log in
     let e = sym c.in_ok-judge.ensures.ok ∙ c.in-Fault.is in
-    rw (c.place-offset-in-Fault.ensures, c.code-in-Fault.ensures, c.judge.ensures.same) (reads_fault c.args.self.now c.pieces.self (left c.args.source.now) (left c.pieces.source) c.in-Fault.skip c.in-Fault.refusal c.pieces.invariant.behind e)
+    rw (c.place-offset-in-Fault.ensures, c.code-in-Fault.ensures, c.judge.ensures.same) (reads_fault c.args.self.now c.pieces.self (left c.args.source.now) (left c.pieces.source) (log c.args.source.now) (log c.pieces.source) c.in-Fault.skip c.in-Fault.refusal c.pieces.invariant.behind c.pieces.invariant.asks e)
 
 -- what was refused at first
 
@@ -157,7 +178,7 @@ returns-in-Err-clause-ended g c =
 pub returns-in-Err-clause-undecided : goal.returns-in-Err-clause-undecided
 returns-in-Err-clause-undecided g c failed =
     let e = sym c.in_ok-judge.ensures.ok ∙ c.in-Undecided.is in
-    rw (c.in-Err.ensures.err, c.judge.ensures.same) (undecided_items c.pieces.self e)
+    rw (c.in-Err.ensures.err, c.judge.ensures.same) ((undecided_items c.pieces.self e).0, undecided_now c.pieces.self e)
 
 pub returns-in-Err-clause-unasked : goal.returns-in-Err-clause-unasked
 returns-in-Err-clause-unasked g c known =
@@ -209,45 +230,3 @@ pieces-preserved-in-Ok g c =
       ended = λ over. (grows.ended over).1;
       later = omega (arith, so_far.later, c.in-Ok.ensures.later);
     }
-
--- when the source was read
-
-pub returns-in_err-judge-clause-asks : goal.returns-in_err-judge-clause-asks
-returns-in_err-judge-clause-asks g c =
-    let left = g.S.Source.left in
-    let log = g.S.Source.log in
-    rw c.judge.ensures.same (asks_now c.args.self.now c.pieces.self (left c.args.source.now) (left c.pieces.source) (log c.args.source.now) (log c.pieces.source) c.pieces.invariant.behind c.pieces.invariant.asks)
-
-pub returns-in-Err-clause-asks : goal.returns-in-Err-clause-asks
-returns-in-Err-clause-asks g c =
-    let left = g.S.Source.left in
-    let log = g.S.Source.log in
-    let e = sym c.in_ok-judge.ensures.ok ∙ c.in-Undecided.is in
-    rw (c.in-Err.ensures.err, c.judge.ensures.same) (asks_outside c.args.self.now c.pieces.self (left c.args.source.now) (left c.pieces.source) (log c.args.source.now) (log c.pieces.source) (log c.fill.new.source)
-    c.in-Err.fault c.pieces.invariant.behind e c.in-Err.ensures.log c.pieces.invariant.asks)
-
-pub returns-in-Found-clause-asks : goal.returns-in-Found-clause-asks
-returns-in-Found-clause-asks g c =
-    let left = g.S.Source.left in
-    let log = g.S.Source.log in
-    let e = sym c.in_ok-judge.ensures.ok ∙ c.in-Found.is in
-    rw (c.advance-in-Found.ensures, c.judge.ensures.same) (asks_found c.args.self.now c.pieces.self (left c.args.source.now) (left c.pieces.source) (log c.args.source.now) (log c.pieces.source)
-    c.in-Found.used c.in-Found.event c.pieces.invariant.behind e c.pieces.invariant.asks)
-
-pub returns-in-Finish-clause-asks : goal.returns-in-Finish-clause-asks
-returns-in-Finish-clause-asks g c =
-    let left = g.S.Source.left in
-    let log = g.S.Source.log in
-    rw c.judge.ensures.same (asks_now c.args.self.now c.pieces.self (left c.args.source.now) (left c.pieces.source) (log c.args.source.now) (log c.pieces.source) c.pieces.invariant.behind c.pieces.invariant.asks)
-
-pub returns-in-TooLong-clause-asks : goal.returns-in-TooLong-clause-asks
-returns-in-TooLong-clause-asks g c =
-    let left = g.S.Source.left in
-    let log = g.S.Source.log in
-    rw c.judge.ensures.same (asks_now c.args.self.now c.pieces.self (left c.args.source.now) (left c.pieces.source) (log c.args.source.now) (log c.pieces.source) c.pieces.invariant.behind c.pieces.invariant.asks)
-
-pub returns-in-Fault-clause-asks : goal.returns-in-Fault-clause-asks
-returns-in-Fault-clause-asks g c =
-    let left = g.S.Source.left in
-    let log = g.S.Source.log in
-    rw c.judge.ensures.same (asks_now c.args.self.now c.pieces.self (left c.args.source.now) (left c.pieces.source) (log c.args.source.now) (log c.pieces.source) c.pieces.invariant.behind c.pieces.invariant.asks)

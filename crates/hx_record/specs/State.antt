@@ -1,0 +1,23 @@
+-- What a reader tells of itself.
+use Rattle.std.specs.Prelude.{◌≡◌, ℕ, List, [], ◌++◌, Bool, true}
+use Rattle.hx_record.specs.Record.{Items, items_from}
+
+-- The limit on the whole record, how many bytes of it the reader has passed, the bytes that it took from there on, and
+-- whether a read told it the record's end.
+pub record State : Type 0 where
+  pub limit : ℕ
+  pub at : ℕ
+  pub pending : List ℕ
+  pub ended : Bool
+
+-- the items that are left, where `more` follows the pending bytes, and where `ends` the record ends behind them
+abbrev pub items_behind : State → Bool → List ℕ → Items
+items_behind s ends more = items_from ends s.at (s.pending ++ more) s.limit
+
+-- the items that the reader can tell without another read
+abbrev pub decided_now : State → Items
+decided_now s = items_behind s s.ended []
+
+-- behind the record's end nothing follows, and else anything may
+abbrev pub MayFollow : State → Bool → List ℕ → Type 0
+MayFollow s ends more = s.ended ≡ true → (more ≡ []) × (ends ≡ true)
