@@ -20,10 +20,10 @@ impl<'a> Model for HdrValues<'a> {
     ghost view = { λ values. hdr_values_left (option_copied values.rest) };
 }
 
-/// The values of a header line, in their order: the line is cut at the commas outside quoted
-/// strings, and each piece loses the blanks (space, tab) at its ends. A quoted string runs from `"`
-/// to the next `"` that no backslash precedes as a pair, or to the end of the line, and stays as it
-/// is written. Empty pieces count: the empty line has one empty value.
+/// The values of a header line, in their order. Commas separate them, except inside a quoted string:
+/// from `"` to the next `"`, where a backslash takes the byte behind it along, or else to the end of
+/// the line. A value has no space or tab at its ends, keeps its quotes as they are written, and may
+/// be empty: the empty line has one empty value.
 #[tactic(auto, using(crate::proofs::Lengths::lengths))]
 pub fn hdr_values<'a>(line: &'a [u8]) -> HdrValues<'a>
     ensures list { result ≡ hdr_values line.now }

@@ -1,18 +1,19 @@
 //! The record: recorded traffic as lines and requests, read from a source in pieces of any size.
 //!
-//! A line ends with LF or the record's end, and a CR before that belongs to its ending. A line that
-//! is empty or begins with `#` says nothing. The others are words with one space between each two:
+//! LF or the record's end ends a line, and one CR before that is dropped. Empty lines and comments,
+//! which begin with `#`, say nothing. Any other line is words, cut at each space:
 //!
 //! - `conn ID SRC SPORT DST DPORT`: a connection opens between two addresses with their ports;
-//! - `req ID LEN`: the LEN bytes behind the line are a request, which LF or the record's end follows;
+//! - `req ID LEN`: a request, which is the LEN bytes behind the line, with LF or the record's end
+//!   behind them;
 //! - `close ID`: a connection closes;
-//! - `cli SESSION TEXT`: a line of management, where TEXT is the rest of the line, and may be missing.
+//! - `cli SESSION TEXT`: a line of management, where TEXT is all that follows, if anything does.
 //!
-//! ID and SESSION have 32 bits, ports 16, and LEN is at most 1,048,576, each in one or more decimal
-//! digits. A line has at most 65,536 bytes before its LF. `RecordFault` has the codes of refusals.
-//! Within a line its length is judged first, then its first word and the number of its words, then
-//! word by word from the left. Where telling what comes next takes the byte at the reader's limit,
-//! and it is there, the record is too long.
+//! Numbers are decimal digits: ID and SESSION have 32 bits, ports 16, and LEN is 1,048,576 at most.
+//! A line has 65,536 bytes at most before its LF. `RecordFault` has the codes of refusals. Of several
+//! faults in a line, its length is told before its first word and the number of its words, and that
+//! before its other words, the leftmost first. A record is too long where the byte at the reader's
+//! limit is there and the bytes before it don't settle what comes next.
 #![tactic(auto)]
 
 mod events;
