@@ -28,9 +28,9 @@ FailureIsTold result [] = result ≢ Err Failed
 FailureIsTold result (None ∷ reads) = (reads ≡ []) × (result ≡ Err Failed)
 FailureIsTold result (Some got ∷ reads) = FailureIsTold result reads
 
--- The reads of a call that found the one state: each was due, they gave what makes the other state of it, and the result
--- tells a failure.
-pub record WereDue {A : Type 0} (before then_ : State) (result : Result A RecordFault) (reads : Log) : Type 0 where
+-- The reads of a call: each was due at the state before them, what they gave makes the state behind them of it, and the
+-- result tells a failure.
+pub record WereDue {A : Type 0} (before behind : State) (result : Result A RecordFault) (reads : Log) : Type 0 where
   pub due : AreDue before reads
-  pub gave : after_reads before reads ≡ then_
+  pub gave : after_reads before reads ≡ behind
   pub told : FailureIsTold result reads
