@@ -1,16 +1,16 @@
--- The IPv6 texts of std's grammar, and the address that each writes.
+-- The IPv6 texts of std's grammar, and the groups that each writes.
 use Rattle.std.proofs.Common.{◌≡◌, ℕ, List, [], ◌∷◌, length, Some, None, sym, ◌∙◌, subst, append-nil, ne_eqb, arith, refl, Bool, false, true, ◌+◌, ◌*◌, ◌<◌, ◌≤◌, length-append, inl, inr, ap, ◌++◌}
 use Rattle.std.specs.Net.Grammar.{IsDotted, IsGroupsAfter, IsColonHex}
 use Rattle.std.specs.Net.Addr.{segments_of}
-use Rattle.std.specs.Option.{option_and_then}
+use Rattle.std.specs.Option.{option_and_then, option_map}
 use Rattle.std.proofs.lemmas.Fmt.{length-decimal-le}
 use Rattle.std.specs.Net.Reader.{Read, read_ipv6, whole_value}
 use Rattle.std.proofs.NetLemmas.Ipv6.{read_ipv6_complete, read_ipv6_sound, EndsGroups-nil}
-use Rattle.hx_text.specs.Address.{groups_number, plain_colon_hex_of, last_cut_of, plain_end, colon_hex_of}
+use Rattle.hx_text.specs.Address.{groups_number, plain_groups_of, last_cut_of, ending_in, dotted_end_of, colon_hex_of}
 
--- a text of the grammar writes the address of its groups
-pub plain_spelled : (text groups : List ℕ) → IsColonHex text groups → plain_colon_hex_of text ≡ Some (groups_number groups)
-unfolding plain_colon_hex_of
+-- a text of the grammar writes its groups
+pub plain_spelled : (text groups : List ℕ) → IsColonHex text groups → plain_groups_of text ≡ Some groups
+unfolding plain_groups_of
 plain_spelled text groups spelled =
     let read = rw append-nil at (read_ipv6_complete text groups [] spelled EndsGroups-nil) in
     rw read refl
@@ -27,8 +27,8 @@ module _ (text : List ℕ) (never : (groups : List ℕ) → IsColonHex text grou
   not_read (Some p) e = left_over p.0 p.1 e
 
   -- any other text writes none
-  pub plain_none : None ≡ plain_colon_hex_of text
-  unfolding plain_colon_hex_of
+  pub plain_none : None ≡ plain_groups_of text
+  unfolding plain_groups_of
   plain_none = rw (not_read (read_ipv6 text) refl) refl
 
 -- ---- with an end whose octets may have leading zeros
@@ -37,15 +37,15 @@ pub colon_hex_spelled : (text groups : List ℕ) → IsColonHex text groups → 
 unfolding colon_hex_of
 colon_hex_spelled text groups spelled = rw (plain_spelled text groups spelled) refl
 
-pub colon_hex_plain : (text : List ℕ) (a : ℕ) → plain_colon_hex_of text ≡ Some a → Some a ≡ colon_hex_of text
+pub colon_hex_plain : (text groups : List ℕ) → plain_groups_of text ≡ Some groups → Some (groups_number groups) ≡ colon_hex_of text
 unfolding colon_hex_of
-colon_hex_plain text a e = rw e refl
+colon_hex_plain text groups e = rw e refl
 
-pub colon_hex_by_end : (text : List ℕ) → plain_colon_hex_of text ≡ None → option_and_then plain_colon_hex_of (option_and_then plain_end (last_cut_of 58 text)) ≡ colon_hex_of text
+pub colon_hex_by_end : (text : List ℕ) → plain_groups_of text ≡ None → option_and_then dotted_end_of (last_cut_of 58 text) ≡ colon_hex_of text
 unfolding colon_hex_of
 colon_hex_by_end text e = rw e refl
 
-pub colon_hex_none : (text : List ℕ) → plain_colon_hex_of text ≡ None → last_cut_of 58 text ≡ None → colon_hex_of text ≡ None
+pub colon_hex_none : (text : List ℕ) → plain_groups_of text ≡ None → last_cut_of 58 text ≡ None → colon_hex_of text ≡ None
 unfolding colon_hex_of
 colon_hex_none text plain cut = rw (plain, cut) refl
 
@@ -81,6 +81,7 @@ length-colon_hex text groups (inr h) =
     omega (arith, shown, front, back, h.room)
 
 -- a longer text is no address
-pub too_long : (front end : List ℕ) → 49 < length front → None ≡ plain_colon_hex_of (front ++ end)
-too_long front end long =
-    plain_none (front ++ end) (λ groups spelled. absurd (omega (arith, length-append front end, length-colon_hex (front ++ end) groups spelled)))
+pub too_long : (four : ℕ) (front end : List ℕ) → 49 < length front → None ≡ option_map (ending_in four) (plain_groups_of (front ++ end))
+too_long four front end long =
+    ap (option_map (ending_in four))
+    (plain_none (front ++ end) (λ groups spelled. absurd (omega (arith, length-append front end, length-colon_hex (front ++ end) groups spelled))))

@@ -1,6 +1,6 @@
 -- What `ip_of` gives is what the grammar says, and it is none only where the grammar has no address.
-use Rattle.std.proofs.Common.{◌≡◌, ℕ, Bool, true, false, eqb, List, [], ◌∷◌, ◌++◌, length, Option, Some, None, All, refl, sym, ap, ◌∙◌, subst, arith, append_assoc, append-nil, inl, inr, leb, get_or, ◌⊎◌}
-use Rattle.std.specs.Option.{option_and_then}
+use Rattle.std.proofs.Common.{◌≡◌, ℕ, Bool, true, false, eqb, List, [], ◌∷◌, ◌++◌, length, Option, Some, None, All, refl, sym, ap, ◌∙◌, subst, arith, append_assoc, append-nil, inl, inr, leb, get_or}
+use Rattle.std.specs.Option.{option_and_then, option_map}
 use Rattle.std.specs.List.{join_with_byte}
 use Rattle.std.proofs.lemmas.Bool.{eqb-true, ne_eqb}
 use Rattle.std.proofs.lemmas.Str.Parse.{digit_at}
@@ -8,8 +8,7 @@ use Rattle.std.proofs.lemmas.Option.{none-some, same_Some}
 use Rattle.std.proofs.lemmas.List.{nil_from_length}
 use Rattle.std.proofs.lemmas.List.Elements.{All-append, All-cons, All-from_get_or, All-drop, All-head}
 use Rattle.std.proofs.lemmas.List.Splits.{join_with_byte-slice_split}
-use Rattle.std.specs.Int.{w32, to_be_bytes}
-use Rattle.std.specs.Net.Text.{ipv4_text}
+use Rattle.std.specs.Prelude.{codes}
 use Rattle.std.specs.Net.Addr.{segments_of}
 use Rattle.std.proofs.Math.Seq.{drop-append_seam}
 use Rattle.std.specs.Net.Grammar.{IsColonHex}
@@ -18,7 +17,7 @@ use Rattle.std.proofs.NetLemmas.Ipv6.{read_ipv6_sound}
 use Rattle.std.proofs.NetLemmas.Options.{and_then_some, map_some, cond_some, same_parts}
 use Rattle.hx_text.specs.declared.address.Ip.{Ip}
 use Rattle.hx_text.specs.declared.address.Ip.TheVariants.{V4, V6}
-use Rattle.hx_text.specs.Address.{pieces, octet_of, four_octets, dotted_of, groups_number, plain_colon_hex_of, last_cut_or, last_cut_of, plain_end, colon_hex_of, EndsInIpv4, IsIpText}
+use Rattle.hx_text.specs.Address.{pieces, octet_of, four_octets, dotted_of, groups_number, plain_groups_of, last_cut_or, last_cut_of, ending_in, dotted_end_of, colon_hex_of, EndsInIpv4, IsIpText}
 use Rattle.hx_text.proofs.NumberLemmas.{own, up_to_has_digits}
 use Rattle.hx_text.proofs.AddressLemmas.{last_cut_of_none, IsOther, kept_some, last_cut_of-append}
 use Rattle.hx_text.proofs.ColonHexLemmas.{plain_none, colon_hex_none, plain_spelled, colon_hex_spelled, colon_hex_plain, colon_hex_by_end}
@@ -34,11 +33,9 @@ whole_spelled text groups (Some p) e whole =
     let text_is : text ≡ front = split ∙ ap (λ r. front ++ r) ended ∙ append-nil front in
     subst (IsColonHex text) same (subst (λ t. IsColonHex t p.0) (sym text_is) spelled)
 
-plain_sound : (text : List ℕ) (a : ℕ) → plain_colon_hex_of text ≡ Some a → (groups : List ℕ) × (a ≡ groups_number groups) × IsColonHex text groups
-unfolding plain_colon_hex_of
-plain_sound text a e =
-    map_some groups_number (whole_value (read_ipv6 text)) a e
-    (λ groups whole number. (groups, sym number, whole_spelled text groups (read_ipv6 text) refl whole))
+plain_sound : (text groups : List ℕ) → plain_groups_of text ≡ Some groups → IsColonHex text groups
+unfolding plain_groups_of
+plain_sound text groups whole = whole_spelled text groups (read_ipv6 text) refl whole
 
 -- a cut behind the last colon is a cut behind a colon
 record IsCut (byte : ℕ) (text front end : List ℕ) : Type 0 where
@@ -71,40 +68,33 @@ last_cut_sound byte [] front end e = absurd (none-some (front, end) e)
 last_cut_sound byte (b ∷ text) front end e =
     last_cut_step byte b text front end (λ f e'. last_cut_sound byte text f e') (last_cut_of byte text) (eqb b byte) refl refl e
 
--- what `IsIpText` says of an IPv6 address
-abbrev IsIpv6Text : List ℕ → ℕ → Type 0
-IsIpv6Text text a = (groups : List ℕ) × (a ≡ groups_number groups) × (IsColonHex text groups ⊎ EndsInIpv4 text groups)
-
-by_end_sound : (text : List ℕ) (a : ℕ) → option_and_then plain_colon_hex_of (option_and_then plain_end (last_cut_of 58 text)) ≡ Some a → IsIpv6Text text a
+by_end_sound : (text : List ℕ) (a : ℕ) → option_and_then dotted_end_of (last_cut_of 58 text) ≡ Some a → EndsInIpv4 text a
 by_end_sound text a e =
-    and_then_some plain_colon_hex_of (option_and_then plain_end (last_cut_of 58 text)) a e λ shown is_shown read.
-    and_then_some plain_end (last_cut_of 58 text) shown is_shown λ parts is_cut is_plain.
-    map_some (λ four. parts.0 ++ ipv4_text (to_be_bytes w32 four)) (dotted_of parts.1) shown is_plain λ four dotted is_text.
+    and_then_some dotted_end_of (last_cut_of 58 text) a e λ parts is_cut read.
+    and_then_some (λ four. option_map (ending_in four) (plain_groups_of (parts.0 ++ codes "0:0"))) (dotted_of parts.1) a read λ four dotted behind.
+    map_some (ending_in four) (plain_groups_of (parts.0 ++ codes "0:0")) a behind λ groups is_groups number.
     let cut = last_cut_sound 58 text parts.0 parts.1 is_cut in
-    let (groups, number, spelled) = plain_sound shown a read in
-    let joined : shown ≡ cut.before ++ 58 ∷ ipv4_text (to_be_bytes w32 four) =
-    sym is_text ∙ ap (λ t. t ++ ipv4_text (to_be_bytes w32 four)) cut.is_front ∙ append_assoc cut.before (58 ∷ []) (ipv4_text (to_be_bytes w32 four)) in (
-      groups,
-      number,
-      inr (record {
-        front = cut.before;
-        end = parts.1;
-        four = four;
-        spelled = cut.whole;
-        dotted = dotted;
-        plain = subst (λ t. IsColonHex t groups) joined spelled;
-      }),
-    )
+    let joined : parts.0 ++ codes "0:0" ≡ cut.before ++ codes ":0:0" =
+    ap (λ t. t ++ codes "0:0") cut.is_front ∙ append_assoc cut.before (58 ∷ []) (codes "0:0") in
+    record {
+      front = cut.before;
+      end = parts.1;
+      four = four;
+      groups = groups;
+      spelled = cut.whole ∙ sym (append_assoc cut.before (58 ∷ []) parts.1);
+      dotted = dotted;
+      plain = subst (λ t. IsColonHex t groups) joined (plain_sound (parts.0 ++ codes "0:0") groups is_groups);
+      number = sym number;
+    }
 
-colon_hex_sound : (text : List ℕ) (a : ℕ) (plain : Option ℕ) → plain_colon_hex_of text ≡ plain → colon_hex_of text ≡ Some a → IsIpv6Text text a
-colon_hex_sound text a (Some b) is_plain e =
-    let same = same_Some b a (colon_hex_plain text b is_plain ∙ e) in
-    let (groups, number, spelled) = plain_sound text b is_plain in
-    (groups, sym same ∙ number, inl spelled)
-colon_hex_sound text a None is_plain e = by_end_sound text a (colon_hex_by_end text is_plain ∙ e)
+colon_hex_sound : (text : List ℕ) (a : ℕ) (plain : Option (List ℕ)) → plain_groups_of text ≡ plain → colon_hex_of text ≡ Some a → IsIpText text (V6 a)
+colon_hex_sound text a (Some groups) is_plain e =
+    let same = same_Some (groups_number groups) a (colon_hex_plain text groups is_plain ∙ e) in
+    inl (record { groups = groups; spelled = plain_sound text groups is_plain; number = sym same })
+colon_hex_sound text a None is_plain e = inr (by_end_sound text a (colon_hex_by_end text is_plain ∙ e))
 
 pub six_spelled : (text : List ℕ) (a : ℕ) → colon_hex_of text ≡ Some a → IsIpText text (V6 a)
-six_spelled text a e = colon_hex_sound text a (plain_colon_hex_of text) refl e
+six_spelled text a e = colon_hex_sound text a (plain_groups_of text) refl e
 
 -- ---- each text of the grammar is read
 
@@ -135,22 +125,22 @@ unfolding dotted_of
 dotted_no_colon text four e =
     subst (All (IsOther 58)) (join_with_byte-slice_split 46 text) (four_no_colon (pieces 46 text) four e)
 
-by_end_complete : (text groups : List ℕ) → EndsInIpv4 text groups → option_and_then plain_colon_hex_of (option_and_then plain_end (last_cut_of 58 text)) ≡ Some (groups_number groups)
-by_end_complete text groups h =
+by_end_complete : (text : List ℕ) (a : ℕ) → EndsInIpv4 text a → option_and_then dotted_end_of (last_cut_of 58 text) ≡ Some a
+by_end_complete text a h =
     let cut : last_cut_of 58 text ≡ Some (h.front ++ 58 ∷ [], h.end) =
-    ap (last_cut_of 58) h.spelled ∙ last_cut_of-append 58 h.front 58 h.end refl (dotted_no_colon h.end h.four h.dotted) in
-    let joined = append_assoc h.front (58 ∷ []) (ipv4_text (to_be_bytes w32 h.four)) in
-    rw (cut, h.dotted, joined) (plain_spelled _ groups h.plain)
+    ap (last_cut_of 58) (h.spelled ∙ append_assoc h.front (58 ∷ []) h.end) ∙ last_cut_of-append 58 h.front 58 h.end refl (dotted_no_colon h.end h.four h.dotted) in
+    let plain : plain_groups_of ((h.front ++ 58 ∷ []) ++ codes "0:0") ≡ Some h.groups =
+    ap plain_groups_of (append_assoc h.front (58 ∷ []) (codes "0:0")) ∙ plain_spelled _ h.groups h.plain in
+    rw (cut, h.dotted, plain) (ap Some (sym h.number))
 
-six_not_none : (text groups : List ℕ) (plain : Option ℕ) → plain_colon_hex_of text ≡ plain → EndsInIpv4 text groups → colon_hex_of text ≡ None → ⊥
-six_not_none text groups (Some a) is_plain h none = none-some a (sym none ∙ sym (colon_hex_plain text a is_plain))
-six_not_none text groups None is_plain h none =
-    none-some _ (sym none ∙ sym (colon_hex_by_end text is_plain) ∙ by_end_complete text groups h)
+six_not_none : (text : List ℕ) (a : ℕ) (plain : Option (List ℕ)) → plain_groups_of text ≡ plain → EndsInIpv4 text a → colon_hex_of text ≡ None → ⊥
+six_not_none text a (Some groups) is_plain h none = none-some _ (sym none ∙ sym (colon_hex_plain text groups is_plain))
+six_not_none text a None is_plain h none =
+    none-some _ (sym none ∙ sym (colon_hex_by_end text is_plain) ∙ by_end_complete text a h)
 
-six_refused : (text : List ℕ) (a : ℕ) → IsIpv6Text text a → colon_hex_of text ≡ None → ⊥
-six_refused text a (groups, number, inl spelled) none = none-some _ (sym none ∙ colon_hex_spelled text groups spelled)
-six_refused text a (groups, number, inr ends) none =
-    six_not_none text groups (plain_colon_hex_of text) refl ends none
+six_refused : (text : List ℕ) (a : ℕ) → IsIpText text (V6 a) → colon_hex_of text ≡ None → ⊥
+six_refused text a (inl h) none = none-some _ (sym none ∙ colon_hex_spelled text h.groups h.spelled)
+six_refused text a (inr h) none = six_not_none text a (plain_groups_of text) refl h none
 
 pub none_refused : (text : List ℕ) → colon_hex_of text ≡ None → dotted_of text ≡ None → (ip : Ip) → IsIpText text ip → ⊥
 none_refused text no_six no_four (V4 a) h = none-some a (sym no_four ∙ h)

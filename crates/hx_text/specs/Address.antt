@@ -1,5 +1,5 @@
 -- Internet addresses as numbers, and the texts that write them.
-use Rattle.std.specs.Prelude.{◌≡◌, ◌<◌, ◌≤◌, ◌⊎◌, ◌&&◌, ℕ, ◌+◌, ◌*◌, ◌/◌, ◌%◌, ◌^◌, Bool, true, false, List, [], ◌∷◌, ◌++◌, length, take, drop, replicate, Option, Some, None, option_map, option_and_then, ◌==◌, nat_le, if◌then◌else◌}
+use Rattle.std.specs.Prelude.{◌≡◌, ◌<◌, ◌≤◌, ◌⊎◌, ◌&&◌, ℕ, ◌+◌, ◌*◌, ◌/◌, ◌%◌, ◌^◌, Bool, true, false, List, [], ◌∷◌, ◌++◌, length, take, drop, replicate, Option, Some, None, option_map, option_and_then, codes, ◌==◌, nat_le, if◌then◌else◌}
 use Rattle.std.specs.List.{slice_split}
 use Rattle.std.specs.Option.{option_or}
 use Rattle.std.specs.Int.{w32, from_be_bytes, to_be_bytes}
@@ -58,10 +58,10 @@ groups_of a =
     (a / 2 ^ 112 % 2 ^ 16) ∷ (a / 2 ^ 96 % 2 ^ 16) ∷ (a / 2 ^ 80 % 2 ^ 16) ∷ (a / 2 ^ 64 % 2 ^ 16)
     ∷ (a / 2 ^ 48 % 2 ^ 16) ∷ (a / 2 ^ 32 % 2 ^ 16) ∷ (a / 2 ^ 16 % 2 ^ 16) ∷ (a % 2 ^ 16) ∷ []
 
--- the address of a text of std's grammar of RFC 4291 section 2.2, `IsColonHex`, and none for any other
+-- the groups of a text of std's grammar of RFC 4291 section 2.2, `IsColonHex`, and none for any other
 -- text. In that grammar no octet of a dotted end has a leading zero.
-unfoldable pub plain_colon_hex_of : List ℕ → Option ℕ
-plain_colon_hex_of text = option_map groups_number (whole_value (read_ipv6 text))
+unfoldable pub plain_groups_of : List ℕ → Option (List ℕ)
+plain_groups_of text = whole_value (read_ipv6 text)
 
 -- a cut of what follows b, with b in front, or else a cut behind b where b has the value
 abbrev pub last_cut_or : ℕ → Bool → List ℕ → Option (List ℕ × List ℕ) → Option (List ℕ × List ℕ)
@@ -74,35 +74,49 @@ abbrev pub last_cut_of : ℕ → List ℕ → Option (List ℕ × List ℕ)
 last_cut_of byte [] = None
 last_cut_of byte (b ∷ text) = last_cut_or b (b == byte) text (last_cut_of byte text)
 
--- a text that ends in an IPv4 address in dotted decimal behind its last colon, with the octets written
--- without leading zeros
-abbrev pub plain_end : List ℕ × List ℕ → Option (List ℕ)
-plain_end parts = option_map (λ four. parts.0 ++ ipv4_text (to_be_bytes w32 four)) (dotted_of parts.1)
+-- the address of the first six of these groups and this IPv4 address (RFC 4291 section 2.2, form 3)
+abbrev pub ending_in : ℕ → List ℕ → ℕ
+ending_in four groups = groups_number (take 6 groups) * 2 ^ 32 + four
+
+-- The address of a text that is cut behind its last colon and ends in an IPv4 address in dotted decimal.
+-- The dotted end stands for two groups: with `0:0` in its place the text is one of std's grammar, which
+-- gives the other six.
+abbrev pub dotted_end_of : List ℕ × List ℕ → Option ℕ
+dotted_end_of parts = do
+  four ← dotted_of parts.1
+  option_map (ending_in four) (plain_groups_of (parts.0 ++ codes "0:0"))
 
 -- An IPv6 address as RFC 4291 section 2.2 writes it: eight groups of one to four hex digits with
 -- colons between them, of which one or more zero groups may be written `::`, once, and the last two
 -- may be an IPv4 address in dotted decimal, whose octets may have leading zeros.
 unfoldable pub colon_hex_of : List ℕ → Option ℕ
 colon_hex_of text =
-    option_or (plain_colon_hex_of text)
-    (option_and_then plain_colon_hex_of (option_and_then plain_end (last_cut_of 58 text)))
+    option_or (option_map groups_number (plain_groups_of text))
+    (option_and_then dotted_end_of (last_cut_of 58 text))
 
--- the text ends in an IPv4 address in dotted decimal behind a colon, and with the octets written
--- without leading zeros it is one of std's grammar
-pub record EndsInIpv4 (text groups : List ℕ) : Type 0 where
+-- the text is one of std's grammar, and its groups make this address
+pub record IsPlainIpv6 (text : List ℕ) (address : ℕ) : Type 0 where
+  pub groups : List ℕ
+  pub spelled : IsColonHex text groups
+  pub number : address ≡ groups_number groups
+
+-- The text ends in an IPv4 address in dotted decimal behind a colon. With `0:0` in its place it is one
+-- of std's grammar, and the other six groups and the IPv4 address make this address.
+pub record EndsInIpv4 (text : List ℕ) (address : ℕ) : Type 0 where
   pub front : List ℕ
   pub end : List ℕ
   pub four : ℕ
-  pub spelled : text ≡ front ++ 58 ∷ end
+  pub groups : List ℕ
+  pub spelled : text ≡ front ++ codes ":" ++ end
   pub dotted : dotted_of end ≡ Some four
-  pub plain : IsColonHex (front ++ 58 ∷ ipv4_text (to_be_bytes w32 four)) groups
+  pub plain : IsColonHex (front ++ codes ":0:0") groups
+  pub number : address ≡ ending_in four groups
 
 -- the text writes this address: four octets, or an IPv6 address of std's grammar, but for leading
 -- zeros in the octets of a dotted end
 abbrev pub IsIpText : List ℕ → Ip → Type 0
 IsIpText text (V4 a) = dotted_of text ≡ Some a
-IsIpText text (V6 a) =
-    (groups : List ℕ) × (a ≡ groups_number groups) × (IsColonHex text groups ⊎ EndsInIpv4 text groups)
+IsIpText text (V6 a) = IsPlainIpv6 text a ⊎ EndsInIpv4 text a
 
 -- the one, or else the other
 abbrev pub ip_or : Option ℕ → Option ℕ → Option Ip

@@ -1,11 +1,9 @@
-ghost use Rattle.std.specs.Prelude.{ℕ, Some, ◌≡◌, [], ◌∷◌, ◌++◌, option_and_then, IfSome, IfNone};
-ghost use Rattle.std.specs.Int.{w32, to_be_bytes};
-ghost use Rattle.std.specs.Net.Text.{ipv4_text};
-ghost use Rattle.hx_text.specs.Address.{octet_of, four_octets, dotted_of, groups_number, plain_colon_hex_of, last_cut_of, plain_end, colon_hex_of, IsIpText, ip_of};
+ghost use Rattle.std.specs.Prelude.{ℕ, Some, ◌≡◌, [], ◌∷◌, ◌++◌, codes, option_map, option_and_then, IfSome, IfNone};
+ghost use Rattle.hx_text.specs.Address.{octet_of, four_octets, dotted_of, groups_number, plain_groups_of, last_cut_of, ending_in, dotted_end_of, colon_hex_of, IsIpText, ip_of};
 
 use crate::cut::{cut_at, cut_behind_last};
 use crate::numbers::read_number;
-use crate::printing::{push_all, push_dotted};
+use crate::printing::push_all;
 use arrayvec::ArrayVec;
 use std::net::Ipv6Addr;
 
@@ -68,31 +66,42 @@ fn number_of_groups(groups: [u16; 8]) -> u128
     u128::from(high) * 0x1_0000_0000_0000_0000 + u128::from(low)
 }
 
-fn read_plain_colon_hex(text: &[u8]) -> Option<u128>
-    ensures { result ≡ plain_colon_hex_of text.now }
+fn ending_in(four: u32, groups: [u16; 8]) -> u128
+    ensures { result ≡ ending_in four groups }
+{
+    let [a, b, c, d, e, f, _, _] = groups;
+    let high = four_groups(a, b, c, d);
+    let low = (u64::from(e) * 0x1_0000 + u64::from(f)) * 0x1_0000_0000 + u64::from(four);
+    u128::from(high) * 0x1_0000_0000_0000_0000 + u128::from(low)
+}
+
+fn read_plain_groups(text: &[u8]) -> Option<[u16; 8]>
+    ensures { result ≡ plain_groups_of text.now }
 {
     match Ipv6Addr::parse_ascii(text) {
-        Ok(address) => Some(number_of_groups(address.segments())),
+        Ok(address) => Some(address.segments()),
         Err(_) => None,
     }
 }
 
 fn read_before_ipv4(front: &[u8], four: u32) -> Option<u128>
-    ensures { result ≡ plain_colon_hex_of (front.now ++ ipv4_text (to_be_bytes w32 four)) }
+    ensures { result
+        ≡ option_map (ending_in four) (plain_groups_of (front.now ++ codes "0:0")) }
 {
     if front.len() > 49 {
         return None;
     }
-    let mut text: ArrayVec<u8, 64> = ArrayVec::new();
+    let mut text: ArrayVec<u8, 52> = ArrayVec::new();
     push_all(&mut text, front);
-    let [a, b, c, d] = four.to_be_bytes();
-    push_dotted(&mut text, a, b, c, d);
-    read_plain_colon_hex(text.as_slice())
+    push_all(&mut text, b"0:0");
+    match read_plain_groups(text.as_slice()) {
+        Some(groups) => Some(ending_in(four, groups)),
+        None => None,
+    }
 }
 
 fn read_with_ipv4(text: &[u8]) -> Option<u128>
-    ensures { result
-        ≡ option_and_then plain_colon_hex_of (option_and_then plain_end (last_cut_of 58 text.now)) }
+    ensures { result ≡ option_and_then dotted_end_of (last_cut_of 58 text.now) }
 {
     match cut_behind_last(b':', text) {
         Some((front, end)) => match read_dotted(end) {
@@ -107,8 +116,8 @@ fn read_with_ipv4(text: &[u8]) -> Option<u128>
 fn read_colon_hex(text: &[u8]) -> Option<u128>
     ensures { result ≡ colon_hex_of text.now }
 {
-    match read_plain_colon_hex(text) {
-        Some(address) => Some(address),
+    match read_plain_groups(text) {
+        Some(groups) => Some(number_of_groups(groups)),
         None => read_with_ipv4(text),
     }
 }

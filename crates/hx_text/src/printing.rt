@@ -19,8 +19,8 @@ pub(crate) fn push_all<const N: usize>(line: &mut ArrayVec<u8, N>, bytes: &[u8])
     let _ = line.try_extend_from_slice(bytes);
 }
 
-fn push_octet<const N: usize>(line: &mut ArrayVec<u8, N>, octet: u8)
-    requires { length line.old.items + 3 ≤ N }
+fn push_octet(line: &mut Line, octet: u8)
+    requires { length line.old.items + 3 ≤ 39 }
     ensures text { line.new.items ≡ line.old.items ++ decimal octet }
     ensures short { length line.new.items ≤ length line.old.items + 3 }
 {
@@ -28,8 +28,8 @@ fn push_octet<const N: usize>(line: &mut ArrayVec<u8, N>, octet: u8)
     push_all(line, buffer.format(octet).as_bytes());
 }
 
-pub(crate) fn push_dotted<const N: usize>(line: &mut ArrayVec<u8, N>, a: u8, b: u8, c: u8, d: u8)
-    requires { length line.old.items + 15 ≤ N }
+fn push_dotted(line: &mut Line, a: u8, b: u8, c: u8, d: u8)
+    requires { length line.old.items + 15 ≤ 39 }
     ensures { line.new.items ≡ line.old.items ++ Text.dotted_text a b c d }
 {
     push_octet(line, a);

@@ -83,7 +83,7 @@ fn ipv4_addresses_are_four_octets(rt: HostRuntime) {
 
 #[test]
 fn ipv6_addresses_are_groups_with_one_gap(rt: HostRuntime) {
-    let table: [(&[u8], Option<u128>); 17] = [
+    let table: [(&[u8], Option<u128>); 25] = [
         (b"::", Some(0)),
         (b"::1", Some(1)),
         (b"1::", Some(0x1_0000_0000_0000_0000_0000_0000_0000)),
@@ -105,13 +105,34 @@ fn ipv6_addresses_are_groups_with_one_gap(rt: HostRuntime) {
             Some(0x1_0002_0003_0004_0005_0006_0102_0304),
         ),
         (b"::ffff:001.02.3.004", Some(0xffff_0102_0304)),
+        (b"::010.0.0.09", Some(0x0a00_0009)),
+        (
+            b"1::001.2.3.4",
+            Some(0x1_0000_0000_0000_0000_0000_0102_0304),
+        ),
+        (
+            b"1:2:3:4:5::1.2.3.4",
+            Some(0x1_0002_0003_0004_0005_0000_0102_0304),
+        ),
+        (
+            b"fFfF:2:3:4:5:6:255.255.255.0255",
+            None,
+        ),
+        (
+            b"fFfF:2:3:4:5:6:255.255.255.255",
+            Some(0xffff_0002_0003_0004_0005_0006_ffff_ffff),
+        ),
         (b"::ffff:0001.2.3.4", None),
+        (b"1:2:3:4:5:6:7:01.2.3.4", None),
+        (b"1:2:3:4:5:6::01.2.3.4", None),
+        (b"::01.2.3.4:1", None),
+        (b":01.2.3.4", None),
         (b"1::2::3", None),
         (b"1:2:3:4:5:6:7:8::", None),
         (b"1:2:3:4:5:6:7", None),
         (b"::12345", None),
         (b":::", None),
-        (b"1.2.3.4::", None),
+        (b"01.2.3.4::", None),
         (b"::1.2.3.256", None),
     ];
     for (text, want) in table {
