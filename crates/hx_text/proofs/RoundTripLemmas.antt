@@ -27,14 +27,14 @@ groups_number-groups_of a fits =
     omega (arith, top, joined a 96, joined a 80, joined a 64, joined a 48, joined a 32, joined a 16, joined a 0)
 
 -- numbers below a bound, and nothing behind them
-Below : ℕ → List ℕ → Type 0
+unfoldable pub Below : ℕ → List ℕ → Type 0
 Below most xs = (k : ℕ) → get_or xs k 0 < most
 
-below_none : (most : ℕ) → 0 < most → Below most []
+pub below_none : (most : ℕ) → 0 < most → Below most []
 unfolding Below
 below_none most h k = h
 
-below_more : (most x : ℕ) (xs : List ℕ) → x < most → Below most xs → Below most (x ∷ xs)
+pub below_more : (most x : ℕ) (xs : List ℕ) → x < most → Below most xs → Below most (x ∷ xs)
 unfolding Below
 below_more most x xs h later k = elim k as (λ j. get_or (x ∷ xs) j 0 < most) [ zero ↦ h | suc j ↦ later j ]
 
@@ -50,7 +50,7 @@ groups_below a =
     let seven = below_more M (a / 2 ^ 96 % M) _ (omega arith) six in
     below_more M (a / 2 ^ 112 % M) _ (omega arith) seven
 
-groups_fit : (a : ℕ) → AllSegments (groups_of a)
+pub groups_fit : (a : ℕ) → AllSegments (groups_of a)
 unfolding Below
 groups_fit a = groups_below a
 

@@ -26,7 +26,7 @@ impl Model for Octets {
 }
 
 impl Octets {
-    /// The same bytes, owned.
+    /// The same bytes, owned. It fails only where memory runs out.
     pub fn copy(alloc: Global, bytes: &[u8]) -> Result<Octets, NoMemory>
         ensures { IfOk result (λ copied. copied ≡ bytes.now) }
     {

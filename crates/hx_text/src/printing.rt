@@ -1,8 +1,8 @@
-ghost use Rattle.std.specs.Prelude.{◌≡◌, ℕ, false, ◌+◌, ◌*◌, ◌/◌, ◌%◌, ◌^◌, ◌<◌, ◌≤◌, [], ◌∷◌, ◌++◌, length, take, drop, bytes_eq, Some, codes, decimal, flat_map};
-ghost use Rattle.std.specs.Char.{digit_char};
+ghost use Rattle.std.specs.Prelude.{◌≡◌, ℕ, false, ◌+◌, ◌*◌, ◌/◌, ◌%◌, ◌^◌, ◌<◌, ◌≤◌, [], ◌∷◌, ◌++◌, length, take, drop, bytes_eq, Some, All, codes, decimal, flat_map};
+ghost use Rattle.std.specs.Char.{digit_char, is_ascii_uppercase};
 ghost use Rattle.std.specs.Int.{w32, to_be_bytes};
 ghost use Rattle.std.specs.Net.Text as Text;
-ghost use Rattle.hx_text.specs.Address.{groups_of, ip_of, ip_text, is_mapped, IsZeroRun, IsFirstLongestRun};
+ghost use Rattle.hx_text.specs.Address.{groups_of, ip_of, ip_text, is_mapped, mapped, IsZeroRun, IsFirstLongestRun};
 
 use crate::address::Ip;
 use arrayvec::ArrayVec;
@@ -234,14 +234,21 @@ pub fn printed_ip_reads_back(ip: Ip)
     }
 }
 
-/// The text of an IPv6 address outside `::ffff:0:0/96` is its groups with colons between them, where the longest run of
-/// zero groups, and the first of that length, is written `::` if it has two groups or more, and none if no run has.
-/// (RFC 5952, section 4.2.)
+/// The text of an IPv6 address outside `::ffff:0:0/96` is its groups with colons between them, where
+/// the longest run of zero groups, and the first of that length, is written `::` if it has two groups
+/// or more, and none if no run has (RFC 5952, section 4.2). The text of an address of
+/// `::ffff:0:0/96` is `::ffff:` and the text of the IPv4 address that its last 32 bits make (section
+/// 5). No text has a capital letter (section 4.3).
 pub fn printed_run_is_first_longest(address: u128)
-    ensures compressed { (run : ℕ × ℕ) → is_mapped (groups_of address) ≡ false → IsFirstLongestRun (groups_of address) run → 2 ≤ run.1
-        → ip_text (Ip.V6 address) ≡ Text.groups_text (take run.0 (groups_of address)) ++ codes "::"
-        ++ Text.groups_text (drop (run.0 + run.1) (groups_of address)) }
+    ensures compressed { (run : ℕ × ℕ) → is_mapped (groups_of address) ≡ false
+        → IsFirstLongestRun (groups_of address) run → 2 ≤ run.1
+        → ip_text (Ip.V6 address) ≡ Text.groups_text (take run.0 (groups_of address))
+        ++ codes "::" ++ Text.groups_text (drop (run.0 + run.1) (groups_of address)) }
     ensures plain { is_mapped (groups_of address) ≡ false
-        → ((start len : ℕ) → IsZeroRun (groups_of address) start len → len ≤ 1) → ip_text (Ip.V6 address) ≡ Text.groups_text (groups_of address) }
+        → ((start len : ℕ) → IsZeroRun (groups_of address) start len → len ≤ 1)
+        → ip_text (Ip.V6 address) ≡ Text.groups_text (groups_of address) }
     ensures some { (run : ℕ × ℕ) × IsFirstLongestRun (groups_of address) run }
+    ensures mapped { (four : ℕ) → four < 2 ^ 32
+        → ip_text (Ip.V6 (mapped four)) ≡ codes "::ffff:" ++ ip_text (Ip.V4 four) }
+    ensures lower { All (λ byte. is_ascii_uppercase byte ≡ false) (ip_text (Ip.V6 address)) }
 {}

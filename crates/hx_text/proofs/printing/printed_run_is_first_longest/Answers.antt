@@ -1,6 +1,7 @@
 use Rattle.std.specs.Net.Text.{longest_zero_run}
 use Rattle.hx_text.specs.Address.{groups_of, ip_text}
 use Rattle.hx_text.proofs.PrintLemmas.{first_longest_run, compressed_run, plain_groups}
+use Rattle.hx_text.proofs.TextLemmas.{mapped_shown, no_capital}
 use Rattle.hx_text.proofs.printing.printed_run_is_first_longest.Goals as goal
 
 pub returns-clause-compressed : goal.returns-clause-compressed
@@ -13,3 +14,11 @@ returns-clause-plain c = plain_groups (groups_of c.args.address)
 
 pub returns-clause-some : goal.returns-clause-some
 returns-clause-some c = (longest_zero_run (groups_of c.args.address), first_longest_run (groups_of c.args.address))
+
+pub returns-clause-mapped : goal.returns-clause-mapped
+unfolding ip_text
+returns-clause-mapped c = mapped_shown
+
+pub returns-clause-lower : goal.returns-clause-lower
+unfolding ip_text
+returns-clause-lower c = no_capital c.args.address
