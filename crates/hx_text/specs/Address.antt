@@ -79,8 +79,8 @@ abbrev pub ending_in : ℕ → List ℕ → ℕ
 ending_in four groups = groups_number (take 6 groups) * 2 ^ 32 + four
 
 -- The address of a text that is cut behind its last colon and ends in an IPv4 address in dotted decimal.
--- The dotted end stands for two groups: with `0:0` in its place the text is one of std's grammar, which
--- gives the other six.
+-- The dotted end stands for the last two groups: with `0:0` in its place the text is one of std's
+-- grammar, and its first six groups are those of the address.
 abbrev pub dotted_end_of : List ℕ × List ℕ → Option ℕ
 dotted_end_of parts = do
   four ← dotted_of parts.1
@@ -101,7 +101,7 @@ pub record IsPlainIpv6 (text : List ℕ) (address : ℕ) : Type 0 where
   pub number : address ≡ groups_number groups
 
 -- The text ends in an IPv4 address in dotted decimal behind a colon. With `0:0` in its place it is one
--- of std's grammar, and the other six groups and the IPv4 address make this address.
+-- of std's grammar, and the first six groups and the IPv4 address make this address.
 pub record EndsInIpv4 (text : List ℕ) (address : ℕ) : Type 0 where
   pub front : List ℕ
   pub end : List ℕ
@@ -112,8 +112,8 @@ pub record EndsInIpv4 (text : List ℕ) (address : ℕ) : Type 0 where
   pub plain : IsColonHex (front ++ codes ":0:0") groups
   pub number : address ≡ ending_in four groups
 
--- the text writes this address: four octets, or an IPv6 address of std's grammar, but for leading
--- zeros in the octets of a dotted end
+-- the text writes this address: four octets in dotted decimal, an IPv6 address of std's grammar, or one
+-- that ends in an IPv4 address, whose octets may have leading zeros
 abbrev pub IsIpText : List ℕ → Ip → Type 0
 IsIpText text (V4 a) = dotted_of text ≡ Some a
 IsIpText text (V6 a) = IsPlainIpv6 text a ⊎ EndsInIpv4 text a
