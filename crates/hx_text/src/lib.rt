@@ -23,4 +23,4 @@ pub use names::{Scope, VarName};
 pub use network::{Net, read_net};
 pub use numbers::{print_i64, printed_i64_reads_back, read_i64, read_number};
 pub use octets::Octets;
-pub use printing::{print_ip, printed_ip_reads_back, printed_run_is_first_longest};
+pub use printing::{print_ip, printed_ip_reads_back, printed_ipv6_is_canonical};

@@ -239,7 +239,7 @@ pub fn printed_ip_reads_back(ip: Ip)
 /// or more, and none if no run has (RFC 5952, section 4.2). The text of an address of
 /// `::ffff:0:0/96` is `::ffff:` and the text of the IPv4 address that its last 32 bits make (section
 /// 5). No text has a capital letter (section 4.3).
-pub fn printed_run_is_first_longest(address: u128)
+pub fn printed_ipv6_is_canonical(address: u128)
     ensures compressed { (run : ℕ × ℕ) → is_mapped (groups_of address) ≡ false
         → IsFirstLongestRun (groups_of address) run → 2 ≤ run.1
         → ip_text (Ip.V6 address) ≡ Text.groups_text (take run.0 (groups_of address))

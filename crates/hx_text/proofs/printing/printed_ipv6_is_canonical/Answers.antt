@@ -2,7 +2,7 @@ use Rattle.std.specs.Net.Text.{longest_zero_run}
 use Rattle.hx_text.specs.Address.{groups_of, ip_text}
 use Rattle.hx_text.proofs.PrintLemmas.{first_longest_run, compressed_run, plain_groups}
 use Rattle.hx_text.proofs.TextLemmas.{mapped_shown, no_capital}
-use Rattle.hx_text.proofs.printing.printed_run_is_first_longest.Goals as goal
+use Rattle.hx_text.proofs.printing.printed_ipv6_is_canonical.Goals as goal
 
 pub returns-clause-compressed : goal.returns-clause-compressed
 unfolding ip_text
