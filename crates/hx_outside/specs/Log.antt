@@ -2,7 +2,7 @@
 use Rattle.std.specs.Prelude.{◌≡◌, ℕ, Option, None, Some, List, [], ◌∷◌, ◌++◌, map, take, Vec, Result, Ok, Err, ⊤}
 use Rattle.std.specs.Option.{option_map}
 
--- The reads so far, oldest first: the bytes that each of them gave, none of them at the end, and None for one that failed.
+-- The reads so far, oldest first: the bytes that each of them gave, no bytes at the end, and None for one that failed.
 abbrev pub Log : Type 0
 Log = List (Option (List ℕ))
 
@@ -30,7 +30,7 @@ reads_of reads = map (λ read. option_map (λ bytes. bytes.items) read) reads
 abbrev pub log_of : {A : Type 0} → Option (Vec (Option (Vec ℕ A)) A) → Option Log
 log_of kept = option_map (λ reads. reads_of reads.items) kept
 
--- where a log is told, P holds of the reads that were made since it was the old one
+-- where a log is told, P holds of the reads made since the old log
 abbrev pub Since : Option Log → Option Log → (Log → Type 0) → Type 0
 Since old None P = ⊤
 Since None (Some new) P = ⊥

@@ -1,5 +1,6 @@
 //! What a program reads and writes: sources, sinks and files, as traits whose contracts say which
-//! bytes moved and count each fault, with fakes in memory and adapters over std.
+//! bytes moved and count each fault, with fakes in memory, a source that logs its reads, and adapters
+//! over std.
 #![tactic(auto)]
 
 mod dir_files;

@@ -10,8 +10,8 @@ use crate::source::Source;
 use std::alloc::Global;
 use std::marker::Model;
 
-/// A source that keeps what each read of another one gave: a fake to watch readers by. It gives the
-/// log up where memory runs out.
+/// A source that hands on what another one gives, and keeps what each read gave, to watch readers by.
+/// It gives the log up where memory runs out.
 #[derive(Debug, Drop)]
 pub struct LogSource<S> {
     alloc: Global,
@@ -39,8 +39,8 @@ impl<S> LogSource<S> {
         }
     }
 
-    /// What each read gave, oldest first: its bytes, none of them at the end, and None for one that
-    /// failed. None where the log was given up.
+    /// What each read gave, oldest first: its bytes, no bytes at the end, and None for one that failed.
+    /// None where the log was given up.
     pub fn log(&self) -> Option<&[Option<Vec<u8>>]>
         ensures { option_map reads_of (option_copied result) ≡ self.now.log }
     {

@@ -14,7 +14,8 @@ use std::alloc::Global;
 /// source that tells them; told bytes stay told. `faults` is a count that never falls and rises
 /// with each `Failed`, so that a failure in the midst of a longer call shows by the count before
 /// and after that call; one that stands at the last value of a u64 counts as risen. `log` is what
-/// each read so far gave, for a source that tells it, so that a longer call can say when it reads.
+/// each read so far gave, for a source that tells it, so that a longer call can say when it reads; a
+/// source may stop telling it, and never begins to.
 pub trait Source {
     ghost left: { Self → Option (List ℕ) };
 

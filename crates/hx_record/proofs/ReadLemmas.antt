@@ -31,10 +31,6 @@ consumes_keeps (Some xs) None c took h k = absurd h
 consumes_keeps (Some xs) (Some ys) None took h k = absurd k
 consumes_keeps (Some xs) (Some ys) (Some zs) took h k = h ∙ ap (λ rest. took ++ rest) (sym k)
 
-pub keeps_same : (a : Option (List ℕ)) → Keeps a a
-keeps_same None = tt
-keeps_same (Some bytes) = refl
-
 -- ---- so far
 
 -- what was taken and passed since the call began, and that the items are the same, whatever follows
@@ -49,7 +45,7 @@ pub record Behind (before after : State) (left left' : Option (List ℕ)) : Type
   pub same : (ends : Bool) (more : List ℕ) → MayFollow after ends more → items_behind before ends (took ++ more) ≡ items_behind after ends more
 
 -- a reader that had something to tell, or whose source had ended, left the source alone
-pub record Asked {A : Type 0} (before after : State) (source source' : A) : Type 0 where
+pub record LeftAlone {A : Type 0} (before after : State) (source source' : A) : Type 0 where
   pub over : before.ended ≡ true → source' ≡ source
   pub same : decided_now before ≢ Unknown → (source' ≡ source) × (decided_now after ≡ decided_now before)
 
@@ -65,8 +61,8 @@ behind_start s left = record {
   same = λ ends more may. refl;
 }
 
-pub asked_start : {A : Type 0} (s : State) (source : A) → Asked s s source source
-asked_start s source = record { over = λ ended. refl; same = λ known. (refl, refl) }
+pub alone_start : {A : Type 0} (s : State) (source : A) → LeftAlone s s source source
+alone_start s source = record { over = λ ended. refl; same = λ known. (refl, refl) }
 
 -- bytes that were passed
 pub passes : (before s : State) (left left' : Option (List ℕ)) (used : ℕ) → (b : Behind before s left left') → used ≤ length s.pending → (before.pending ++ b.took ≡ (b.passed ++ take used s.pending) ++ drop used s.pending) × (s.at + used ≡ before.at + length (b.passed ++ take used s.pending))
@@ -90,8 +86,8 @@ behind_skip before s left left' used b e =
       same = λ ends more may. b.same ends more may ∙ skip_behind s ends more used may e;
     }
 
-pub asked_skip : {A : Type 0} (before s : State) (source source' : A) (used : ℕ) → Asked before s source source' → piece_now s ≡ Skip used → Asked before (passed_by s used) source source'
-asked_skip before s source source' used a e = record {
+pub alone_skip : {A : Type 0} (before s : State) (source source' : A) (used : ℕ) → LeftAlone before s source source' → piece_now s ≡ Skip used → LeftAlone before (passed_by s used) source source'
+alone_skip before s source source' used a e = record {
   over = a.over;
   same = λ known. ((a.same known).0, sym (skip_now s used e) ∙ (a.same known).1);
 }
@@ -120,8 +116,8 @@ behind_fill before s after left left' left'' log log' b going g = record {
       ∙ rw (g.at, g.limit, g.pending, append_assoc) refl;
 }
 
-pub asked_fill : {A : Type 0} (before s after : State) (left left' : Option (List ℕ)) (source source' source'' : A) → Behind before s left left' → Asked before s source source' → piece_now s ≡ Undecided → Asked before after source source''
-asked_fill before s after left left' source source' source'' b a e = record {
+pub alone_fill : {A : Type 0} (before s after : State) (left left' : Option (List ℕ)) (source source' source'' : A) → Behind before s left left' → LeftAlone before s source source' → piece_now s ≡ Undecided → LeftAlone before after source source''
+alone_fill before s after left left' source source' source'' b a e = record {
   over = λ ended. both_ends s.ended (undecided_now_open s e).0 (b.stays ended).1;
   same = λ known. absurd (known (sym (a.same known).1 ∙ undecided_now s e));
 }
@@ -155,7 +151,7 @@ work_fill s after left left' log log' place e g =
 -- ---- what the pending bytes decided at first
 
 -- a refusal that was decided at first is decided still
-pub told : {A : Type 0} (before s : State) (source source' : A) (offset code : ℕ) → Asked before s source source' → decided_now before ≡ Bad offset code → decided_now s ≡ Bad offset code
+pub told : {A : Type 0} (before s : State) (source source' : A) (offset code : ℕ) → LeftAlone before s source source' → decided_now before ≡ Bad offset code → decided_now s ≡ Bad offset code
 told before s source source' offset code a e =
     (a.same (λ none. let no_fault : Bad offset code ≡ Unknown = sym e ∙ none in cc)).1 ∙ e
 

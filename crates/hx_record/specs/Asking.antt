@@ -13,6 +13,7 @@ after_read s None = s
 after_read s (Some []) = record s { ended = true }
 after_read s (Some (b ∷ bs)) = record s { pending = s.pending ++ (b ∷ bs) }
 
+-- the same of several reads, oldest first
 abbrev pub after_reads : State → Log → State
 after_reads s [] = s
 after_reads s (read ∷ reads) = after_reads (after_read s read) reads
@@ -28,8 +29,8 @@ FailureIsTold result [] = result ≢ Err Failed
 FailureIsTold result (None ∷ reads) = (reads ≡ []) × (result ≡ Err Failed)
 FailureIsTold result (Some got ∷ reads) = FailureIsTold result reads
 
--- The reads of a call: each was due at the state before them, what they gave makes the state behind them of it, and the
--- result tells a failure.
+-- The reads of a call: each was due when it was made, together they lead from the state before to the state behind, and
+-- the result is `Failed` exactly where the last of them failed.
 pub record WereDue {A : Type 0} (before behind : State) (result : Result A RecordFault) (reads : Log) : Type 0 where
   pub due : AreDue before reads
   pub gave : after_reads before reads ≡ behind

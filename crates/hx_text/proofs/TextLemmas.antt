@@ -1,15 +1,15 @@
--- What the text of an IPv6 address looks like: its dotted end, and its letters.
-use Rattle.std.proofs.Common.{◌≡◌, ℕ, ◌*◌, ◌+◌, ◌/◌, ◌%◌, ◌^◌, ◌<◌, Bool, true, false, [], ◌∷◌, ◌++◌, drop, All, refl, ap, sym, ◌∙◌, arith, inl, inr, subst}
-use Rattle.std.proofs.lemmas.Bool.{lt-leb, le-leb}
+-- What the text of an IPv6 address looks like: its dotted end, its letters, and its groups.
+use Rattle.std.proofs.Common.{◌≡◌, ◌≢◌, get_or, ℕ, ◌*◌, ◌+◌, ◌/◌, ◌%◌, ◌^◌, ◌<◌, Bool, true, false, [], ◌∷◌, ◌++◌, drop, All, refl, ap, sym, ◌∙◌, arith, inl, inr, subst}
+use Rattle.std.proofs.lemmas.Bool.{lt-leb, le-leb, cases_lt, lt-ltb, le-ltb}
 use Rattle.std.proofs.lemmas.List.Elements.{All-from_recursion, All-append, All-weaker}
 use Rattle.std.proofs.NetLemmas.Alphabet.{IsDigitOrDot, IsHexOrColon, All-ipv4_text, All-hex_groups_text}
-use Rattle.std.specs.Char.{is_ascii_uppercase}
+use Rattle.std.specs.Char.{digit_char, is_ascii_uppercase}
 use Rattle.std.specs.Int.{w32, to_be_bytes}
 use Rattle.std.specs.Net.Addr.{octets_of}
-use Rattle.std.specs.Net.Text.{ipv4_text, ipv6_text}
+use Rattle.std.specs.Net.Text.{hex, ipv4_text, ipv6_text}
 use Rattle.std.specs.Prelude.{codes}
 use Rattle.hx_text.specs.Address.{groups_of, is_mapped, mapped}
-use Rattle.hx_text.proofs.PrintLemmas.{mapped_text, other_text}
+use Rattle.hx_text.proofs.PrintLemmas.{hex_one, hex_two, hex_three, hex_four, mapped_text, other_text}
 use Rattle.hx_text.proofs.RoundTripLemmas.{Below, below_none, below_more, groups_fit}
 
 -- ---- a dotted end
@@ -81,3 +81,23 @@ no_capital_by address false is =
 
 pub no_capital : (address : ℕ) → All IsNoCapital (ipv6_text (groups_of address))
 no_capital address = no_capital_by address (is_mapped (groups_of address)) refl
+
+-- ---- no leading zero
+
+digit_other_than_0 : (d : ℕ) → 0 < d → digit_char d ≢ 48
+digit_other_than_0 d some = elim (cases_lt d 10) [
+  | inl low ↦ rw (lt-ltb d 10 low) (omega (arith, some))
+  | inr high ↦ rw (le-ltb d 10 high) (omega (arith, high))
+]
+
+pub no_leading_zero : (group : ℕ) → 0 < group → group < 2 ^ 16 → get_or (hex group) 0 0 ≢ 48
+no_leading_zero group some fits = elim (cases_lt group 16) [
+  | inl one ↦ rw (hex_one group one) (digit_other_than_0 (group % 16) (omega arith))
+  | inr more ↦ elim (cases_lt group 256) [
+    | inl two ↦ rw (hex_two group more two) (digit_other_than_0 (group / 16 % 16) (omega arith))
+    | inr more ↦ elim (cases_lt group 4096) [
+      | inl three ↦ rw (hex_three group more three) (digit_other_than_0 (group / 256 % 16) (omega arith))
+      | inr four ↦ rw (hex_four group four) (digit_other_than_0 (group / 4096) (omega arith))
+    ]
+  ]
+]

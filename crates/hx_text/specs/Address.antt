@@ -19,7 +19,7 @@ o >>= f = option_and_then f o
 abbrev pub pieces : ℕ → List ℕ → List (List ℕ)
 pieces byte text = slice_split (λ b. b == byte) text
 
--- the text before the first byte of this value, and the text behind it
+-- the text before the first byte of this value, and the text behind it; none where no byte has it
 abbrev pub cut_of : ℕ → List ℕ → Option (List ℕ × List ℕ)
 cut_of byte [] = None
 cut_of byte (b ∷ text) =
@@ -69,7 +69,8 @@ last_cut_or b has_value text (Some p) = Some (b ∷ p.0, p.1)
 last_cut_or b true text None = Some (b ∷ [], text)
 last_cut_or b false text None = None
 
--- the text up to the last byte of this value, with that byte, and the text behind it
+-- the text up to the last byte of this value, with that byte, and the text behind it; none where no byte
+-- has it
 abbrev pub last_cut_of : ℕ → List ℕ → Option (List ℕ × List ℕ)
 last_cut_of byte [] = None
 last_cut_of byte (b ∷ text) = last_cut_or b (b == byte) text (last_cut_of byte text)

@@ -88,6 +88,7 @@ fn read_before_ipv4(front: &[u8], four: u32) -> Option<u128>
     ensures { result
         ≡ option_map (ending_in four) (plain_groups_of (front.now ++ codes "0:0")) }
 {
+    // No text of the grammar is longer than 49 bytes, and `0:0` has three.
     if front.len() > 49 {
         return None;
     }

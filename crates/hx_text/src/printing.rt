@@ -1,4 +1,4 @@
-ghost use Rattle.std.specs.Prelude.{◌≡◌, ℕ, false, ◌+◌, ◌*◌, ◌/◌, ◌%◌, ◌^◌, ◌<◌, ◌≤◌, [], ◌∷◌, ◌++◌, length, take, drop, bytes_eq, Some, All, codes, decimal, flat_map};
+ghost use Rattle.std.specs.Prelude.{◌≡◌, ◌≢◌, slice_index, ℕ, false, ◌+◌, ◌*◌, ◌/◌, ◌%◌, ◌^◌, ◌<◌, ◌≤◌, [], ◌∷◌, ◌++◌, length, take, drop, bytes_eq, Some, All, codes, decimal, flat_map};
 ghost use Rattle.std.specs.Char.{digit_char, is_ascii_uppercase};
 ghost use Rattle.std.specs.Int.{w32, to_be_bytes};
 ghost use Rattle.std.specs.Net.Text as Text;
@@ -154,7 +154,7 @@ fn groups(address: u128) -> [u16; 8]
 
 /// Whether the address is in `::ffff:0:0/96`.
 fn is_mapped(groups: &[u16; 8]) -> bool
-    ensures { result ≡ bytes_eq (take 6 groups.now) (0 ∷ 0 ∷ 0 ∷ 0 ∷ 0 ∷ 0xffff ∷ []) }
+    ensures { result ≡ is_mapped groups.now }
 {
     let (front, _) = groups.split_at(6);
     front == [0, 0, 0, 0, 0, 0xffff].as_slice()
@@ -238,7 +238,8 @@ pub fn printed_ip_reads_back(ip: Ip)
 /// the longest run of zero groups, and the first of that length, is written `::` if it has two groups
 /// or more, and none if no run has (RFC 5952, section 4.2). The text of an address of
 /// `::ffff:0:0/96` is `::ffff:` and the text of the IPv4 address that its last 32 bits make (section
-/// 5). No text has a capital letter (section 4.3).
+/// 5). No group begins with a zero digit, except the group 0, which is `0` (section 4.1), and no
+/// text has a capital letter (section 4.3).
 pub fn printed_ipv6_is_canonical(address: u128)
     ensures compressed { (run : ℕ × ℕ) → is_mapped (groups_of address) ≡ false
         → IsFirstLongestRun (groups_of address) run → 2 ≤ run.1
@@ -250,5 +251,7 @@ pub fn printed_ipv6_is_canonical(address: u128)
     ensures some { (run : ℕ × ℕ) × IsFirstLongestRun (groups_of address) run }
     ensures mapped { (four : ℕ) → four < 2 ^ 32
         → ip_text (Ip.V6 (mapped four)) ≡ codes "::ffff:" ++ ip_text (Ip.V4 four) }
+    ensures short { (group : ℕ) → 0 < group → group < 2 ^ 16 → slice_index (Text.hex group) 0 ≢ 48 }
+    ensures zero { Text.hex 0 ≡ codes "0" }
     ensures lower { All (λ byte. is_ascii_uppercase byte ≡ false) (ip_text (Ip.V6 address)) }
 {}

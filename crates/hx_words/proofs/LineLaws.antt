@@ -20,11 +20,6 @@ reads_line env line = is_reading (word_item env) line_end (word-within env) line
 pub reads_once : (env : Env) (line : List ℕ) (reading : Reading LineEnd) → ReadsLine env line reading → reading ≡ line_reading env line
 reads_once env line reading reads = one_reading (word_item env) line_end Outside line reading reads
 
-pub record AreRuns (reading : Reading LineEnd) (words : List (List ℕ)) : Type 0 where
-  pub whole : words ≡ runs reading.items
-  pub few : length words ≤ 256
-  pub complete : reading.ending ≡ Complete
-
 few-test : (b : Bool) (r : Result (List (List ℕ)) WordFault) (words : List (List ℕ)) → (if b then Err TooManyWords else r) ≡ Ok words → (b ≡ false) × (r ≡ Ok words)
 few-test true r words is = cc
 few-test false r words is = (refl, is)

@@ -1,13 +1,11 @@
 -- The variables of the environment, entry by entry.
-use Rattle.std.proofs.Common.{◌≡◌, ℕ, ◌+◌, ◌<◌, List, [], ◌∷◌, ◌++◌, length, take, get_or, nat_lt, ap, ◌∙◌}
+use Rattle.std.proofs.Common.{◌≡◌, ℕ, ◌+◌, ◌<◌, List, [], ◌∷◌, ◌++◌, length, take, get_or, ap, ◌∙◌}
 use Rattle.std.specs.declared.alloc.Global.{Global}
 use Rattle.std.specs.declared.vec.Vec.{Vec}
-use Rattle.std.proofs.lemmas.Bool.{lt-ltb}
 use Rattle.std.proofs.lemmas.List.{take_more, map-append}
 use Rattle.std.proofs.lemmas.List.Elements.{filter_map-append}
-use Rattle.std.proofs.lemmas.List.Folds.{list_any_at}
 use Rattle.hx_words.specs.Variable.{pairs_of}
-use Rattle.hxeval.specs.Machine.{has_longer, variable_of, variables_of}
+use Rattle.hxeval.specs.Machine.{variable_of, variables_of}
 use Rattle.hxeval.specs.Run.{texts_of}
 
 pub one_more : (entries : List (Vec ℕ Global)) (i : ℕ) (d : Vec ℕ Global) → i < length entries
@@ -20,6 +18,3 @@ one_more entries i d within =
 pub pairs_more : (pairs : List (Vec ℕ Global × Vec ℕ Global)) (pair : Vec ℕ Global × Vec ℕ Global)
     → pairs_of (pairs ++ pair ∷ []) ≡ pairs_of pairs ++ (pair.0.items, pair.1.items) ∷ []
 pairs_more pairs pair = map-append (λ pair. (pair.0.items, pair.1.items)) pairs (pair ∷ [])
-
-pub longer_at : (bytes : ℕ) (texts : List (List ℕ)) (i : ℕ) → i < length texts → bytes < length (get_or texts i []) → has_longer bytes texts
-longer_at bytes texts i within longer = list_any_at (λ text. nat_lt bytes (length text)) texts i [] within (lt-ltb bytes (length (get_or texts i [])) longer)

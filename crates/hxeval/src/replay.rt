@@ -87,7 +87,7 @@ impl From<RecordFault> for ReplayFault {
     }
 }
 
-/// Answers the events of a record in order: each answer is written before the next event is read.
+/// Answers the events of a record in order: each answer is written before more of the record is read.
 ///
 /// `Refused` exactly where the record is refused, after the answers to the events before. `Source` and `Sink` only
 /// where the count of faults of that one rose, and `NoMemory` where memory runs out: what was written is then a

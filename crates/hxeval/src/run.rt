@@ -17,7 +17,7 @@ use std::alloc::Global;
 /// environment `env`, and answers the exit status.
 ///
 /// `run CONFIG` reads the file CONFIG as a configuration, and answers the events of the record in order: each
-/// answer is written before the next event is read.
+/// answer is written before more of the record is read.
 ///
 /// | Status | Comes |
 /// |---|---|

@@ -1,7 +1,8 @@
 use Rattle.std.specs.Net.Text.{longest_zero_run}
 use Rattle.hx_text.specs.Address.{groups_of, ip_text}
-use Rattle.hx_text.proofs.PrintLemmas.{first_longest_run, compressed_run, plain_groups}
-use Rattle.hx_text.proofs.TextLemmas.{mapped_shown, no_capital}
+use Rattle.std.proofs.Common.{arith}
+use Rattle.hx_text.proofs.PrintLemmas.{hex_one, first_longest_run, compressed_run, plain_groups}
+use Rattle.hx_text.proofs.TextLemmas.{mapped_shown, no_capital, no_leading_zero}
 use Rattle.hx_text.proofs.printing.printed_ipv6_is_canonical.Goals as goal
 
 pub returns-clause-compressed : goal.returns-clause-compressed
@@ -22,3 +23,9 @@ returns-clause-mapped c = mapped_shown
 pub returns-clause-lower : goal.returns-clause-lower
 unfolding ip_text
 returns-clause-lower c = no_capital c.args.address
+
+pub returns-clause-short : goal.returns-clause-short
+returns-clause-short c = no_leading_zero
+
+pub returns-clause-zero : goal.returns-clause-zero
+returns-clause-zero c = hex_one 0 (omega arith)

@@ -5,7 +5,7 @@ use Rattle.std.proofs.lemmas.Result.{err_from_is_err_and}
 use Rattle.hx_record.specs.Record.{Unknown, Bad}
 use Rattle.hx_record.specs.State.{decided_now}
 use Rattle.hx_record.proofs.StateLemmas.{skip_passes, found_passes, fault_within, undecided_now, found_now, finish_now, fault_now, long_now}
-use Rattle.hx_record.proofs.ReadLemmas.{behind_start, behind_skip, behind_fill, asked_start, asked_skip, asked_fill, undecided_now_open, undecided_items, finish_ended, told, found_no_fault, work_skip, work_fill}
+use Rattle.hx_record.proofs.ReadLemmas.{behind_start, behind_skip, behind_fill, alone_start, alone_skip, alone_fill, undecided_now_open, undecided_items, finish_ended, told, found_no_fault, work_skip, work_fill}
 use Rattle.hx_record.proofs.AskLemmas.{asks_start, asks_skip, asks_fill}
 use Rattle.hx_record.proofs.AnswerLemmas.{reads_found, reads_none, reads_fault, reads_long, reads_no_memory, reads_outside}
 use Rattle.hx_record.proofs.reader.Reader.next_event.Goals as goal
@@ -13,8 +13,8 @@ use Rattle.hx_record.proofs.reader.Reader.next_event.Goals as goal
 pub pieces-init : goal.pieces-init
 pieces-init g c = record {
   behind = behind_start c.args.self.now (g.S.Source.left c.args.source.now);
-  asked = asked_start c.args.self.now c.args.source.now;
-  asks = asks_start c.args.self.now (g.S.Source.left c.args.source.now) (g.S.Source.log c.args.source.now);
+  left_alone = alone_start c.args.self.now c.args.source.now;
+  asked = asks_start c.args.self.now (g.S.Source.left c.args.source.now) (g.S.Source.log c.args.source.now);
   ended = c.requires;
   later = omega arith;
 }
@@ -47,8 +47,8 @@ pieces-preserved g c =
     let log = g.S.Source.log in
     rw (c.advance.ensures, c.judge.ensures.same) (record {
       behind = behind_skip c.args.self.now c.pieces.self (left c.args.source.now) (left c.pieces.source) c.in-Skip.used so_far.behind e;
-      asked = asked_skip c.args.self.now c.pieces.self c.args.source.now c.pieces.source c.in-Skip.used so_far.asked e;
-      asks = asks_skip c.args.self.now c.pieces.self (left c.args.source.now) (left c.pieces.source) (log c.args.source.now) (log c.pieces.source) c.in-Skip.used so_far.behind e so_far.asks;
+      left_alone = alone_skip c.args.self.now c.pieces.self c.args.source.now c.pieces.source c.in-Skip.used so_far.left_alone e;
+      asked = asks_skip c.args.self.now c.pieces.self (left c.args.source.now) (left c.pieces.source) (log c.args.source.now) (log c.pieces.source) c.in-Skip.used so_far.behind e so_far.asked;
       ended = so_far.ended;
       later = so_far.later;
     })
@@ -68,7 +68,7 @@ returns-in_err-judge-clause-reads g c =
     let left = g.S.Source.left in
     let log = g.S.Source.log in
     let p = err_from_is_err_and c.from_residual.result c.from_residual.ensures.1 in
-    rw (p.1, p.2, c.judge.ensures.same) (reads_no_memory c.args.self.now c.pieces.self (left c.args.source.now) (left c.pieces.source) (log c.args.source.now) (log c.pieces.source) c.pieces.invariant.behind c.pieces.invariant.asks)
+    rw (p.1, p.2, c.judge.ensures.same) (reads_no_memory c.args.self.now c.pieces.self (left c.args.source.now) (left c.pieces.source) (log c.args.source.now) (log c.pieces.source) c.pieces.invariant.behind c.pieces.invariant.asked)
 
 pub returns-in-Err-clause-reads : goal.returns-in-Err-clause-reads
 returns-in-Err-clause-reads g c =
@@ -76,28 +76,28 @@ returns-in-Err-clause-reads g c =
     let log = g.S.Source.log in
     let e = sym c.in_ok-judge.ensures.ok ∙ c.in-Undecided.is in
     rw (c.in-Err.ensures.err, c.judge.ensures.same) (reads_outside c.args.self.now c.pieces.self (left c.args.source.now) (left c.pieces.source) (left c.fill.new.source)
-    (log c.args.source.now) (log c.pieces.source) (log c.fill.new.source) c.in-Err.fault c.pieces.invariant.behind c.pieces.invariant.asks e c.in-Err.ensures.kept c.in-Err.ensures.log)
+    (log c.args.source.now) (log c.pieces.source) (log c.fill.new.source) c.in-Err.fault c.pieces.invariant.behind c.pieces.invariant.asked e c.in-Err.ensures.kept c.in-Err.ensures.log)
 
 pub returns-in-Found-clause-reads : goal.returns-in-Found-clause-reads
 returns-in-Found-clause-reads g c =
     let left = g.S.Source.left in
     let log = g.S.Source.log in
     let e = sym c.in_ok-judge.ensures.ok ∙ c.in-Found.is in
-    rw (c.place-offset.ensures, c.advance-in-Found.ensures, c.judge.ensures.same, add-zero) (reads_found c.args.self.now c.pieces.self (left c.args.source.now) (left c.pieces.source) (log c.args.source.now) (log c.pieces.source) c.in-Found.used c.in-Found.event c.pieces.invariant.behind c.pieces.invariant.asks e)
+    rw (c.place-offset.ensures, c.advance-in-Found.ensures, c.judge.ensures.same, add-zero) (reads_found c.args.self.now c.pieces.self (left c.args.source.now) (left c.pieces.source) (log c.args.source.now) (log c.pieces.source) c.in-Found.used c.in-Found.event c.pieces.invariant.behind c.pieces.invariant.asked e)
 
 pub returns-in-Finish-clause-reads : goal.returns-in-Finish-clause-reads
 returns-in-Finish-clause-reads g c =
     let left = g.S.Source.left in
     let log = g.S.Source.log in
     let e = sym c.in_ok-judge.ensures.ok ∙ c.in-Finish.is in
-    rw c.judge.ensures.same (reads_none c.args.self.now c.pieces.self (left c.args.source.now) (left c.pieces.source) (log c.args.source.now) (log c.pieces.source) c.pieces.invariant.behind c.pieces.invariant.asks e)
+    rw c.judge.ensures.same (reads_none c.args.self.now c.pieces.self (left c.args.source.now) (left c.pieces.source) (log c.args.source.now) (log c.pieces.source) c.pieces.invariant.behind c.pieces.invariant.asked e)
 
 pub returns-in-TooLong-clause-reads : goal.returns-in-TooLong-clause-reads
 returns-in-TooLong-clause-reads g c =
     let left = g.S.Source.left in
     let log = g.S.Source.log in
     let e = sym c.in_ok-judge.ensures.ok ∙ c.in-TooLong.is in
-    rw (c.limit-offset.ensures, c.code.ensures, c.judge.ensures.same) (reads_long c.args.self.now c.pieces.self (left c.args.source.now) (left c.pieces.source) (log c.args.source.now) (log c.pieces.source) c.pieces.invariant.behind c.pieces.invariant.asks e)
+    rw (c.limit-offset.ensures, c.code.ensures, c.judge.ensures.same) (reads_long c.args.self.now c.pieces.self (left c.args.source.now) (left c.pieces.source) (log c.args.source.now) (log c.pieces.source) c.pieces.invariant.behind c.pieces.invariant.asked e)
 
 pub place-offset-requires-in-Fault : goal.place-offset-requires-in-Fault
 place-offset-requires-in-Fault g c =
@@ -109,47 +109,47 @@ returns-in-Fault-clause-reads g c =
     let left = g.S.Source.left in
     let log = g.S.Source.log in
     let e = sym c.in_ok-judge.ensures.ok ∙ c.in-Fault.is in
-    rw (c.place-offset-in-Fault.ensures, c.code-in-Fault.ensures, c.judge.ensures.same) (reads_fault c.args.self.now c.pieces.self (left c.args.source.now) (left c.pieces.source) (log c.args.source.now) (log c.pieces.source) c.in-Fault.skip c.in-Fault.refusal c.pieces.invariant.behind c.pieces.invariant.asks e)
+    rw (c.place-offset-in-Fault.ensures, c.code-in-Fault.ensures, c.judge.ensures.same) (reads_fault c.args.self.now c.pieces.self (left c.args.source.now) (left c.pieces.source) (log c.args.source.now) (log c.pieces.source) c.in-Fault.skip c.in-Fault.refusal c.pieces.invariant.behind c.pieces.invariant.asked e)
 
 -- what was refused at first
 
 pub returns-in_err-judge-clause-again : goal.returns-in_err-judge-clause-again
 returns-in_err-judge-clause-again g c offset code bad =
-    let so_far = told c.args.self.now c.pieces.self c.args.source.now c.pieces.source offset code c.pieces.invariant.asked bad in
+    let so_far = told c.args.self.now c.pieces.self c.args.source.now c.pieces.source offset code c.pieces.invariant.left_alone bad in
     absurd (found_no_fault c.pieces.self offset code c.in_err-judge.ensures.err so_far)
 
 pub returns-in-Err-clause-again : goal.returns-in-Err-clause-again
 returns-in-Err-clause-again g c offset code bad =
     let e = sym c.in_ok-judge.ensures.ok ∙ c.in-Undecided.is in
-    let so_far : decided_now c.pieces.self ≡ Bad offset code = told c.args.self.now c.pieces.self c.args.source.now c.pieces.source offset code c.pieces.invariant.asked bad in
+    let so_far : decided_now c.pieces.self ≡ Bad offset code = told c.args.self.now c.pieces.self c.args.source.now c.pieces.source offset code c.pieces.invariant.left_alone bad in
     let unknown : decided_now c.pieces.self ≡ Unknown = undecided_now c.pieces.self e in
     cc
 
 pub returns-in-Found-clause-again : goal.returns-in-Found-clause-again
 returns-in-Found-clause-again g c offset code bad =
     let e = sym c.in_ok-judge.ensures.ok ∙ c.in-Found.is in
-    let so_far : decided_now c.pieces.self ≡ Bad offset code = told c.args.self.now c.pieces.self c.args.source.now c.pieces.source offset code c.pieces.invariant.asked bad in
+    let so_far : decided_now c.pieces.self ≡ Bad offset code = told c.args.self.now c.pieces.self c.args.source.now c.pieces.source offset code c.pieces.invariant.left_alone bad in
     let event = found_now c.pieces.self c.in-Found.used c.in-Found.event e in
     cc
 
 pub returns-in-Finish-clause-again : goal.returns-in-Finish-clause-again
 returns-in-Finish-clause-again g c offset code bad =
     let e = sym c.in_ok-judge.ensures.ok ∙ c.in-Finish.is in
-    let so_far : decided_now c.pieces.self ≡ Bad offset code = told c.args.self.now c.pieces.self c.args.source.now c.pieces.source offset code c.pieces.invariant.asked bad in
+    let so_far : decided_now c.pieces.self ≡ Bad offset code = told c.args.self.now c.pieces.self c.args.source.now c.pieces.source offset code c.pieces.invariant.left_alone bad in
     let done = finish_now c.pieces.self e in
     cc
 
 pub returns-in-TooLong-clause-again : goal.returns-in-TooLong-clause-again
 returns-in-TooLong-clause-again g c offset code bad =
     let e = sym c.in_ok-judge.ensures.ok ∙ c.in-TooLong.is in
-    let so_far : decided_now c.pieces.self ≡ Bad offset code = told c.args.self.now c.pieces.self c.args.source.now c.pieces.source offset code c.pieces.invariant.asked bad in
+    let so_far : decided_now c.pieces.self ≡ Bad offset code = told c.args.self.now c.pieces.self c.args.source.now c.pieces.source offset code c.pieces.invariant.left_alone bad in
     let long = long_now c.pieces.self e in
     rw (c.limit-offset.ensures, c.code.ensures, c.judge.ensures.same) (cc)
 
 pub returns-in-Fault-clause-again : goal.returns-in-Fault-clause-again
 returns-in-Fault-clause-again g c offset code bad =
     let e = sym c.in_ok-judge.ensures.ok ∙ c.in-Fault.is in
-    let so_far : decided_now c.pieces.self ≡ Bad offset code = told c.args.self.now c.pieces.self c.args.source.now c.pieces.source offset code c.pieces.invariant.asked bad in
+    let so_far : decided_now c.pieces.self ≡ Bad offset code = told c.args.self.now c.pieces.self c.args.source.now c.pieces.source offset code c.pieces.invariant.left_alone bad in
     let fault = fault_now c.pieces.self c.in-Fault.skip c.in-Fault.refusal e in
     rw (c.place-offset-in-Fault.ensures, c.code-in-Fault.ensures, c.judge.ensures.same) (cc)
 
@@ -167,7 +167,7 @@ returns-in-Fault-clause-stuck g c offset code same =
     let answer = rw (c.place-offset-in-Fault.ensures, c.code-in-Fault.ensures, c.judge.ensures.same) at same in
     rw c.judge.ensures.same (cc)
 
--- where the source was asked
+-- where the source was left_alone
 
 pub returns-in-Err-clause-ended : goal.returns-in-Err-clause-ended
 returns-in-Err-clause-ended g c =
@@ -184,13 +184,13 @@ pub returns-in-Err-clause-unasked : goal.returns-in-Err-clause-unasked
 returns-in-Err-clause-unasked g c known =
     let e = sym c.in_ok-judge.ensures.ok ∙ c.in-Undecided.is in
     let left = g.S.Source.left in
-    ((asked_fill c.args.self.now c.pieces.self c.fill.new.self (left c.args.source.now) (left c.pieces.source) c.args.source.now c.pieces.source c.fill.new.source c.pieces.invariant.behind c.pieces.invariant.asked e).same known).0
+    ((alone_fill c.args.self.now c.pieces.self c.fill.new.self (left c.args.source.now) (left c.pieces.source) c.args.source.now c.pieces.source c.fill.new.source c.pieces.invariant.behind c.pieces.invariant.left_alone e).same known).0
 
 pub returns-in-Err-clause-over : goal.returns-in-Err-clause-over
 returns-in-Err-clause-over g c ended =
     let e = sym c.in_ok-judge.ensures.ok ∙ c.in-Undecided.is in
     let left = g.S.Source.left in
-    (asked_fill c.args.self.now c.pieces.self c.fill.new.self (left c.args.source.now) (left c.pieces.source) c.args.source.now c.pieces.source c.fill.new.source c.pieces.invariant.behind c.pieces.invariant.asked e).over ended
+    (alone_fill c.args.self.now c.pieces.self c.fill.new.self (left c.args.source.now) (left c.pieces.source) c.args.source.now c.pieces.source c.fill.new.source c.pieces.invariant.behind c.pieces.invariant.left_alone e).over ended
 
 -- the other clauses
 
@@ -225,8 +225,8 @@ pieces-preserved-in-Ok g c =
     let grows = rw c.judge.ensures.same at c.in-Ok.ensures.ok in
     record {
       behind = behind_fill c.args.self.now c.pieces.self c.fill.new.self (left c.args.source.now) (left c.pieces.source) (left c.fill.new.source) (log c.pieces.source) (log c.fill.new.source) so_far.behind (undecided_items c.pieces.self e).0 grows;
-      asked = asked_fill c.args.self.now c.pieces.self c.fill.new.self (left c.args.source.now) (left c.pieces.source) c.args.source.now c.pieces.source c.fill.new.source so_far.behind so_far.asked e;
-      asks = asks_fill c.args.self.now c.pieces.self c.fill.new.self (left c.args.source.now) (left c.pieces.source) (left c.fill.new.source) (log c.args.source.now) (log c.pieces.source) (log c.fill.new.source) so_far.behind e grows so_far.asks;
+      left_alone = alone_fill c.args.self.now c.pieces.self c.fill.new.self (left c.args.source.now) (left c.pieces.source) c.args.source.now c.pieces.source c.fill.new.source so_far.behind so_far.left_alone e;
+      asked = asks_fill c.args.self.now c.pieces.self c.fill.new.self (left c.args.source.now) (left c.pieces.source) (left c.fill.new.source) (log c.args.source.now) (log c.pieces.source) (log c.fill.new.source) so_far.behind e grows so_far.asked;
       ended = λ over. (grows.ended over).1;
       later = omega (arith, so_far.later, c.in-Ok.ensures.later);
     }
