@@ -48,13 +48,7 @@ pub record Grows (before after : State) (left left' : Option (List ℕ)) (log lo
   pub some : after.ended ≡ false → 0 < length got
   pub ended : after.ended ≡ true → (got ≡ []) × IsAtEnd left'
 
--- a fault that is none of the record
-abbrev pub IsOutside : RecordFault → Type 0
-IsOutside (faults.Bad offset code) = ⊥
-IsOutside faults.Failed = Unit {0}
-IsOutside faults.NoMemory = Unit {0}
-
--- a read that failed is in the log, and where memory ran out there was none
+-- a fault is none of the record: a read that failed, which is in the log, or memory that ran out, with no read
 abbrev pub Notes : RecordFault → Option Log → Option Log → Type 0
 Notes (faults.Bad offset code) old new = ⊥
 Notes faults.Failed old new = Logs old new None

@@ -1,6 +1,5 @@
-ghost use Rattle.std.specs.Prelude.{◌≡◌, [], ◌∷◌, IsTrue, ◌↔◌, slice_index, MatchResult, IfOk, IfSome, ◌≤◌, None, ◌-◌, ◌^◌};
+ghost use Rattle.std.specs.Prelude.{◌≡◌, [], ◌∷◌, MatchResult, IfOk, ◌≤◌, ◌-◌, ◌^◌};
 ghost use Rattle.std.specs.Option.{option_copied};
-ghost use Rattle.hx_text.specs.Number.{number_up_to};
 ghost use Rattle.hx_record.specs.Line.{words_of, number_of_word, address_of_word, line_says, words_say, conn_says, req_says, close_says, cli_says};
 ghost use Rattle.hx_record.specs.Said.{what_is_said, words_after, IsSomeWords};
 

@@ -4,7 +4,7 @@ ghost use Rattle.hx_outside.specs.Count.{Rose};
 ghost use Rattle.hx_record.specs.Record.{Unknown, Bad};
 ghost use Rattle.hx_record.specs.State.{State, decided_now};
 ghost use Rattle.hx_record.specs.Reading.{Reads};
-ghost use Rattle.hx_record.specs.Parts.{IsFound, piece_now, passed_by, Grows, IsOutside, Notes};
+ghost use Rattle.hx_record.specs.Parts.{IsFound, piece_now, passed_by, Grows, Notes};
 
 use crate::events::Placed;
 use crate::fault::RecordFault;
@@ -194,7 +194,6 @@ impl Reader {
         ensures later { S.faults source.old ≤ S.faults source.new }
         ensures failed { result ≡ Err RecordFault.Failed
             → Rose (S.faults source.old) (S.faults source.new) }
-        ensures outside { IfErr result IsOutside }
     {
         self.window.reserve()?;
         let count = self.window.read(source)?;

@@ -1,4 +1,4 @@
-ghost use Rattle.std.specs.Prelude.{◌≡◌, ℕ, ◌≤◌, List, IfOk, IfSome, Ok, Err, length};
+ghost use Rattle.std.specs.Prelude.{◌≡◌, IfOk, Ok, Err};
 ghost use Rattle.hx_words.specs.Variable.{pairs_of};
 ghost use Rattle.hxeval.specs.Configuration.{line_rule, loaded};
 ghost use Rattle.hxeval.specs.declared.load.Refusal.{Refusal};

@@ -1,8 +1,8 @@
-ghost use Rattle.std.specs.Prelude.{◌≡◌, ◌<◌, IfOk, IfSome, List, ℕ, Option, Some, ◌↔◌};
+ghost use Rattle.std.specs.Prelude.{◌≡◌, ◌<◌, IfOk, IfSome, Option, Some, ◌↔◌};
 ghost use Rattle.std.specs.List.{list_all};
 ghost use Rattle.std.specs.Option.{option_copied};
 ghost use Rattle.hxeval.specs.Rules.{Rule};
-ghost use Rattle.hxeval.specs.Statement.{Spells, is_value, behind_word, values_of, condition_of, polarity_of, conditional, rule_of};
+ghost use Rattle.hxeval.specs.Statement.{Spells, is_value, behind_word, values_of, condition_of, polarity_of, rule_of};
 
 use crate::rules::Rule;
 use hx_text::{NoMemory, Octets};
