@@ -15,7 +15,7 @@ use Rattle.hx_text.specs.declared.kinds.Kind.{Kind}
 use Rattle.hx_text.specs.declared.kinds.Kind.TheVariants as kind
 use Rattle.hx_fetch.specs.Names.{lines_of, values_of, cookies_of, params_of}
 use Rattle.hx_fetch.specs.Picks.{picked, end_of}
-use Rattle.hx_fetch.specs.World.{Scene}
+use Rattle.hx_fetch.specs.World.{Context}
 
 -- the bytes that hex digits write, or none where there is another byte among them or an odd one left
 abbrev pub hex_bytes : List ℕ → Option (List ℕ)
@@ -44,38 +44,38 @@ abbrev pub as_kind : Kind → List (List ℕ) → List (Option Value)
 as_kind kind texts = map (λ text. cast_of (value.Str text) kind) texts
 
 -- The places of a fetch. One that isn't about many lines, values, cookies or parameters has one place.
-abbrev pub occurrences_of : Fetch → Scene → List (Option Value)
-occurrences_of fetch.AlwaysTrue scene = Some (value.Bool true) ∷ []
-occurrences_of fetch.AlwaysFalse scene = Some (value.Bool false) ∷ []
-occurrences_of (fetch.Bool b) scene = Some (value.Bool b) ∷ []
-occurrences_of (fetch.Int n) scene = Some (value.Int n) ∷ []
-occurrences_of (fetch.Str text) scene = Some (value.Str text) ∷ []
-occurrences_of (fetch.Bin digits) scene = option_map value.Bin (hex_bytes digits) ∷ []
-occurrences_of (fetch.Ipv4 ip) scene = Some (value.Ip ip) ∷ []
-occurrences_of (fetch.Ipv6 ip) scene = Some (value.Ip ip) ∷ []
-occurrences_of (fetch.Var name) scene = var_of scene.vars scene.conn.id name ∷ []
-occurrences_of fetch.Src scene = Some (value.Ip scene.conn.src) ∷ []
-occurrences_of fetch.Dst scene = Some (value.Ip scene.conn.dst) ∷ []
-occurrences_of fetch.SrcPort scene = Some (value.Int (pos scene.conn.src_port)) ∷ []
-occurrences_of fetch.DstPort scene = Some (value.Int (pos scene.conn.dst_port)) ∷ []
-occurrences_of fetch.Method scene = Some (value.Method scene.message.method) ∷ []
-occurrences_of fetch.ReqVer scene = Some (value.Str (version_text scene.message.minor)) ∷ []
-occurrences_of fetch.Path scene = option_map value.Str (path_of scene.message.target) ∷ []
-occurrences_of fetch.Query scene = option_map value.Str (query_of scene.message.target) ∷ []
-occurrences_of fetch.Url scene = Some (value.Str scene.message.target) ∷ []
-occurrences_of fetch.Base scene = option_map value.Str (base_of scene.message) ∷ []
-occurrences_of (fetch.ReqHdr name at) scene =
-    as_kind kind.Str (picked at (values_of (Some name) scene.message.headers))
-occurrences_of (fetch.ReqFhdr name at) scene =
-    as_kind kind.Str (picked at (lines_of (Some name) scene.message.headers))
-occurrences_of (fetch.ReqHdrIp name at) scene =
-    as_kind kind.Ip (picked at (values_of (Some name) scene.message.headers))
-occurrences_of (fetch.ReqHdrVal name at) scene =
-    as_kind kind.Int (picked at (values_of (Some name) scene.message.headers))
-occurrences_of (fetch.ReqHdrCnt name) scene = Some (count_of (values_of name scene.message.headers)) ∷ []
-occurrences_of (fetch.ReqCook name) scene = as_kind kind.Str (cookies_of name scene.message.headers)
-occurrences_of (fetch.ReqCookCnt name) scene = Some (count_of (cookies_of name scene.message.headers)) ∷ []
-occurrences_of (fetch.UrlParam name delim) scene = as_kind kind.Str (params_of name delim scene.message.target)
+abbrev pub occurrences_of : Fetch → Context → List (Option Value)
+occurrences_of fetch.AlwaysTrue context = Some (value.Bool true) ∷ []
+occurrences_of fetch.AlwaysFalse context = Some (value.Bool false) ∷ []
+occurrences_of (fetch.Bool b) context = Some (value.Bool b) ∷ []
+occurrences_of (fetch.Int n) context = Some (value.Int n) ∷ []
+occurrences_of (fetch.Str text) context = Some (value.Str text) ∷ []
+occurrences_of (fetch.Bin digits) context = option_map value.Bin (hex_bytes digits) ∷ []
+occurrences_of (fetch.Ipv4 ip) context = Some (value.Ip ip) ∷ []
+occurrences_of (fetch.Ipv6 ip) context = Some (value.Ip ip) ∷ []
+occurrences_of (fetch.Var name) context = var_of context.vars context.conn.id name ∷ []
+occurrences_of fetch.Src context = Some (value.Ip context.conn.src) ∷ []
+occurrences_of fetch.Dst context = Some (value.Ip context.conn.dst) ∷ []
+occurrences_of fetch.SrcPort context = Some (value.Int (pos context.conn.src_port)) ∷ []
+occurrences_of fetch.DstPort context = Some (value.Int (pos context.conn.dst_port)) ∷ []
+occurrences_of fetch.Method context = Some (value.Method context.message.method) ∷ []
+occurrences_of fetch.ReqVer context = Some (value.Str (version_text context.message.minor)) ∷ []
+occurrences_of fetch.Path context = option_map value.Str (path_of context.message.target) ∷ []
+occurrences_of fetch.Query context = option_map value.Str (query_of context.message.target) ∷ []
+occurrences_of fetch.Url context = Some (value.Str context.message.target) ∷ []
+occurrences_of fetch.Base context = option_map value.Str (base_of context.message) ∷ []
+occurrences_of (fetch.ReqHdr name at) context =
+    as_kind kind.Str (picked at (values_of (Some name) context.message.headers))
+occurrences_of (fetch.ReqFhdr name at) context =
+    as_kind kind.Str (picked at (lines_of (Some name) context.message.headers))
+occurrences_of (fetch.ReqHdrIp name at) context =
+    as_kind kind.Ip (picked at (values_of (Some name) context.message.headers))
+occurrences_of (fetch.ReqHdrVal name at) context =
+    as_kind kind.Int (picked at (values_of (Some name) context.message.headers))
+occurrences_of (fetch.ReqHdrCnt name) context = Some (count_of (values_of name context.message.headers)) ∷ []
+occurrences_of (fetch.ReqCook name) context = as_kind kind.Str (cookies_of name context.message.headers)
+occurrences_of (fetch.ReqCookCnt name) context = Some (count_of (cookies_of name context.message.headers)) ∷ []
+occurrences_of (fetch.UrlParam name delim) context = as_kind kind.Str (params_of name delim context.message.target)
 
 -- Whether an expression takes the last place of a fetch, and not the first: of the values and lines
 -- of a header, and of the cookies of a name.
@@ -88,5 +88,5 @@ takes_last (fetch.ReqCook (Some name)) = true
 takes_last _ = false
 
 -- the place that an expression takes
-abbrev pub chosen_of : Fetch → Scene → Option Value
-chosen_of fetch scene = end_of (takes_last fetch) (occurrences_of fetch scene)
+abbrev pub chosen_of : Fetch → Context → Option Value
+chosen_of fetch context = end_of (takes_last fetch) (occurrences_of fetch context)

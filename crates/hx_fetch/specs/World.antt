@@ -5,11 +5,11 @@ use Rattle.hx_fetch.specs.declared.world.Conn.{Conn}
 use Rattle.hx_fetch.specs.declared.world.World.{World}
 
 -- the parts of the request's head, the connection that it came by, and the variables of every scope
-pub record Scene : Type 0 where
+pub record Context : Type 0 where
   pub message : Parts
   pub conn : Conn
   pub vars : Scopes
 
 -- what the references of a world point to
-abbrev pub scene_of : World → Scene
-scene_of world = record { message = world.message.now; conn = world.conn.now; vars = world.vars.now }
+abbrev pub context_of : World → Context
+context_of world = record { message = world.message.now; conn = world.conn.now; vars = world.vars.now }

@@ -1,7 +1,7 @@
 ghost use Rattle.std.specs.Prelude.{◌≡◌, [], ◌∷◌, IfOk};
-ghost use Rattle.hx_sample.specs.Seen.{seen_place};
+ghost use Rattle.hx_sample.specs.Seen.{occurrence_value};
 ghost use Rattle.hx_fetch.specs.Fetches.{occurrences_of, chosen_of, takes_last};
-ghost use Rattle.hx_fetch.specs.World.{scene_of};
+ghost use Rattle.hx_fetch.specs.World.{context_of};
 
 use crate::found::{Found, look_up};
 use crate::walks::{list, pick, pick_end, read};
@@ -13,7 +13,7 @@ use std::alloc::Global;
 
 /// The one place as a list.
 fn alone<'w>(alloc: Global, place: Option<Sample<'w>>) -> Result<Samples<'w>, NoMemory>
-    ensures { IfOk result (λ places. places ≡ seen_place place.entry ∷ []) }
+    ensures { IfOk result (λ places. places ≡ occurrence_value place.entry ∷ []) }
 {
     let mut places = Samples::new(alloc);
     places.push(place)?;
@@ -56,7 +56,7 @@ pub fn occurrences<'w>(
     fetch: &Fetch,
     world: &World<'w>,
 ) -> Result<Samples<'w>, NoMemory>
-    ensures { IfOk result (λ places. places ≡ occurrences_of fetch.now (scene_of world.now)) }
+    ensures { IfOk result (λ places. places ≡ occurrences_of fetch.now (context_of world.now)) }
 {
     match look_up(alloc, fetch, world)? {
         Found::Place(place) => alone(alloc, place),
@@ -77,7 +77,7 @@ pub fn chosen<'w>(
     fetch: &Fetch,
     world: &World<'w>,
 ) -> Result<Option<Sample<'w>>, NoMemory>
-    ensures { IfOk result (λ place. seen_place place ≡ chosen_of fetch.now (scene_of world.now)) }
+    ensures { IfOk result (λ place. occurrence_value place ≡ chosen_of fetch.now (context_of world.now)) }
 {
     match look_up(alloc, fetch, world)? {
         Found::Place(place) => Ok(place),

@@ -1,13 +1,13 @@
 ghost use Rattle.std.specs.Prelude.{◌≡◌, IfOk, Some, codes, option_map};
 ghost use Rattle.std.specs.Option.{option_copied};
 ghost use Rattle.hx_sample.specs.declared.sample.Value.TheVariants as value;
-ghost use Rattle.hx_sample.specs.Seen.{seen, seen_place};
+ghost use Rattle.hx_sample.specs.Seen.{value_of, occurrence_value};
 ghost use Rattle.hx_sample.specs.Vars.{var_of};
 ghost use Rattle.hx_fetch.specs.Fetches.{base_of, count_of, first_text, hex_bytes, occurrences_of, version_text};
 ghost use Rattle.hx_fetch.specs.Found.{found_places};
 ghost use Rattle.hx_fetch.specs.Names.{cookies_of, lines_of, values_of};
 ghost use Rattle.hx_fetch.specs.Texts.{source_texts};
-ghost use Rattle.hx_fetch.specs.World.{scene_of};
+ghost use Rattle.hx_fetch.specs.World.{context_of};
 
 use crate::lines::Lines;
 use crate::texts::Source;
@@ -65,7 +65,7 @@ fn base(alloc: Global, message: &Message) -> Result<Option<Octets>, NoMemory>
 }
 
 fn variable<'w>(world: &World<'w>, name: &VarName) -> Option<Sample<'w>>
-    ensures { seen_place result ≡ var_of world.now.vars.now world.now.conn.now.id name.now }
+    ensures { occurrence_value result ≡ var_of world.now.vars.now world.now.conn.now.id name.now }
 {
     match world.vars.get(world.conn.id, name) {
         Some(value) => Some(lend(value)),
@@ -74,25 +74,25 @@ fn variable<'w>(world: &World<'w>, name: &VarName) -> Option<Sample<'w>>
 }
 
 fn text<'w>(bytes: &'w [u8]) -> Option<Sample<'w>>
-    ensures { seen_place result ≡ Some (value.Str bytes.now) }
+    ensures { occurrence_value result ≡ Some (value.Str bytes.now) }
 {
     Some(Sample::Str(Bytes::Lent(bytes)))
 }
 
 fn method<'w>(message: &'w Message) -> Option<Sample<'w>>
-    ensures { seen_place result ≡ Some (value.Method message.now.method) }
+    ensures { occurrence_value result ≡ Some (value.Method message.now.method) }
 {
     Some(Sample::Method(Bytes::Lent(message.method())))
 }
 
 fn value_count<'w>(message: &Message, name: &Option<Octets>) -> Sample<'w>
-    ensures { seen result ≡ count_of (values_of name.now message.now.headers) }
+    ensures { value_of result ≡ count_of (values_of name.now message.now.headers) }
 {
     count(Source::Values(message, name_in(name)))
 }
 
 fn text_if<'w>(bytes: Option<&'w [u8]>) -> Option<Sample<'w>>
-    ensures { seen_place result ≡ option_map value.Str (option_copied bytes.entry) }
+    ensures { occurrence_value result ≡ option_map value.Str (option_copied bytes.entry) }
 {
     match bytes {
         Some(bytes) => text(bytes),
@@ -128,13 +128,13 @@ fn request_cookies<'f, 'w>(message: &'w Message, name: &'f Option<Octets>) -> So
 }
 
 fn copied<'w>(alloc: Global, octets: &Octets) -> Result<Option<Sample<'w>>, NoMemory>
-    ensures { IfOk result (λ place. seen_place place ≡ Some (value.Str octets.now)) }
+    ensures { IfOk result (λ place. occurrence_value place ≡ Some (value.Str octets.now)) }
 {
     Ok(Some(Sample::Str(Bytes::Own(Octets::copy(alloc, octets.as_slice())?))))
 }
 
 fn decoded<'w>(alloc: Global, digits: &Octets) -> Result<Option<Sample<'w>>, NoMemory>
-    ensures { IfOk result (λ place. seen_place place ≡ option_map value.Bin (hex_bytes digits.now)) }
+    ensures { IfOk result (λ place. occurrence_value place ≡ option_map value.Bin (hex_bytes digits.now)) }
 {
     match hex_bytes(alloc, digits.as_slice())? {
         Some(bytes) => Ok(Some(Sample::Bin(Bytes::Own(bytes)))),
@@ -143,7 +143,7 @@ fn decoded<'w>(alloc: Global, digits: &Octets) -> Result<Option<Sample<'w>>, NoM
 }
 
 fn base_text<'w>(alloc: Global, message: &Message) -> Result<Option<Sample<'w>>, NoMemory>
-    ensures { IfOk result (λ place. seen_place place ≡ option_map value.Str (base_of message.now)) }
+    ensures { IfOk result (λ place. occurrence_value place ≡ option_map value.Str (base_of message.now)) }
 {
     match base(alloc, message)? {
         Some(base) => Ok(Some(Sample::Str(Bytes::Own(base)))),
@@ -158,7 +158,7 @@ pub(crate) fn look_up<'f, 'w>(
     fetch: &'f Fetch,
     world: &World<'w>,
 ) -> Result<Found<'f, 'w>, NoMemory>
-    ensures { IfOk result (λ found. found_places found ≡ occurrences_of fetch.now (scene_of world.now)) }
+    ensures { IfOk result (λ found. found_places found ≡ occurrences_of fetch.now (context_of world.now)) }
 {
     let message = world.message;
     let conn = world.conn;

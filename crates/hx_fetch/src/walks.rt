@@ -2,7 +2,7 @@ ghost use Rattle.std.specs.Prelude.{◌≡◌, ◌+◌, ◌-◌, ◌^◌, ◌≤
 ghost use Rattle.std.specs.Bool.{OnTrue};
 ghost use Rattle.std.specs.Option.{option_copied};
 ghost use Rattle.hx_sample.specs.declared.sample.Value.TheVariants as value;
-ghost use Rattle.hx_sample.specs.Seen.{seen, seen_place};
+ghost use Rattle.hx_sample.specs.Seen.{value_of, occurrence_value};
 ghost use Rattle.hx_sample.specs.Cast.{cast_of};
 ghost use Rattle.hx_fetch.specs.Fetches.{as_kind, count_of};
 ghost use Rattle.hx_fetch.specs.Picks.{occurrence_at, picked_end};
@@ -89,7 +89,7 @@ pub(crate) fn pick_end<'w>(source: Source<'_, 'w>, at: Option<i64>, last: bool) 
 
 /// How many texts there are, up to the greatest number.
 pub(crate) fn count<'w>(source: Source<'_, '_>) -> Sample<'w>
-    ensures { seen result ≡ count_of (source_texts source.entry) }
+    ensures { value_of result ≡ count_of (source_texts source.entry) }
 {
     let mut count = 0u64;
     for _text in Texts::new(source) {
@@ -104,7 +104,7 @@ pub(crate) fn read<'w>(
     text: &'w [u8],
     kind: Kind,
 ) -> Result<Option<Sample<'w>>, NoMemory>
-    ensures { IfOk result (λ place. seen_place place ≡ cast_of (value.Str text.now) kind) }
+    ensures { IfOk result (λ place. occurrence_value place ≡ cast_of (value.Str text.now) kind) }
 {
     cast(alloc, Sample::Str(Bytes::Lent(text)), kind)
 }

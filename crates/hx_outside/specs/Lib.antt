@@ -1,8 +1,7 @@
 pub mod Count
 pub mod DirFiles
 pub mod Faults
-pub mod Files
-pub mod Fronts
+pub mod Prefixes
 pub mod Guarded
 pub mod Log
 pub mod MemFiles

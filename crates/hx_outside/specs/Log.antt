@@ -6,10 +6,10 @@ use Rattle.std.specs.Option.{option_map}
 abbrev pub Log : Type 0
 Log = List (Option (List ℕ))
 
--- what a read with this result gave, where it put its bytes at the front of `buf`
-abbrev pub given : {E : Type 0} → Result ℕ E → List ℕ → Option (List ℕ)
-given (Ok count) buf = Some (take count buf)
-given (Err _) buf = None
+-- what a read with this result gave, where it put its bytes at the start of `buf`
+abbrev pub bytes_read : {E : Type 0} → Result ℕ E → List ℕ → Option (List ℕ)
+bytes_read (Ok count) buf = Some (take count buf)
+bytes_read (Err _) buf = None
 
 -- A log that is told grows by one read. A source may stop telling it, and doesn't begin to.
 abbrev pub Logs : Option Log → Option Log → Option (List ℕ) → Type 0
@@ -31,7 +31,7 @@ abbrev pub log_of : {A : Type 0} → Option (Vec (Option (Vec ℕ A)) A) → Opt
 log_of kept = option_map (λ reads. reads_of reads.items) kept
 
 -- where a log is told, P holds of the reads made since the old log
-abbrev pub Since : Option Log → Option Log → (Log → Type 0) → Type 0
-Since old None P = ⊤
-Since None (Some new) P = ⊥
-Since (Some old) (Some new) P = (reads : Log) × (new ≡ old ++ reads) × P reads
+abbrev pub HoldsSince : Option Log → Option Log → (Log → Type 0) → Type 0
+HoldsSince old None P = ⊤
+HoldsSince None (Some new) P = ⊥
+HoldsSince (Some old) (Some new) P = (reads : Log) × (new ≡ old ++ reads) × P reads

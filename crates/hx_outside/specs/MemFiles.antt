@@ -1,6 +1,6 @@
 -- Files in memory, and what a read makes of them.
 use Rattle.std.specs.Prelude.{ℕ, Option, Some, List, map, Vec, Result, Ok, Err}
-use Rattle.hx_outside.specs.Count.{counted}
+use Rattle.hx_outside.specs.Count.{next_count}
 use Rattle.hx_outside.specs.declared.fault.FileFault.{FileFault}
 use Rattle.hx_outside.specs.declared.fault.FileFault.TheVariants.{Failed, NoMemory}
 
@@ -13,13 +13,9 @@ pub record Shelf : Type 0 where
   pub faults : ℕ
   pub last : Option (List ℕ)
 
--- the pairs of a name and its bytes, as lists of bytes
-abbrev pub pairs_of : {A : Type 0} → List (Vec ℕ A × Vec ℕ A) → List (List ℕ × List ℕ)
-pairs_of files = map (λ file. (file.0.items, file.1.items)) files
-
 -- after a read of `name`: the call is counted, and, where it failed, the fault with the name
 abbrev pub after_read : {T : Type 0} → Shelf → List ℕ → Result T FileFault → Shelf
-after_read shelf name (Ok _) = record shelf { calls = counted shelf.calls }
+after_read shelf name (Ok _) = record shelf { calls = next_count shelf.calls }
 after_read shelf name (Err Failed) =
-    record shelf { calls = counted shelf.calls; faults = counted shelf.faults; last = Some name }
-after_read shelf name (Err NoMemory) = record shelf { calls = counted shelf.calls }
+    record shelf { calls = next_count shelf.calls; faults = next_count shelf.faults; last = Some name }
+after_read shelf name (Err NoMemory) = record shelf { calls = next_count shelf.calls }

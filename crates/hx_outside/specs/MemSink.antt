@@ -1,6 +1,6 @@
 -- A sink in memory, and what a write makes of it.
 use Rattle.std.specs.Prelude.{ℕ, List, ◌++◌, take, Result, Ok, Err}
-use Rattle.hx_outside.specs.Count.{counted}
+use Rattle.hx_outside.specs.Count.{next_count}
 use Rattle.hx_outside.specs.declared.fault.SinkFault.{SinkFault}
 use Rattle.hx_outside.specs.declared.fault.SinkFault.TheVariants.{Failed, NoMemory}
 
@@ -15,6 +15,6 @@ pub record Tray : Type 0 where
 
 -- after a write of `bytes`: those that it took stand at the end, or its fault is counted, or, with no memory, neither
 abbrev pub after_write : Tray → List ℕ → Result ℕ SinkFault → Tray
-after_write tray bytes (Ok n) = record tray { written = tray.written ++ take n bytes; calls = counted tray.calls }
-after_write tray bytes (Err Failed) = record tray { calls = counted tray.calls; faults = counted tray.faults }
-after_write tray bytes (Err NoMemory) = record tray { calls = counted tray.calls }
+after_write tray bytes (Ok n) = record tray { written = tray.written ++ take n bytes; calls = next_count tray.calls }
+after_write tray bytes (Err Failed) = record tray { calls = next_count tray.calls; faults = next_count tray.faults }
+after_write tray bytes (Err NoMemory) = record tray { calls = next_count tray.calls }

@@ -1,6 +1,6 @@
 -- A source in memory, and what a read makes of it.
 use Rattle.std.specs.Prelude.{ℕ, List, drop, Result, Ok, Err}
-use Rattle.hx_outside.specs.Count.{counted}
+use Rattle.hx_outside.specs.Count.{next_count}
 
 -- the bytes not yet read, how many a read gives at most, the numbers of the calls that fail (the first call is 1),
 -- how many calls were made, and how many of them failed
@@ -13,5 +13,5 @@ pub record Feed : Type 0 where
 
 -- after a read: the bytes that it gave are gone, or its fault is counted
 abbrev pub after_read : {E : Type 0} → Feed → Result ℕ E → Feed
-after_read feed (Ok n) = record feed { left = drop n feed.left; calls = counted feed.calls }
-after_read feed (Err _) = record feed { calls = counted feed.calls; faults = counted feed.faults }
+after_read feed (Ok n) = record feed { left = drop n feed.left; calls = next_count feed.calls }
+after_read feed (Err _) = record feed { calls = next_count feed.calls; faults = next_count feed.faults }

@@ -1,6 +1,6 @@
 ghost use Rattle.std.specs.Prelude.{◌≡◌, ℕ, ◌≤◌, Some, None, IsUtf8, vec_len, IfOk, OnOk, IfSome, IsErrOf};
 ghost use Rattle.hx_outside.specs.Count.{Rose};
-ghost use Rattle.hx_outside.specs.Files.{file_at};
+ghost use Rattle.hx_base.specs.Pairs.{value_at};
 ghost use Rattle.hx_outside.specs.DirFiles.{untold, after_ask};
 
 use crate::fault::FileFault;
@@ -69,7 +69,7 @@ impl<'r, R: rt::Files> Files for DirFiles<'r, R> {
     /// The bytes of the file at this path. `Failed` for a name that isn't UTF-8, a file of more than
     /// 268,435,456 bytes, and each error of opening or reading; `NoMemory` where memory runs out.
     fn read(&mut self, alloc: Global, name: &[u8]) -> Result<Vec<u8>, FileFault>
-        ensures bytes { IfOk result (λ bytes. IfSome untold (λ files. file_at files name.now ≡ Some bytes.items)) }
+        ensures bytes { IfOk result (λ bytes. IfSome untold (λ files. value_at files name.now ≡ Some bytes.items)) }
         ensures same { untold ≡ untold }
         ensures later { self.old.faults ≤ self.new.faults }
         ensures failed { IsErrOf result FileFault.Failed → Rose self.old.faults self.new.faults }

@@ -1,6 +1,6 @@
 ghost use Rattle.std.specs.Prelude.{◌≡◌, ℕ, ◌≤◌, List, Option, Some, IfOk, OnOk, IfSome, IsErrOf};
 ghost use Rattle.hx_outside.specs.Count.{Rose};
-ghost use Rattle.hx_outside.specs.Files.{file_at};
+ghost use Rattle.hx_base.specs.Pairs.{value_at};
 
 use crate::fault::FileFault;
 use std::alloc::Global;
@@ -26,7 +26,7 @@ pub trait Files {
     /// included, which is taken first.
     fn read(&mut self, alloc: Global, name: &[u8]) -> Result<Vec<u8>, FileFault>
         ensures bytes { IfOk result (λ bytes.
-            IfSome (held self.old) (λ files. file_at files name.now ≡ Some bytes.items)) }
+            IfSome (held self.old) (λ files. value_at files name.now ≡ Some bytes.items)) }
         ensures same { held self.new ≡ held self.old }
         ensures later { faults self.old ≤ faults self.new }
         ensures failed { IsErrOf result FileFault.Failed → Rose (faults self.old) (faults self.new) }

@@ -3,7 +3,7 @@ ghost use Rattle.std.specs.Option.{option_map, option_copied};
 ghost use Rattle.std.specs.Io.{ReadsAtMost};
 ghost use Rattle.std.specs.Io.KnownBytes.{ReadConsumes};
 ghost use Rattle.hx_outside.specs.Count.{Rose};
-ghost use Rattle.hx_outside.specs.Log.{Logs, given, reads_of, log_of};
+ghost use Rattle.hx_outside.specs.Log.{Logs, bytes_read, reads_of, log_of};
 
 use crate::fault::Failed;
 use crate::source::Source;
@@ -91,9 +91,9 @@ impl<S: Source> Source for LogSource<S> {
         ensures bytes { ReadConsumes (S.left self.old.inner) (S.left self.new.inner) result buf.new }
         ensures later { S.faults self.old.inner ≤ S.faults self.new.inner }
         ensures failed { OnErr result (Rose (S.faults self.old.inner) (S.faults self.new.inner)) }
-        ensures log { Logs self.old.log self.new.log (given result buf.new) }
+        ensures log { Logs self.old.log self.new.log (bytes_read result buf.new) }
         // The source within is read once.
-        ensures once { Logs (S.log self.old.inner) (S.log self.new.inner) (given result buf.new) }
+        ensures once { Logs (S.log self.old.inner) (S.log self.new.inner) (bytes_read result buf.new) }
     {
         let result = self.inner.read(buf);
         match &result {

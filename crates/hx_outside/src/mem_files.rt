@@ -1,7 +1,8 @@
 ghost use Rattle.std.specs.Prelude.{◌≡◌, ℕ, ◌≤◌, ◌⊎◌, Some, None, option_map, option_copied, Contains, IfOk, OnOk, IfSome, IsErrOf};
-ghost use Rattle.hx_outside.specs.Count.{counted, Rose};
-ghost use Rattle.hx_outside.specs.Files.{file_at};
-ghost use Rattle.hx_outside.specs.MemFiles.{pairs_of, after_read};
+ghost use Rattle.hx_outside.specs.Count.{next_count, Rose};
+ghost use Rattle.hx_base.specs.Pairs.{value_at};
+ghost use Rattle.hx_base.specs.Pairs.{pairs_of};
+ghost use Rattle.hx_outside.specs.MemFiles.{after_read};
 
 use crate::fault::FileFault;
 use crate::files::Files;
@@ -20,7 +21,8 @@ pub struct MemFiles {
 
 impl Model for MemFiles {
     ghost use Rattle.std.specs.Option.{option_map};
-    ghost use Rattle.hx_outside.specs.MemFiles.{Shelf, pairs_of};
+    ghost use Rattle.hx_base.specs.Pairs.{pairs_of};
+    ghost use Rattle.hx_outside.specs.MemFiles.{Shelf};
 
     ghost Value = { Shelf };
 
@@ -54,7 +56,7 @@ impl MemFiles {
         ensures fault { result ≡ FileFault.Failed }
         ensures later { self.old.faults ≤ self.new.faults }
         ensures after { self.new
-            ≡ record self.old { faults = counted self.old.faults; last = Some name.items } }
+            ≡ record self.old { faults = next_count self.old.faults; last = Some name.items } }
     {
         self.faults = self.faults.saturating_add(1);
         self.last = Some(name);
@@ -72,7 +74,7 @@ impl Files for MemFiles {
     /// A copy of the bytes of this name. `Failed` exactly at the chosen reads and for a name that
     /// is missing, unless memory runs out first.
     fn read(&mut self, alloc: Global, name: &[u8]) -> Result<Vec<u8>, FileFault>
-        ensures bytes { IfOk result (λ bytes. file_at self.old.held name.now ≡ Some bytes.items) }
+        ensures bytes { IfOk result (λ bytes. value_at self.old.held name.now ≡ Some bytes.items) }
         ensures same { self.new.held ≡ self.old.held }
         ensures later { self.old.faults ≤ self.new.faults }
         ensures failed { IsErrOf result FileFault.Failed → Rose self.old.faults self.new.faults }
@@ -81,9 +83,9 @@ impl Files for MemFiles {
         ensures kept_without_memory { IsErrOf result FileFault.NoMemory
             → self.new.last ≡ self.old.last }
 
-        ensures chosen { OnOk result (¬ (Contains self.old.fails (counted self.old.calls))) }
+        ensures chosen { OnOk result (¬ (Contains self.old.fails (next_count self.old.calls))) }
         ensures why { IsErrOf result FileFault.Failed
-            → Contains self.old.fails (counted self.old.calls) ⊎ (file_at self.old.held name.now ≡ None) }
+            → Contains self.old.fails (next_count self.old.calls) ⊎ (value_at self.old.held name.now ≡ None) }
         ensures after { self.new ≡ after_read self.old name.now result }
     {
         self.calls = self.calls.saturating_add(1);
@@ -100,7 +102,7 @@ impl Files for MemFiles {
 
 /// The bytes of the first pair of this name.
 fn find<'f>(files: &'f [(Vec<u8>, Vec<u8>)], name: &[u8]) -> Option<&'f [u8]>
-    ensures { option_copied result ≡ file_at (pairs_of files.now) name.now }
+    ensures { option_copied result ≡ value_at (pairs_of files.now) name.now }
 {
     for file in files {
         if file.0.as_slice() == name {

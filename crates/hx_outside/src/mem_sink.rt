@@ -1,6 +1,6 @@
 ghost use Rattle.std.specs.Prelude.{◌≡◌, ℕ, ◌<◌, ◌≤◌, ◌↔◌, [], Some, length, min, Contains, IfOk, IsErrOf};
 ghost use Rattle.std.specs.Io.KnownBytes.{WriteAppends};
-ghost use Rattle.hx_outside.specs.Count.{counted, Rose};
+ghost use Rattle.hx_outside.specs.Count.{next_count, Rose};
 ghost use Rattle.hx_outside.specs.MemSink.{after_write};
 
 use crate::fault::SinkFault;
@@ -76,7 +76,7 @@ impl Sink for MemSink {
         ensures uncounted { IsErrOf result SinkFault.NoMemory → self.new.faults ≡ self.old.faults }
 
         ensures chosen { IsErrOf result SinkFault.Failed
-            ↔ Contains self.old.fails (counted self.old.calls) }
+            ↔ Contains self.old.fails (next_count self.old.calls) }
         ensures count { IfOk result (λ count. count ≡ min self.old.piece (length bytes.now)) }
         ensures after { self.new ≡ after_write self.old bytes.now result }
     {

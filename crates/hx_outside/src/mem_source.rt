@@ -1,7 +1,7 @@
 ghost use Rattle.std.specs.Prelude.{◌≡◌, ℕ, ◌<◌, ◌≤◌, ◌↔◌, ◌++◌, Some, length, take, drop, min, Contains, IfOk, OnErr, IsErr};
 ghost use Rattle.std.specs.Io.{ReadsAtMost};
 ghost use Rattle.std.specs.Io.KnownBytes.{ReadConsumes};
-ghost use Rattle.hx_outside.specs.Count.{counted, Rose};
+ghost use Rattle.hx_outside.specs.Count.{next_count, Rose};
 ghost use Rattle.hx_outside.specs.MemSource.{after_read};
 
 use crate::fault::Failed;
@@ -69,7 +69,7 @@ impl Source for MemSource {
         ensures later { self.old.faults ≤ self.new.faults }
         ensures failed { OnErr result (Rose self.old.faults self.new.faults) }
 
-        ensures chosen { IsErr result ↔ Contains self.old.fails (counted self.old.calls) }
+        ensures chosen { IsErr result ↔ Contains self.old.fails (next_count self.old.calls) }
         ensures count { IfOk result (λ count.
             count ≡ min (length self.old.left) (min self.old.piece (length buf.old))) }
         ensures after { self.new ≡ after_read self.old result }
@@ -85,7 +85,7 @@ impl Source for MemSource {
     }
 }
 
-/// Puts at most `piece` bytes of `from` at the front of `buf`, and answers how many.
+/// Puts at most `piece` bytes of `from` at the start of `buf`, and answers how many.
 fn give(from: &[u8], piece: usize, buf: &mut [u8]) -> usize
     ensures count { result ≡ min (length from.now) (min piece (length buf.new)) }
     ensures bytes { from.now ≡ take result buf.new ++ drop result from.now }

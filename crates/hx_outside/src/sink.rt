@@ -1,7 +1,7 @@
 ghost use Rattle.std.specs.Prelude.{◌≡◌, ℕ, ◌<◌, ◌≤◌, List, Option, length, IfOk, OnOk, IsErrOf};
 ghost use Rattle.std.specs.Io.KnownBytes.{WriteAppends, Appends};
 ghost use Rattle.hx_outside.specs.Count.{Rose};
-ghost use Rattle.hx_outside.specs.Fronts.{AppendsFront, StaysFront};
+ghost use Rattle.hx_outside.specs.Prefixes.{AppendsPrefix, StaysPrefix};
 
 use crate::fault::SinkFault;
 
@@ -16,7 +16,7 @@ pub trait Sink {
 
     ghost faults: { Self → ℕ };
 
-    /// Takes bytes from the front of `bytes`, at least one, and answers how many. `bytes` must not
+    /// Takes bytes from the start of `bytes`, at least one, and answers how many. `bytes` must not
     /// be empty.
     ///
     /// `Failed` only where `faults` rose, and `NoMemory` where memory ran out and `faults` stands
@@ -33,12 +33,12 @@ pub trait Sink {
 
 /// Writes all of `bytes`.
 ///
-/// Where it can't, some front of `bytes` was written: `Failed` only where the sink's count of
+/// Where it can't, some prefix of `bytes` was written: `Failed` only where the sink's count of
 /// faults rose in this call, and `NoMemory` where memory runs out.
 pub fn write_all<K: Sink>(out: &mut K, bytes: &[u8]) -> Result<(), SinkFault>
     ensures ok { OnOk result (Appends (K.written out.old) (K.written out.new) bytes.now) }
-    ensures front { AppendsFront (K.written out.old) (K.written out.new) bytes.now }
-    ensures stays_front { StaysFront (K.written out.old) (K.written out.new) bytes.now }
+    ensures prefix { AppendsPrefix (K.written out.old) (K.written out.new) bytes.now }
+    ensures stays_front { StaysPrefix (K.written out.old) (K.written out.new) bytes.now }
     ensures later { K.faults out.old ≤ K.faults out.new }
     ensures failed { IsErrOf result SinkFault.Failed → Rose (K.faults out.old) (K.faults out.new) }
 {

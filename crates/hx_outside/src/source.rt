@@ -2,8 +2,8 @@ ghost use Rattle.std.specs.Prelude.{◌≡◌, ℕ, ◌+◌, ◌<◌, ◌≤◌,
 ghost use Rattle.std.specs.Io.{ReadsAtMost};
 ghost use Rattle.std.specs.Io.KnownBytes.{ReadConsumes, Consumes, IsAtEnd};
 ghost use Rattle.hx_outside.specs.Count.{Rose};
-ghost use Rattle.hx_outside.specs.Fronts.{TakesFront};
-ghost use Rattle.hx_outside.specs.Log.{Log, Logs, given};
+ghost use Rattle.hx_outside.specs.Prefixes.{TakesPrefix};
+ghost use Rattle.hx_outside.specs.Log.{Log, Logs, bytes_read};
 
 use crate::fault::{Failed, ReadFault};
 use std::alloc::Global;
@@ -23,7 +23,7 @@ pub trait Source {
 
     ghost log: { Self → Option Log } = { λ source. None };
 
-    /// Puts the next bytes at the front of `buf`, and answers how many: 0 only at the end. `buf`
+    /// Puts the next bytes at the start of `buf`, and answers how many: 0 only at the end. `buf`
     /// must not be empty.
     ///
     /// `Failed` only where `faults` rose; then no byte is taken.
@@ -33,7 +33,7 @@ pub trait Source {
         ensures bytes { ReadConsumes (left self.old) (left self.new) result buf.new }
         ensures later { faults self.old ≤ faults self.new }
         ensures failed { OnErr result (Rose (faults self.old) (faults self.new)) }
-        ensures log { Logs (log self.old) (log self.new) (given result buf.new) };
+        ensures log { Logs (log self.old) (log self.new) (bytes_read result buf.new) };
 }
 
 /// How many bytes `read_to_end` asks for at once.
@@ -43,7 +43,7 @@ const PIECE: usize = 4096;
 ///
 /// `TooLong` where more were left: `limit + 1` bytes were then taken, and never more. `Failed` only
 /// where the source's count of faults rose in this call, and `NoMemory` where memory runs out:
-/// some front of the bytes was then taken.
+/// some prefix of the bytes was then taken.
 pub fn read_to_end<S: Source>(
     alloc: Global,
     source: &mut S,
@@ -56,12 +56,12 @@ pub fn read_to_end<S: Source>(
     ensures within { IfOk result (λ bytes. vec_len bytes ≤ limit) }
 
     ensures too_long { IsErrOf result ReadFault.TooLong
-        → TakesFront (S.left source.old) (S.left source.new) (λ front. length front ≡ limit + 1) }
+        → TakesPrefix (S.left source.old) (S.left source.new) (λ prefix. length prefix ≡ limit + 1) }
     ensures longer { IsErrOf result ReadFault.TooLong
         → IfSome (S.left source.old) (λ left. limit < length left) }
 
-    ensures front { TakesFront (S.left source.old) (S.left source.new)
-        (λ front. length front ≤ limit + 1) }
+    ensures prefix { TakesPrefix (S.left source.old) (S.left source.new)
+        (λ prefix. length prefix ≤ limit + 1) }
     ensures later { S.faults source.old ≤ S.faults source.new }
     ensures failed { IsErrOf result ReadFault.Failed
         → Rose (S.faults source.old) (S.faults source.new) }

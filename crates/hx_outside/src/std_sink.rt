@@ -1,6 +1,6 @@
 ghost use Rattle.std.specs.Prelude.{◌≡◌, ℕ, ◌<◌, ◌≤◌, length, IfOk, IsErrOf, is_ok, if◌then◌else◌};
 ghost use Rattle.std.specs.Io.KnownBytes.{WriteAppends};
-ghost use Rattle.hx_outside.specs.Count.{counted, Rose};
+ghost use Rattle.hx_outside.specs.Count.{next_count, Rose};
 
 use crate::fault::SinkFault;
 use crate::sink::Sink;
@@ -52,7 +52,7 @@ impl<W: Write> Sink for StdSink<W> {
         ensures failed { IsErrOf result SinkFault.Failed → Rose self.old.faults self.new.faults }
         ensures uncounted { IsErrOf result SinkFault.NoMemory → self.new.faults ≡ self.old.faults }
 
-        ensures count { self.new.faults ≡ (if is_ok result then self.old.faults else counted self.old.faults) }
+        ensures count { self.new.faults ≡ (if is_ok result then self.old.faults else next_count self.old.faults) }
         ensures memory { ¬ (IsErrOf result SinkFault.NoMemory) }
     {
         match self.writer.write(bytes) {

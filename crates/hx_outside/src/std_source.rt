@@ -1,7 +1,7 @@
 ghost use Rattle.std.specs.Prelude.{◌≡◌, ℕ, ◌<◌, ◌≤◌, length, OnErr, is_ok, if◌then◌else◌};
 ghost use Rattle.std.specs.Io.{ReadsAtMost};
 ghost use Rattle.std.specs.Io.KnownBytes.{ReadConsumes};
-ghost use Rattle.hx_outside.specs.Count.{counted, Rose};
+ghost use Rattle.hx_outside.specs.Count.{next_count, Rose};
 
 use crate::fault::Failed;
 use crate::source::Source;
@@ -49,7 +49,7 @@ impl<R: Read> Source for StdSource<R> {
         ensures later { self.old.faults ≤ self.new.faults }
         ensures failed { OnErr result (Rose self.old.faults self.new.faults) }
 
-        ensures count { self.new.faults ≡ (if is_ok result then self.old.faults else counted self.old.faults) }
+        ensures count { self.new.faults ≡ (if is_ok result then self.old.faults else next_count self.old.faults) }
     {
         match self.reader.read(buf) {
             Ok(count) => Ok(count),

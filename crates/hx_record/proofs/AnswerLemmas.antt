@@ -1,7 +1,7 @@
 -- What a call of a reader answers, and by which reads.
 use Rattle.std.proofs.Common.{◌≡◌, ℕ, ◌+◌, List, ◌++◌, take, Option, Some, None, Ok, Err, sym, ◌∙◌}
 use Rattle.std.specs.Io.KnownBytes.{Keeps}
-use Rattle.hx_outside.specs.Log.{Log, Since}
+use Rattle.hx_outside.specs.Log.{Log, HoldsSince}
 use Rattle.hx_record.specs.declared.events.Placed.{Placed}
 use Rattle.hx_record.specs.declared.events.Event.{Event}
 use Rattle.hx_record.specs.declared.refusal.Refusal.{Refusal}
@@ -16,7 +16,7 @@ use Rattle.hx_record.proofs.StateLemmas.{found_passes, found_behind, finish_behi
 use Rattle.hx_record.proofs.ReadLemmas.{Behind, consumes_keeps, passes}
 use Rattle.hx_record.proofs.AskLemmas.{Told, due_now, due_failed}
 
-pub reads_found : (before s : State) (left left' : Option (List ℕ)) (log log' : Option Log) (used : ℕ) (event : Event) → (b : Behind before s left left') → Since log log' (Told before s b.took)
+pub reads_found : (before s : State) (left left' : Option (List ℕ)) (log log' : Option Log) (used : ℕ) (event : Event) → (b : Behind before s left left') → HoldsSince log log' (Told before s b.took)
     → piece_now s ≡ Found used event → Reads before (passed_by s used) left left' log log' (Ok (Some (record { offset = s.at; event = event })))
 reads_found before s left left' log log' used event b t e =
     let fits = (found_passes s used event e).1 in
@@ -33,7 +33,7 @@ reads_found before s left left' log log' used event b t e =
       answers = λ ends more may. b.same ends more may ∙ found_behind s ends more used event may e;
     }
 
-pub reads_none : (before s : State) (left left' : Option (List ℕ)) (log log' : Option Log) → (b : Behind before s left left') → Since log log' (Told before s b.took) → piece_now s ≡ Finish → Reads before s left left' log log' (Ok None)
+pub reads_none : (before s : State) (left left' : Option (List ℕ)) (log log' : Option Log) → (b : Behind before s left left') → HoldsSince log log' (Told before s b.took) → piece_now s ≡ Finish → Reads before s left left' log log' (Ok None)
 reads_none before s left left' log log' b t e = record {
   took = b.took;
   consumed = b.consumed;
@@ -46,7 +46,7 @@ reads_none before s left left' log log' b t e = record {
   answers = λ ends more may. let done = finish_behind s ends more may e in (b.same ends more may ∙ done, done);
 }
 
-pub reads_fault : (before s : State) (left left' : Option (List ℕ)) (log log' : Option Log) (skip : ℕ) (refusal : Refusal) → (b : Behind before s left left') → Since log log' (Told before s b.took) → piece_now s ≡ Fault skip refusal → Reads before s left left' log log' (Err (faults.Bad (s.at + skip) (code_of refusal)))
+pub reads_fault : (before s : State) (left left' : Option (List ℕ)) (log log' : Option Log) (skip : ℕ) (refusal : Refusal) → (b : Behind before s left left') → HoldsSince log log' (Told before s b.took) → piece_now s ≡ Fault skip refusal → Reads before s left left' log log' (Err (faults.Bad (s.at + skip) (code_of refusal)))
 reads_fault before s left left' log log' skip refusal b t e = record {
   took = b.took;
   consumed = b.consumed;
@@ -59,7 +59,7 @@ reads_fault before s left left' log log' skip refusal b t e = record {
   answers = λ ends more may. let bad = fault_behind s ends more skip refusal may e in (b.same ends more may ∙ bad, bad);
 }
 
-pub reads_long : (before s : State) (left left' : Option (List ℕ)) (log log' : Option Log) → (b : Behind before s left left') → Since log log' (Told before s b.took) → piece_now s ≡ TooLong → Reads before s left left' log log' (Err (faults.Bad s.limit 4))
+pub reads_long : (before s : State) (left left' : Option (List ℕ)) (log log' : Option Log) → (b : Behind before s left left') → HoldsSince log log' (Told before s b.took) → piece_now s ≡ TooLong → Reads before s left left' log log' (Err (faults.Bad s.limit 4))
 reads_long before s left left' log log' b t e = record {
   took = b.took;
   consumed = b.consumed;
@@ -73,7 +73,7 @@ reads_long before s left left' log log' b t e = record {
 }
 
 -- where memory ran out, with no read since
-pub reads_no_memory : (before s : State) (left left' : Option (List ℕ)) (log log' : Option Log) → (b : Behind before s left left') → Since log log' (Told before s b.took)
+pub reads_no_memory : (before s : State) (left left' : Option (List ℕ)) (log log' : Option Log) → (b : Behind before s left left') → HoldsSince log log' (Told before s b.took)
     → Reads before s left left' log log' (Err faults.NoMemory)
 reads_no_memory before s left left' log log' b t = record {
   took = b.took;
@@ -89,7 +89,7 @@ reads_no_memory before s left left' log log' b t = record {
 
 -- behind a read that failed, or where memory ran out before one
 pub reads_outside : (before s : State) (left left' left'' : Option (List ℕ)) (log log' log'' : Option Log) (fault : RecordFault) → (b : Behind before s left left')
-    → Since log log' (Told before s b.took) → piece_now s ≡ Undecided → Keeps left' left'' → Notes fault log' log'' → Reads before s left left'' log log'' (Err fault)
+    → HoldsSince log log' (Told before s b.took) → piece_now s ≡ Undecided → Keeps left' left'' → Notes fault log' log'' → Reads before s left left'' log log'' (Err fault)
 reads_outside before s left left' left'' log log' log'' (faults.Bad offset code) b t e k n = absurd n
 reads_outside before s left left' left'' log log' log'' faults.Failed b t e k n = record {
   took = b.took;

@@ -1,30 +1,30 @@
 -- When a reader has read its source so far in a call.
 use Rattle.std.proofs.Common.{◌≡◌, ◌≢◌, Result, Err, ℕ, ◌<◌, Bool, true, false, List, [], ◌∷◌, ◌++◌, length, Option, Some, None, arith, refl, sym, ap, ◌∙◌, append_assoc, append-nil}
 use Rattle.std.specs.Bool.{⊤}
-use Rattle.hx_outside.specs.Log.{Log, Logs, Since}
+use Rattle.hx_outside.specs.Log.{Log, Logs, HoldsSince}
 use Rattle.hx_record.specs.declared.fault.RecordFault.{RecordFault}
 use Rattle.hx_record.specs.declared.fault.RecordFault.TheVariants as faults
 use Rattle.hx_record.specs.declared.piece.Piece.TheVariants.{Undecided, Skip}
 use Rattle.hx_record.specs.Record.{Unknown}
-use Rattle.hx_record.specs.State.{State, items_behind, decided_now}
+use Rattle.hx_record.specs.State.{State, items_after, decided_items_now}
 use Rattle.hx_record.specs.Asking.{after_read, after_reads, AreDue, FailureIsTold, WereDue}
 use Rattle.hx_record.specs.Parts.{piece_now, passed_by, Grows}
 use Rattle.hx_record.proofs.ReadLemmas.{Behind, behind_start, behind_skip, behind_fill, undecided_items, both_ends}
 
 -- ---- reads, by a log that is told
 
-since_start : (log : Option Log) (P : Log → Type 0) → P [] → Since log log P
+since_start : (log : Option Log) (P : Log → Type 0) → P [] → HoldsSince log log P
 since_start None P start = tt
 since_start (Some reads) P start = ([], sym (append-nil reads), start)
 
-since_more : (a b c : Option Log) (read : Option (List ℕ)) (P Q : Log → Type 0) → Since a b P → Logs b c read → ((reads : Log) → P reads → Q (reads ++ (read ∷ []))) → Since a c Q
+since_more : (a b c : Option Log) (read : Option (List ℕ)) (P Q : Log → Type 0) → HoldsSince a b P → Logs b c read → ((reads : Log) → P reads → Q (reads ++ (read ∷ []))) → HoldsSince a c Q
 since_more a b None read P Q so_far one more = tt
 since_more a None (Some now) read P Q so_far one more = absurd one
 since_more None (Some between) (Some now) read P Q so_far one more = absurd so_far
 since_more (Some old) (Some between) (Some now) read P Q so_far one more =
     (so_far.0 ++ (read ∷ []), one ∙ ap (λ reads. reads ++ (read ∷ [])) so_far.1 ∙ append_assoc old so_far.0 (read ∷ []), more so_far.0 so_far.2)
 
-since_map : (a b : Option Log) (P Q : Log → Type 0) → Since a b P → ((reads : Log) → P reads → Q reads) → Since a b Q
+since_map : (a b : Option Log) (P Q : Log → Type 0) → HoldsSince a b P → ((reads : Log) → P reads → Q reads) → HoldsSince a b Q
 since_map a None P Q so_far also = tt
 since_map None (Some now) P Q so_far also = so_far
 since_map (Some old) (Some now) P Q so_far also = (so_far.0, so_far.1, also so_far.0 so_far.2)
@@ -35,7 +35,7 @@ after_reads_more : (s : State) (reads : Log) (read : Option (List ℕ)) → afte
 after_reads_more s [] read = refl
 after_reads_more s (first ∷ reads) read = after_reads_more (after_read s first) reads read
 
-due_more : (s : State) (reads : Log) (read : Option (List ℕ)) → AreDue s reads → (after_reads s reads).ended ≡ false → decided_now (after_reads s reads) ≡ Unknown → AreDue s (reads ++ (read ∷ []))
+due_more : (s : State) (reads : Log) (read : Option (List ℕ)) → AreDue s reads → (after_reads s reads).ended ≡ false → decided_items_now (after_reads s reads) ≡ Unknown → AreDue s (reads ++ (read ∷ []))
 due_more s [] read due going unknown = (going, unknown, tt)
 due_more s (first ∷ reads) read due going unknown = (due.0, due.1, due_more (after_read s first) reads read due.2 going unknown)
 
@@ -70,22 +70,22 @@ pub record Told (before s : State) (took : List ℕ) (reads : Log) : Type 0 wher
   pub same : after_reads before reads ≡ record before { pending = before.pending ++ took; ended = s.ended }
   pub gave : Gave reads
 
-pub asks_start : (s : State) (left : Option (List ℕ)) (log : Option Log) → Since log log (Told s s (behind_start s left).took)
+pub asks_start : (s : State) (left : Option (List ℕ)) (log : Option Log) → HoldsSince log log (Told s s (behind_start s left).took)
 unfolding behind_start
 asks_start s left log = since_start log (Told s s []) (record { due = tt; same = rw (append-nil s.pending) refl; gave = tt })
 
 -- where nothing is decided, nothing was decided by the bytes taken
 unknown_before : (before s : State) (left left' : Option (List ℕ)) → (b : Behind before s left left') → piece_now s ≡ Undecided
-    → decided_now (record before { pending = before.pending ++ b.took; ended = s.ended }) ≡ Unknown
+    → decided_items_now (record before { pending = before.pending ++ b.took; ended = s.ended }) ≡ Unknown
 unknown_before before s left left' b e =
     let (going, unknown) = undecided_items s e in
-    let same : items_behind before false (b.took ++ []) ≡ items_behind s false [] = b.same false [] (λ over. both_ends s.ended going over) in
+    let same : items_after before false (b.took ++ []) ≡ items_after s false [] = b.same false [] (λ over. both_ends s.ended going over) in
     rw (going, append_assoc before.pending b.took []) (same ∙ unknown)
 
 told_due : (before s : State) (left left' : Option (List ℕ)) (reads : Log) (read : Option (List ℕ)) → (b : Behind before s left left') → piece_now s ≡ Undecided → Told before s b.took reads
     → AreDue before (reads ++ (read ∷ []))
 told_due before s left left' reads read b e t =
-    due_more before reads read t.due (ap (λ (s : State). s.ended) t.same ∙ (undecided_items s e).0) (ap decided_now t.same ∙ unknown_before before s left left' b e)
+    due_more before reads read t.due (ap (λ (s : State). s.ended) t.same ∙ (undecided_items s e).0) (ap decided_items_now t.same ∙ unknown_before before s left left' b e)
 
 -- a read that gave bytes or told the end
 after_got : (before s after : State) (took got : List ℕ) → s.ended ≡ false → (after.ended ≡ false → 0 < length got) → (after.ended ≡ true → got ≡ [])
@@ -101,14 +101,14 @@ after_got before s after took got going some none = at_end after.ended refl wher
     by_bytes (b ∷ bs) more = rw (h, going, append_assoc before.pending took (b ∷ bs)) refl
 
 pub asks_skip : (before s : State) (left left' : Option (List ℕ)) (log log' : Option Log) (used : ℕ) → (b : Behind before s left left') → (e : piece_now s ≡ Skip used)
-    → Since log log' (Told before s b.took) → Since log log' (Told before (passed_by s used) (behind_skip before s left left' used b e).took)
+    → HoldsSince log log' (Told before s b.took) → HoldsSince log log' (Told before (passed_by s used) (behind_skip before s left left' used b e).took)
 unfolding behind_skip
 asks_skip before s left left' log log' used b e so_far =
     since_map log log' (Told before s b.took) (Told before (passed_by s used) b.took) so_far (λ reads t. record { due = t.due; same = t.same; gave = t.gave })
 
 pub asks_fill : (before s after : State) (left left' left'' : Option (List ℕ)) (log log' log'' : Option Log) → (b : Behind before s left left') → (e : piece_now s ≡ Undecided)
-    → (g : Grows s after left' left'' log' log'') → Since log log' (Told before s b.took)
-    → Since log log'' (Told before after (behind_fill before s after left left' left'' log' log'' b (undecided_items s e).0 g).took)
+    → (g : Grows s after left' left'' log' log'') → HoldsSince log log' (Told before s b.took)
+    → HoldsSince log log'' (Told before after (behind_fill before s after left left' left'' log' log'' b (undecided_items s e).0 g).took)
 unfolding behind_fill
 asks_fill before s after left left' left'' log log' log'' b e g so_far =
     since_more log log' log'' (Some g.got) (Told before s b.took) (Told before after (b.took ++ g.got)) so_far g.logged
@@ -122,15 +122,15 @@ asks_fill before s after left left' left'' log log' log'' b e g so_far =
 -- ---- behind the call
 
 -- where no read failed
-pub due_now : {A : Type 0} → (before s : State) (took : List ℕ) (log log' : Option Log) (result : Result A RecordFault) → result ≢ Err faults.Failed → Since log log' (Told before s took)
-    → Since log log' (WereDue before (record before { pending = before.pending ++ took; ended = s.ended }) result)
+pub due_now : {A : Type 0} → (before s : State) (took : List ℕ) (log log' : Option Log) (result : Result A RecordFault) → result ≢ Err faults.Failed → HoldsSince log log' (Told before s took)
+    → HoldsSince log log' (WereDue before (record before { pending = before.pending ++ took; ended = s.ended }) result)
 due_now before s took log log' result other so_far =
     since_map log log' (Told before s took) (WereDue before (record before { pending = before.pending ++ took; ended = s.ended }) result) so_far
     (λ reads t. record { due = t.due; gave = t.same; told = told_other reads result other t.gave })
 
 -- where the last one did
 pub due_failed : (A : Type 0) (before s : State) (left left' : Option (List ℕ)) (log log' log'' : Option Log) → (b : Behind before s left left') → piece_now s ≡ Undecided → Logs log' log'' None
-    → Since log log' (Told before s b.took) → Since log log'' (WereDue {A = A} before (record before { pending = before.pending ++ b.took; ended = s.ended }) (Err faults.Failed))
+    → HoldsSince log log' (Told before s b.took) → HoldsSince log log'' (WereDue {A = A} before (record before { pending = before.pending ++ b.took; ended = s.ended }) (Err faults.Failed))
 due_failed A before s left left' log log' log'' b e one so_far =
     since_more log log' log'' None (Told before s b.took) (WereDue {A = A} before (record before { pending = before.pending ++ b.took; ended = s.ended }) (Err faults.Failed)) so_far one
     (λ reads t. record {

@@ -7,7 +7,7 @@ use Rattle.hx_record.specs.declared.piece.Tail.TheVariants.{Ends, Beyond, Open}
 use Rattle.hx_record.specs.declared.piece.Piece.{Piece}
 use Rattle.hx_record.specs.declared.piece.Piece.TheVariants.{Undecided, TooLong, Finish, Fault, Skip, Found}
 use Rattle.hx_record.specs.Record.{Items, Unknown, Bad, follow, tail_of}
-use Rattle.hx_record.specs.State.{State, MayFollow, items_behind, decided_now}
+use Rattle.hx_record.specs.State.{State, MayFollow, items_after, decided_items_now}
 use Rattle.hx_record.proofs.PieceLemmas.{Takes}
 use Rattle.hx_record.proofs.PendingLemmas.{undecided_open}
 use Rattle.hx_record.proofs.StateLemmas.{now_takes, now_decided, skip_passes, undecided_now, skip_now, skip_behind}
@@ -42,12 +42,12 @@ pub record Behind (before after : State) (left left' : Option (List ℕ)) : Type
   pub place : after.at ≡ before.at + length passed
   pub limit : after.limit ≡ before.limit
   pub stays : before.ended ≡ true → (took ≡ []) × (after.ended ≡ true)
-  pub same : (ends : Bool) (more : List ℕ) → MayFollow after ends more → items_behind before ends (took ++ more) ≡ items_behind after ends more
+  pub same : (ends : Bool) (more : List ℕ) → MayFollow after ends more → items_after before ends (took ++ more) ≡ items_after after ends more
 
 -- a reader that had something to tell, or whose source had ended, left the source alone
 pub record LeftAlone {A : Type 0} (before after : State) (source source' : A) : Type 0 where
   pub over : before.ended ≡ true → source' ≡ source
-  pub same : decided_now before ≢ Unknown → (source' ≡ source) × (decided_now after ≡ decided_now before)
+  pub same : decided_items_now before ≢ Unknown → (source' ≡ source) × (decided_items_now after ≡ decided_items_now before)
 
 unfoldable pub behind_start : (s : State) (left : Option (List ℕ)) → Behind s s left left
 behind_start s left = record {
@@ -111,7 +111,7 @@ behind_fill before s after left left' left'' log log' b going g = record {
   limit = g.limit ∙ b.limit;
   stays = λ ended. both_ends s.ended going (b.stays ended).1;
   same = λ ends more may.
-      ap (λ bytes. items_behind before ends bytes) (append_assoc b.took g.got more)
+      ap (λ bytes. items_after before ends bytes) (append_assoc b.took g.got more)
       ∙ b.same ends (g.got ++ more) (λ ended. both_ends s.ended going ended)
       ∙ rw (g.at, g.limit, g.pending, append_assoc) refl;
 }
@@ -151,7 +151,7 @@ work_fill s after left left' log log' place e g =
 -- ---- what the pending bytes decided at first
 
 -- a refusal that was decided at first is decided still
-pub told : {A : Type 0} (before s : State) (source source' : A) (offset code : ℕ) → LeftAlone before s source source' → decided_now before ≡ Bad offset code → decided_now s ≡ Bad offset code
+pub told : {A : Type 0} (before s : State) (source source' : A) (offset code : ℕ) → LeftAlone before s source source' → decided_items_now before ≡ Bad offset code → decided_items_now s ≡ Bad offset code
 told before s source source' offset code a e =
     (a.same (λ none. let no_fault : Bad offset code ≡ Unknown = sym e ∙ none in cc)).1 ∙ e
 
@@ -164,14 +164,14 @@ follow_found limit (Skip used) at rest offset code h e = h
 follow_found limit (Found used event) at rest offset code h e = cc
 
 -- an event is no refusal
-pub found_no_fault : (s : State) (offset code : ℕ) → IsFound (piece_now s) → decided_now s ≡ Bad offset code → ⊥
+pub found_no_fault : (s : State) (offset code : ℕ) → IsFound (piece_now s) → decided_items_now s ≡ Bad offset code → ⊥
 found_no_fault s offset code h e = follow_found s.limit (piece_now s) s.at _ offset code h (sym (now_decided s) ∙ e)
 
 -- what is undecided is unknown, where nothing follows that is known
-pub undecided_items : (s : State) → piece_now s ≡ Undecided → (s.ended ≡ false) × (items_behind s false [] ≡ Unknown)
+pub undecided_items : (s : State) → piece_now s ≡ Undecided → (s.ended ≡ false) × (items_after s false [] ≡ Unknown)
 undecided_items s e =
     let going = (undecided_now_open s e).0 in
-    (going, ap (λ ends. items_behind s ends []) (sym going) ∙ undecided_now s e)
+    (going, ap (λ ends. items_after s ends []) (sym going) ∙ undecided_now s e)
 
 -- the end is told only behind the record's end
 pub finish_ended : (s : State) → piece_now s ≡ Finish → s.ended ≡ true

@@ -10,7 +10,7 @@ use Rattle.hx_record.specs.declared.piece.Piece.TheVariants.{Undecided, TooLong,
 use Rattle.hx_record.specs.Refusal.{code_of}
 use Rattle.hx_record.specs.Piece.{piece}
 use Rattle.hx_record.specs.Record.{Unknown, Done, Bad, Then, follow, tail_of, items_from}
-use Rattle.hx_record.specs.State.{State, MayFollow, items_behind, decided_now}
+use Rattle.hx_record.specs.State.{State, MayFollow, items_after, decided_items_now}
 use Rattle.hx_record.proofs.PieceLemmas.{Takes, takes, piece_decided}
 use Rattle.hx_record.proofs.WindowLemmas.{take_all}
 use Rattle.hx_record.proofs.ItemLemmas.{rest_step}
@@ -32,7 +32,7 @@ pending_decides false ends room pending more may known =
     ]
 
 -- the items behind a reader, by the piece that its pending bytes begin with
-now_step : (s : State) (ends : Bool) (more : List ℕ) → MayFollow s ends more → piece_now s ≢ Undecided → items_behind s ends more ≡ follow s.limit (piece_now s) s.at (λ used. items_from ends (s.at + used) (drop used (s.pending ++ more)) s.limit)
+now_step : (s : State) (ends : Bool) (more : List ℕ) → MayFollow s ends more → piece_now s ≢ Undecided → items_after s ends more ≡ follow s.limit (piece_now s) s.at (λ used. items_from ends (s.at + used) (drop used (s.pending ++ more)) s.limit)
 now_step s ends more may known =
     rest_step ends s.at (s.pending ++ more) s.limit ∙ ap (λ p. follow s.limit p s.at (λ used. items_from ends (s.at + used) (drop used (s.pending ++ more)) s.limit)) (pending_decides s.ended ends (s.limit - s.at) s.pending more may known)
 
@@ -66,47 +66,47 @@ fault_within s skip refusal e place =
 -- ---- what a call answers, by the piece that it comes to
 
 -- the items that the pending bytes decide
-pub now_decided : (s : State) → decided_now s ≡ follow s.limit (piece_now s) s.at (λ used. items_from s.ended (s.at + used) (drop used s.pending) s.limit)
+pub now_decided : (s : State) → decided_items_now s ≡ follow s.limit (piece_now s) s.at (λ used. items_from s.ended (s.at + used) (drop used s.pending) s.limit)
 now_decided s =
     ap (λ bytes. items_from s.ended s.at bytes s.limit) (append-nil s.pending) ∙ rest_step s.ended s.at s.pending s.limit
 
-pub undecided_now : (s : State) → piece_now s ≡ Undecided → decided_now s ≡ Unknown
+pub undecided_now : (s : State) → piece_now s ≡ Undecided → decided_items_now s ≡ Unknown
 undecided_now s e = now_decided s ∙ rw e refl
 
-pub skip_now : (s : State) (used : ℕ) → piece_now s ≡ Skip used → decided_now s ≡ decided_now (passed_by s used)
+pub skip_now : (s : State) (used : ℕ) → piece_now s ≡ Skip used → decided_items_now s ≡ decided_items_now (passed_by s used)
 skip_now s used e = now_decided s ∙ rw (e, append-nil) refl
 
-pub found_now : (s : State) (used : ℕ) (event : Event) → piece_now s ≡ Found used event → decided_now s ≡ Then (record { offset = s.at; event = event }) (decided_now (passed_by s used))
+pub found_now : (s : State) (used : ℕ) (event : Event) → piece_now s ≡ Found used event → decided_items_now s ≡ Then (record { offset = s.at; event = event }) (decided_items_now (passed_by s used))
 found_now s used event e = now_decided s ∙ rw (e, append-nil) refl
 
-pub finish_now : (s : State) → piece_now s ≡ Finish → decided_now s ≡ Done
+pub finish_now : (s : State) → piece_now s ≡ Finish → decided_items_now s ≡ Done
 finish_now s e = now_decided s ∙ rw e refl
 
-pub fault_now : (s : State) (skip : ℕ) (refusal : Refusal) → piece_now s ≡ Fault skip refusal → decided_now s ≡ Bad (s.at + skip) (code_of refusal)
+pub fault_now : (s : State) (skip : ℕ) (refusal : Refusal) → piece_now s ≡ Fault skip refusal → decided_items_now s ≡ Bad (s.at + skip) (code_of refusal)
 fault_now s skip refusal e = now_decided s ∙ rw e refl
 
-pub long_now : (s : State) → piece_now s ≡ TooLong → decided_now s ≡ Bad s.limit 4
+pub long_now : (s : State) → piece_now s ≡ TooLong → decided_items_now s ≡ Bad s.limit 4
 long_now s e = now_decided s ∙ rw e refl
 
 -- the items behind the reader, whatever follows
-pub skip_behind : (s : State) (ends : Bool) (more : List ℕ) (used : ℕ) → MayFollow s ends more → piece_now s ≡ Skip used → items_behind s ends more ≡ items_behind (passed_by s used) ends more
+pub skip_behind : (s : State) (ends : Bool) (more : List ℕ) (used : ℕ) → MayFollow s ends more → piece_now s ≡ Skip used → items_after s ends more ≡ items_after (passed_by s used) ends more
 skip_behind s ends more used may e =
     let fits = (skip_passes s used e).1 in
     now_step s ends more may (λ none. let no_skip : Skip used ≡ Undecided = sym e ∙ none in cc) ∙ rw (e, drop-append-le used s.pending more fits) refl
 
-pub found_behind : (s : State) (ends : Bool) (more : List ℕ) (used : ℕ) (event : Event) → MayFollow s ends more → piece_now s ≡ Found used event → items_behind s ends more ≡ Then (record { offset = s.at; event = event }) (items_behind (passed_by s used) ends more)
+pub found_behind : (s : State) (ends : Bool) (more : List ℕ) (used : ℕ) (event : Event) → MayFollow s ends more → piece_now s ≡ Found used event → items_after s ends more ≡ Then (record { offset = s.at; event = event }) (items_after (passed_by s used) ends more)
 found_behind s ends more used event may e =
     let fits = (found_passes s used event e).1 in
     now_step s ends more may (λ none. let no_event : Found used event ≡ Undecided = sym e ∙ none in cc) ∙ rw (e, drop-append-le used s.pending more fits) refl
 
-pub finish_behind : (s : State) (ends : Bool) (more : List ℕ) → MayFollow s ends more → piece_now s ≡ Finish → items_behind s ends more ≡ Done
+pub finish_behind : (s : State) (ends : Bool) (more : List ℕ) → MayFollow s ends more → piece_now s ≡ Finish → items_after s ends more ≡ Done
 finish_behind s ends more may e =
     now_step s ends more may (λ none. let no_end : Finish ≡ Undecided = sym e ∙ none in cc) ∙ rw e refl
 
-pub fault_behind : (s : State) (ends : Bool) (more : List ℕ) (skip : ℕ) (refusal : Refusal) → MayFollow s ends more → piece_now s ≡ Fault skip refusal → items_behind s ends more ≡ Bad (s.at + skip) (code_of refusal)
+pub fault_behind : (s : State) (ends : Bool) (more : List ℕ) (skip : ℕ) (refusal : Refusal) → MayFollow s ends more → piece_now s ≡ Fault skip refusal → items_after s ends more ≡ Bad (s.at + skip) (code_of refusal)
 fault_behind s ends more skip refusal may e =
     now_step s ends more may (λ none. let no_fault : Fault skip refusal ≡ Undecided = sym e ∙ none in cc) ∙ rw e refl
 
-pub long_behind : (s : State) (ends : Bool) (more : List ℕ) → MayFollow s ends more → piece_now s ≡ TooLong → items_behind s ends more ≡ Bad s.limit 4
+pub long_behind : (s : State) (ends : Bool) (more : List ℕ) → MayFollow s ends more → piece_now s ≡ TooLong → items_after s ends more ≡ Bad s.limit 4
 long_behind s ends more may e =
     now_step s ends more may (λ none. let no_length : TooLong ≡ Undecided = sym e ∙ none in cc) ∙ rw e refl

@@ -3,15 +3,15 @@ use Rattle.std.proofs.Common.{◌≡◌, ℕ, List, [], ◌∷◌, Bool, true, f
 use Rattle.std.specs.Option.{unwrap_or}
 use Rattle.std.specs.List.{onto_first, join_with_byte}
 use Rattle.std.proofs.lemmas.List.Splits.{join_with_byte-slice_split}
-use Rattle.hx_record.specs.Line.{words_of}
+use Rattle.hx_record.specs.Line.{line_words}
 use Rattle.hx_record.specs.Said.{words_after, IsSomeWords}
 
 -- a text has a word, if it is only an empty one
-pub words_are_some : (text : List ℕ) → IsSomeWords (words_of text)
+pub words_are_some : (text : List ℕ) → IsSomeWords (line_words text)
 words_are_some [] = ([], [], refl)
 words_are_some (b ∷ bs) = onto (eqb b 32) (words_are_some bs) where
-  onto : (space : Bool) → IsSomeWords (words_of bs) → IsSomeWords (cond space ([] ∷ words_of bs) (onto_first b (words_of bs)))
-  onto true h = ([], words_of bs, refl)
+  onto : (space : Bool) → IsSomeWords (line_words bs) → IsSomeWords (cond space ([] ∷ line_words bs) (onto_first b (line_words bs)))
+  onto true h = ([], line_words bs, refl)
   onto false h = (b ∷ h.0, h.1, ap (onto_first b) h.2)
 
 -- the words that follow a space, joined again

@@ -4,7 +4,7 @@ use Rattle.hx_outside.specs.Log.{Log}
 use Rattle.hx_record.specs.declared.fault.RecordFault.{RecordFault}
 use Rattle.hx_record.specs.declared.fault.RecordFault.TheVariants.{Failed}
 use Rattle.hx_record.specs.Record.{Unknown}
-use Rattle.hx_record.specs.State.{State, decided_now}
+use Rattle.hx_record.specs.State.{State, decided_items_now}
 
 -- What is known behind a read that gave this: its bytes stand behind those that were there, and where it gave none the
 -- record ends. A read that failed tells nothing.
@@ -21,7 +21,7 @@ after_reads s (read ∷ reads) = after_reads (after_read s read) reads
 -- each of the reads was due: what was there before it told no item, and no read before it told the end
 abbrev pub AreDue : State → Log → Type 0
 AreDue s [] = ⊤
-AreDue s (read ∷ reads) = (s.ended ≡ false) × (decided_now s ≡ Unknown) × AreDue (after_read s read) reads
+AreDue s (read ∷ reads) = (s.ended ≡ false) × (decided_items_now s ≡ Unknown) × AreDue (after_read s read) reads
 
 -- a read that failed is the last of its call, which then answers that it failed, and answers so only then
 abbrev pub FailureIsTold : {A : Type 0} → Result A RecordFault → Log → Type 0

@@ -23,8 +23,8 @@ Err refusal >>= f = Err refusal
 Ok a >>= f = f a
 
 -- The words of a line: what its spaces cut it into. Two spaces in a row have an empty word between them.
-abbrev pub words_of : List ℕ → List (List ℕ)
-words_of line = slice_split (λ b. b == 32) line
+abbrev pub line_words : List ℕ → List (List ℕ)
+line_words line = slice_split (λ b. b == 32) line
 
 -- a number of at most so much, in one or more decimal digits
 abbrev pub number_of_word : ℕ → List ℕ → Result ℕ Refusal
@@ -81,4 +81,4 @@ words_say (name ∷ rest) =
 -- a line: nothing where it is empty or begins with `#`
 unfoldable pub line_says : List ℕ → Result Said Refusal
 line_says [] = Ok Nothing
-line_says (b ∷ bs) = if b == 35 then Ok Nothing else words_say (words_of (b ∷ bs))
+line_says (b ∷ bs) = if b == 35 then Ok Nothing else words_say (line_words (b ∷ bs))

@@ -49,13 +49,13 @@ abbrev pub first_piece : Bool → ℕ → List ℕ → ℕ → Piece
 first_piece ends at bytes limit = piece (tail_of ends (limit - at) bytes) (take (limit - at) bytes)
 
 -- the items of the whole rest of a record
-abbrev pub rec_at : ℕ → List ℕ → ℕ → Items
-rec_at at bytes limit = items_from true at bytes limit
+abbrev pub record_items_at : ℕ → List ℕ → ℕ → Items
+record_items_at at bytes limit = items_from true at bytes limit
 
 -- the items of a whole record
-abbrev pub rec : List ℕ → ℕ → Items
-rec bytes limit = rec_at 0 bytes limit
+abbrev pub record_items : List ℕ → ℕ → Items
+record_items bytes limit = record_items_at 0 bytes limit
 
 -- the items that the first bytes of a record decide, whatever follows them
-abbrev pub decided : List ℕ → ℕ → Items
-decided bytes limit = items_from false 0 bytes limit
+abbrev pub decided_items : List ℕ → ℕ → Items
+decided_items bytes limit = items_from false 0 bytes limit

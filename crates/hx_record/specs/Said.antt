@@ -1,6 +1,6 @@
 -- What the code reads in a line, in the words of the definitions.
 use Rattle.std.specs.Prelude.{◌≡◌, ℕ, List, [], ◌∷◌, Option, Some, None, Result, Ok, Err}
-use Rattle.hx_record.specs.Line.{Said, Nothing, Says, Announces, words_of}
+use Rattle.hx_record.specs.Line.{Said, Nothing, Says, Announces, line_words}
 use Rattle.hx_record.specs.declared.events.Event.TheVariants as events
 use Rattle.hx_record.specs.declared.refusal.Refusal.{Refusal}
 use Rattle.hx_record.specs.declared.line.Line.{Line}
@@ -22,7 +22,7 @@ what_is_said (Err refusal) = Err refusal
 -- the words of what stands behind a space, and none where no space is there
 abbrev pub words_after : Option (List ℕ) → List (List ℕ)
 words_after None = []
-words_after (Some rest) = words_of rest
+words_after (Some rest) = line_words rest
 
 -- there is a word
 abbrev pub IsSomeWords : List (List ℕ) → Type 0

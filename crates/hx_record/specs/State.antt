@@ -11,12 +11,12 @@ pub record State : Type 0 where
   pub ended : Bool
 
 -- the items that are left, where `more` follows the pending bytes, and where `ends` the record ends behind them
-abbrev pub items_behind : State → Bool → List ℕ → Items
-items_behind s ends more = items_from ends s.at (s.pending ++ more) s.limit
+abbrev pub items_after : State → Bool → List ℕ → Items
+items_after s ends more = items_from ends s.at (s.pending ++ more) s.limit
 
 -- the items that the reader can tell without another read
-abbrev pub decided_now : State → Items
-decided_now s = items_behind s s.ended []
+abbrev pub decided_items_now : State → Items
+decided_items_now s = items_after s s.ended []
 
 -- behind the record's end nothing follows, and else anything may
 abbrev pub MayFollow : State → Bool → List ℕ → Type 0

@@ -1,6 +1,6 @@
 ghost use Rattle.std.specs.Prelude.{◌≡◌, [], ◌∷◌, MatchResult, IfOk, ◌≤◌, ◌-◌, ◌^◌};
 ghost use Rattle.std.specs.Option.{option_copied};
-ghost use Rattle.hx_record.specs.Line.{words_of, number_of_word, address_of_word, line_says, words_say, conn_says, req_says, close_says, cli_says};
+ghost use Rattle.hx_record.specs.Line.{line_words, number_of_word, address_of_word, line_says, words_say, conn_says, req_says, close_says, cli_says};
 ghost use Rattle.hx_record.specs.Said.{what_is_said, words_after, IsSomeWords};
 
 use crate::refusal::Refusal;
@@ -61,7 +61,7 @@ fn address(word: &[u8]) -> Result<Ip, Refusal>
 
 /// The text before the first space, and what stands behind it, where there is one.
 fn cut(text: &[u8]) -> (&[u8], Option<&[u8]>)
-    ensures { words_of text.now ≡ result.0.now ∷ words_after (option_copied result.1) }
+    ensures { line_words text.now ≡ result.0.now ∷ words_after (option_copied result.1) }
 {
     match cut_at(b' ', text) {
         Some((word, rest)) => (word, Some(rest)),
@@ -154,7 +154,7 @@ fn read_cli(rest: Option<&[u8]>) -> Result<Line<'_>, Refusal>
 
 #[tactic(auto, unfolding(crate::specs::Line::words_say))]
 fn read_words(line: &[u8]) -> Result<Line<'_>, Refusal>
-    ensures { what_is_said result ≡ words_say (words_of line.now) }
+    ensures { what_is_said result ≡ words_say (line_words line.now) }
 {
     let (name, rest) = cut(line);
     if name == b"conn".as_slice() {

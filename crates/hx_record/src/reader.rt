@@ -2,7 +2,7 @@ ghost use Rattle.std.specs.Prelude.{◌≡◌, ◌≢◌, ℕ, ◌+◌, ◌-◌,
 ghost use Rattle.std.specs.Io.KnownBytes.{Keeps, IsAtEnd};
 ghost use Rattle.hx_outside.specs.Count.{Rose};
 ghost use Rattle.hx_record.specs.Record.{Unknown, Bad};
-ghost use Rattle.hx_record.specs.State.{State, decided_now};
+ghost use Rattle.hx_record.specs.State.{State, decided_items_now};
 ghost use Rattle.hx_record.specs.Reading.{Reads};
 ghost use Rattle.hx_record.specs.Parts.{IsFound, piece_now, passed_by, Grows, Notes};
 
@@ -87,18 +87,18 @@ impl Reader {
         ensures failed { result ≡ Err RecordFault.Failed
             → Rose (S.faults source.old) (S.faults source.new) }
         ensures undecided { result ≡ Err RecordFault.Failed
-            → (self.new.ended ≡ false) × (decided_now self.new ≡ Unknown) }
+            → (self.new.ended ≡ false) × (decided_items_now self.new ≡ Unknown) }
 
         // `reads` says of each read that it was due, for a source that tells its log. These say of
         // any source that it is left alone where none is due when the call begins.
-        ensures unasked { decided_now self.old ≢ Unknown → source.new ≡ source.old }
+        ensures unasked { decided_items_now self.old ≢ Unknown → source.new ≡ source.old }
         ensures over { self.old.ended ≡ true → source.new ≡ source.old }
 
         // A refusal stays.
-        ensures again { (offset code : ℕ) → decided_now self.old ≡ Bad offset code
+        ensures again { (offset code : ℕ) → decided_items_now self.old ≡ Bad offset code
             → result ≡ Err (RecordFault.Bad offset code) }
         ensures stuck { (offset code : ℕ) → result ≡ Err (RecordFault.Bad offset code)
-            → decided_now self.new ≡ Bad offset code }
+            → decided_items_now self.new ≡ Bad offset code }
     {
         'pieces: loop {
             match self.judge()? {

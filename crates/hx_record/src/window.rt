@@ -1,7 +1,7 @@
 ghost use Rattle.std.specs.Prelude.{◌≡◌, ◌+◌, ◌-◌, ◌<◌, ◌≤◌, ◌++◌, [], length, take, drop, IfOk, OnOk, OnErr, None, vec_len};
 ghost use Rattle.std.specs.Io.KnownBytes.{ReadConsumes, Keeps};
 ghost use Rattle.hx_outside.specs.Count.{Rose};
-ghost use Rattle.hx_outside.specs.Log.{Logs, given};
+ghost use Rattle.hx_outside.specs.Log.{Logs, bytes_read};
 ghost use Rattle.hx_record.specs.Parts.{Took};
 
 use hx_outside::{Failed, Source};
@@ -121,7 +121,7 @@ fn read_behind<S: Source>(buf: &mut Vec<u8>, end: usize, source: &mut S) -> Resu
     ensures within { IfOk result (λ count. end + count ≤ length buf.new.items) }
     ensures bytes { ReadConsumes (S.left source.old) (S.left source.new) result
         (drop end buf.new.items) }
-    ensures log { Logs (S.log source.old) (S.log source.new) (given result (drop end buf.new.items)) }
+    ensures log { Logs (S.log source.old) (S.log source.new) (bytes_read result (drop end buf.new.items)) }
     ensures later { S.faults source.old ≤ S.faults source.new }
     ensures failed { OnErr result (Rose (S.faults source.old) (S.faults source.new)) }
 {

@@ -14,13 +14,13 @@ bytes_of (Lent bytes) = bytes.now
 bytes_of (Own octets) = octets
 
 -- the value of a sample
-abbrev pub seen : Sample → Value
-seen (sample.Bool b) = value.Bool b
-seen (sample.Int n) = value.Int n
-seen (sample.Ip ip) = value.Ip ip
-seen (sample.Str bytes) = value.Str (bytes_of bytes)
-seen (sample.Bin bytes) = value.Bin (bytes_of bytes)
-seen (sample.Method bytes) = value.Method (bytes_of bytes)
+abbrev pub value_of : Sample → Value
+value_of (sample.Bool b) = value.Bool b
+value_of (sample.Int n) = value.Int n
+value_of (sample.Ip ip) = value.Ip ip
+value_of (sample.Str bytes) = value.Str (bytes_of bytes)
+value_of (sample.Bin bytes) = value.Bin (bytes_of bytes)
+value_of (sample.Method bytes) = value.Method (bytes_of bytes)
 
 -- the bytes of a sample as it keeps them, lent or owned, if it has any
 abbrev pub kept_bytes : Sample → Option Bytes
@@ -37,9 +37,9 @@ IsSameWhereBoth (Some bytes) (Some others) = bytes ≡ others
 IsSameWhereBoth _ _ = Unit {0}
 
 -- the value in a place, or none
-abbrev pub seen_place : Option Sample → Option Value
-seen_place place = option_map seen place
+abbrev pub occurrence_value : Option Sample → Option Value
+occurrence_value place = option_map value_of place
 
 -- what each place of a list holds
-abbrev pub seen_places : List (Option Sample) → List (Option Value)
-seen_places places = map seen_place places
+abbrev pub occurrence_values : List (Option Sample) → List (Option Value)
+occurrence_values places = map occurrence_value places

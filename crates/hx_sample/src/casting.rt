@@ -1,7 +1,7 @@
 ghost use Rattle.std.specs.Prelude.{◌≡◌, ◌≢◌, IfOk, IfSome, codes, if◌then◌else◌};
 ghost use Rattle.std.specs.Fmt.{signed_decimal};
 ghost use Rattle.hx_text.specs.Address.{ip_text};
-ghost use Rattle.hx_sample.specs.Seen.{seen, seen_place, kept_bytes, IsSameWhereBoth};
+ghost use Rattle.hx_sample.specs.Seen.{value_of, occurrence_value, kept_bytes, IsSameWhereBoth};
 ghost use Rattle.hx_sample.specs.Cast.{cast_of, kind_of};
 
 use crate::sample::{Bytes, Sample};
@@ -47,8 +47,8 @@ pub fn cast<'a>(
     sample: Sample<'a>,
     kind: Kind,
 ) -> Result<Option<Sample<'a>>, NoMemory>
-    ensures value { IfOk result (λ cast. seen_place cast ≡ cast_of (seen sample.entry) kind) }
-    ensures kind { kind ≢ Kind.Any → IfOk result (λ cast. IfSome cast (λ s. kind_of (seen s) ≡ kind)) }
+    ensures value { IfOk result (λ cast. occurrence_value cast ≡ cast_of (value_of sample.entry) kind) }
+    ensures kind { kind ≢ Kind.Any → IfOk result (λ cast. IfSome cast (λ s. kind_of (value_of s) ≡ kind)) }
 
     // No bytes are copied.
     ensures kept { IfOk result (λ cast. IfSome cast (λ s.

@@ -1,5 +1,5 @@
 ghost use Rattle.std.specs.Prelude.{◌≡◌, IfOk};
-ghost use Rattle.hx_sample.specs.Seen.{bytes_of, seen};
+ghost use Rattle.hx_sample.specs.Seen.{bytes_of, value_of};
 
 use hx_text::{Ip, NoMemory, Octets};
 use std::alloc::Global;
@@ -48,7 +48,7 @@ pub enum Value {
 
 /// The same value, with its bytes copied. It fails only where memory runs out.
 pub fn own(alloc: Global, sample: &Sample<'_>) -> Result<Value, NoMemory>
-    ensures { IfOk result (λ value. value ≡ seen sample.now) }
+    ensures { IfOk result (λ value. value ≡ value_of sample.now) }
 {
     match sample {
         Sample::Bool(b) => Ok(Value::Bool(*b)),
@@ -62,7 +62,7 @@ pub fn own(alloc: Global, sample: &Sample<'_>) -> Result<Value, NoMemory>
 
 /// The same value as a sample whose bytes are lent from `value`.
 pub fn lend(value: &Value) -> Sample<'_>
-    ensures { seen result ≡ value.now }
+    ensures { value_of result ≡ value.now }
 {
     match value {
         Value::Bool(b) => Sample::Bool(*b),

@@ -1,5 +1,5 @@
 ghost use Rattle.std.specs.Prelude.{◌≡◌, [], ◌∷◌, ◌++◌, IfSome, IfNone, OnOk, OnErr};
-ghost use Rattle.hx_sample.specs.Seen.{seen_place};
+ghost use Rattle.hx_sample.specs.Seen.{occurrence_value};
 
 use crate::sample::Sample;
 use hx_text::NoMemory;
@@ -17,11 +17,11 @@ pub struct Samples<'a> {
 impl<'a> Model for Samples<'a> {
     ghost use Rattle.std.specs.Prelude.{List, Option};
     ghost use Rattle.hx_sample.specs.declared.sample.Value.{Value as Datum};
-    ghost use Rattle.hx_sample.specs.Seen.{seen_places};
+    ghost use Rattle.hx_sample.specs.Seen.{occurrence_values};
 
     ghost Value = { List (Option Datum) };
 
-    ghost view = { λ samples. seen_places samples.places.items };
+    ghost view = { λ samples. occurrence_values samples.places.items };
 }
 
 impl<'a> Samples<'a> {
@@ -36,7 +36,7 @@ impl<'a> Samples<'a> {
 
     /// Appends one place. Where memory runs out the list stays as it was, and `place` is dropped.
     pub fn push(&mut self, place: Option<Sample<'a>>) -> Result<(), NoMemory>
-        ensures ok { OnOk result (self.new ≡ self.old ++ seen_place place.entry ∷ []) }
+        ensures ok { OnOk result (self.new ≡ self.old ++ occurrence_value place.entry ∷ []) }
         ensures err { OnErr result (self.new ≡ self.old) }
     {
         self.places.push_back(place)?;
@@ -46,7 +46,7 @@ impl<'a> Samples<'a> {
     /// Takes out the first place, whether it holds a sample or none. None exactly where there is no
     /// place. The cost doesn't grow with the list.
     pub fn take(&mut self) -> Option<Option<Sample<'a>>>
-        ensures some { IfSome result (λ place. self.old ≡ seen_place place ∷ self.new) }
+        ensures some { IfSome result (λ place. self.old ≡ occurrence_value place ∷ self.new) }
         ensures none { IfNone result (self.old ≡ []) }
         ensures left { IfNone result (self.new ≡ []) }
     {

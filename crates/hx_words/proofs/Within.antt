@@ -8,7 +8,7 @@ use Rattle.hx_words.specs.declared.fault.WordFault.TheVariants.{BadEscape, BadVa
 use Rattle.hx_words.specs.declared.quoting.Mode.{Mode}
 use Rattle.hx_words.specs.declared.quoting.Mode.TheVariants.{Outside, Single, Double}
 use Rattle.hx_words.specs.Quoting.{escape_of, hex_escape, hex_value, of_digits}
-use Rattle.hx_words.specs.Variable.{Env, variable_of, named, plain_name, braced_name, name_length, begins_with, is_name_byte, value_of}
+use Rattle.hx_words.specs.Variable.{Env, variable_of, named, plain_name, braced_name, name_length, begins_with, is_name_byte, env_value}
 use Rattle.hx_words.specs.Reading.{Item, part_or}
 use Rattle.hx_words.specs.Words.{LineEnd, word_item, double_escape}
 use Rattle.hx_words.specs.Words.LineEnd.{NoItem}
@@ -86,7 +86,7 @@ named-within (c ∷ cs) =
     let braced : found_len (braced_name cs) ≤ length (c ∷ cs) = omega (arith, braced-within cs) in
     either-found (c == 123) (braced_name cs) (plain_name (c ∷ cs)) (length (c ∷ cs)) braced (plain-within (c ∷ cs))
 
-mapped-within : (env : Env) (found : Option (ℕ × List ℕ)) (m : ℕ) → found_len found ≤ m → found_len (option_map (λ f. (f.0, value_of env f.1)) found) ≤ m
+mapped-within : (env : Env) (found : Option (ℕ × List ℕ)) (m : ℕ) → found_len found ≤ m → found_len (option_map (λ f. (f.0, env_value env f.1)) found) ≤ m
 unfolding found_len
 mapped-within env None m h = h
 mapped-within env (Some found) m h = h

@@ -9,13 +9,10 @@ use Rattle.std.specs.declared.alloc.Global.{Global}
 abbrev pub Env : Type 0
 Env = List (List ℕ × List ℕ)
 
-abbrev pub pairs_of : List (Vec ℕ Global × Vec ℕ Global) → Env
-pairs_of env = map (λ pair. (pair.0.items, pair.1.items)) env
-
 -- the value of the first pair of this name, nothing where there is none
-abbrev pub value_of : Env → List ℕ → List ℕ
-value_of [] name = []
-value_of (pair ∷ env) name = if bytes_eq pair.0 name then pair.1 else value_of env name
+abbrev pub env_value : Env → List ℕ → List ℕ
+env_value [] name = []
+env_value (pair ∷ env) name = if bytes_eq pair.0 name then pair.1 else env_value env name
 
 -- a letter, a digit or `_`
 abbrev pub is_name_byte : ℕ → Bool
@@ -46,4 +43,4 @@ named (c ∷ cs) = if c == 123 then braced_name cs else plain_name (c ∷ cs)
 
 -- the same with the variable's value in place of its name
 unfoldable pub variable_of : Env → List ℕ → Option (ℕ × List ℕ)
-variable_of env bs = option_map (λ found. (found.0, value_of env found.1)) (named bs)
+variable_of env bs = option_map (λ found. (found.0, env_value env found.1)) (named bs)

@@ -1,6 +1,6 @@
 ghost use Rattle.std.specs.Prelude.{◌≡◌, ◌≢◌, ◌<◌, ◌≤◌, List, ℕ, length};
 ghost use Rattle.hx_words.specs.Reading.{Reading};
-ghost use Rattle.hx_words.specs.Variable.{pairs_of};
+ghost use Rattle.hx_base.specs.Pairs.{pairs_of};
 ghost use Rattle.hx_words.specs.Words.{LineEnd, ReadsLine, line_reading, begun, ended, runs, words_of};
 ghost use Rattle.hx_words.specs.Words.LineEnd.{Complete};
 

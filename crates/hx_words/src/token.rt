@@ -2,7 +2,7 @@ ghost use Rattle.std.specs.Prelude.{◌≡◌, length};
 ghost use Rattle.hx_words.specs.Quoting.{escape_of};
 ghost use Rattle.hx_words.specs.Reading.{part_or, single_item};
 ghost use Rattle.hx_words.specs.Token.{item_of, TakesWithin};
-ghost use Rattle.hx_words.specs.Variable.{pairs_of};
+ghost use Rattle.hx_base.specs.Pairs.{pairs_of};
 ghost use Rattle.hx_words.specs.Words.{word_item, outside_item, double_item, double_escape};
 ghost use Rattle.hx_words.specs.Words.LineEnd.{NoItem};
 

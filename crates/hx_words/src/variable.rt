@@ -1,5 +1,6 @@
 ghost use Rattle.std.specs.Prelude.{◌≡◌, ◌+◌, ◌≤◌, IsTrue, take, length, option_map, IfSome};
-ghost use Rattle.hx_words.specs.Variable.{pairs_of, value_of, variable_of, name_length, begins_with, is_name_byte, plain_name, braced_name, named};
+ghost use Rattle.hx_base.specs.Pairs.{pairs_of};
+ghost use Rattle.hx_words.specs.Variable.{env_value, variable_of, name_length, begins_with, is_name_byte, plain_name, braced_name, named};
 ghost use Rattle.std.specs.List.{prefix_len};
 
 use crate::quoting::first;
@@ -16,7 +17,7 @@ pub(crate) fn variable<'a>(env: &'a [(Vec<u8>, Vec<u8>)], after: &[u8]) -> Optio
 
 /// The value of the first pair of the name, nothing where there is none.
 fn lookup<'a>(env: &'a [(Vec<u8>, Vec<u8>)], name: &[u8]) -> &'a [u8]
-    ensures { result.now ≡ value_of (pairs_of env.now) name.now }
+    ensures { result.now ≡ env_value (pairs_of env.now) name.now }
 {
     for (known, value) in env {
         if known.as_slice() == name {

@@ -4,7 +4,7 @@ use Rattle.std.specs.declared.alloc.Global.{Global}
 use Rattle.std.specs.declared.vec.Vec.{Vec}
 use Rattle.std.proofs.lemmas.List.{take_more, map-append}
 use Rattle.std.proofs.lemmas.List.Elements.{filter_map-append}
-use Rattle.hx_words.specs.Variable.{pairs_of}
+use Rattle.hx_base.specs.Pairs.{pairs_of}
 use Rattle.hxeval.specs.Machine.{variable_of, variables_of}
 use Rattle.hxeval.specs.Run.{texts_of}
 

@@ -3,10 +3,10 @@ use Rattle.std.proofs.Common.{◌≡◌, ℕ, ◌+◌, ◌≤◌, Bool, true, fa
 use mathlib.Core.Bool.{true≢false}
 use Rattle.std.specs.Io.KnownBytes.{Appends, Consumes, IsAtEnd}
 use Rattle.std.proofs.KnownBytes.{Appends-trans, Appends-nil, Consumes-trans, Consumes-nil}
-use Rattle.hx_outside.specs.Fronts.{AppendsFront}
+use Rattle.hx_outside.specs.Prefixes.{AppendsPrefix}
 use Rattle.hx_outside.specs.Log.{Log}
-use Rattle.hx_record.specs.Record.{Items, Unknown, items_from, decided}
-use Rattle.hx_record.specs.State.{State, items_behind, decided_now, MayFollow}
+use Rattle.hx_record.specs.Record.{Items, Unknown, items_from, decided_items}
+use Rattle.hx_record.specs.State.{State, items_after, decided_items_now, MayFollow}
 use Rattle.hx_record.specs.Reading.{Answers, Reads}
 use Rattle.hx_record.specs.declared.Event.{Event}
 use Rattle.hx_record.specs.declared.Event.TheVariants.{Conn, Req, Close, Cli}
@@ -14,7 +14,7 @@ use Rattle.hx_record.specs.declared.Placed.{Placed}
 use Rattle.hx_record.specs.declared.RecordFault.{RecordFault}
 use Rattle.hx_record.specs.declared.RecordFault.TheVariants as reader
 use Rattle.hxeval.specs.Rules.{Rule}
-use Rattle.hxeval.specs.Replay.{Outcome, with_front, record_line, record_refused, start, refusal_of, world_after, text_of, replayed}
+use Rattle.hxeval.specs.Replay.{Outcome, with_prefix, record_line, record_refused, start, refusal_of, world_after, text_of, replayed}
 use Rattle.hxeval.specs.Told.{AnswersEvent, Ends, IsRecord, Told, ToldDecided, record_limit, answers_of, reader_fault}
 use Rattle.hxeval.specs.declared.replay.ReplayFault.{ReplayFault}
 use Rattle.hxeval.specs.declared.replay.ReplayFault.TheVariants.{Refused, Source, Sink, NoMemory}
@@ -29,8 +29,8 @@ pub record Answered (what : Items → Items → Type 0) (rules : List Rule) (wor
   pub appended : Appends old new wrote
   pub limit : s.limit ≡ record_limit
   pub same : (ends : Bool) (more : List ℕ) → MayFollow s ends more
-      → (before : Items) × what before (items_behind s ends more)
-      × (replayed rules start (items_from ends 0 (took ++ more) record_limit) ≡ with_front wrote (replayed rules world before))
+      → (before : Items) × what before (items_after s ends more)
+      × (replayed rules start (items_from ends 0 (took ++ more) record_limit) ≡ with_prefix wrote (replayed rules world before))
 
 -- between two events the items before are those behind
 abbrev pub AreSame : Items → Items → Type 0
@@ -65,7 +65,7 @@ answered_reads rules world s s' left left' left'' old new result a r = record {
       let may_before : MayFollow s ends (r.took ++ more) = λ ended.
       let (none, over) = r.stays ended in let (nothing, end) = may over in (ap (λ t. t ++ more) none ∙ nothing, end) in
       let (before, is, text) = a.same ends (r.took ++ more) may_before in
-      (items_behind s ends (r.took ++ more), r.answers ends more may, rw append_assoc (text ∙ ap (λ i. with_front a.wrote (replayed rules world i)) is));
+      (items_after s ends (r.took ++ more), r.answers ends more may, rw append_assoc (text ∙ ap (λ i. with_prefix a.wrote (replayed rules world i)) is));
 }
 
 -- what stands behind the bytes that were taken: all that the source has left, where it tells
@@ -90,7 +90,7 @@ record Seen (what : Items → Items → Type 0) (rules : List Rule) (world : Wor
   before : Items
   behind : Items
   stand : what before behind
-  text : answers_of rules bytes ≡ with_front wrote (replayed rules world before)
+  text : answers_of rules bytes ≡ with_prefix wrote (replayed rules world before)
 
 seen : (what : Items → Items → Type 0) (rules : List Rule) (world : World) (s : State) (left left' old new : Option (List ℕ))
     → Answered what rules world s left left' old new → (s.ended ≡ true → IsAtEnd left') → Seen what rules world s left left' old new
@@ -102,7 +102,7 @@ seen what rules world s left left' old new a at_end =
       wrote = a.wrote;
       appended = a.appended;
       before = before;
-      behind = items_behind s true (rest_of left');
+      behind = items_after s true (rest_of left');
       stand = stand;
       text = text;
     }
@@ -113,8 +113,8 @@ pub told_end : (rules : List Rule) (world : World) (s : State) (left left' old n
 unfolding replayed
 told_end rules world s left left' old new a at_end =
     let v = seen (Answer (Ok None)) rules world s left left' old new a at_end in
-    let done : answers_of rules v.bytes ≡ with_front v.wrote (record { text = []; status = 0 }) =
-    v.text ∙ ap (λ i. with_front v.wrote (replayed rules world i)) v.stand.0 in
+    let done : answers_of rules v.bytes ≡ with_prefix v.wrote (record { text = []; status = 0 }) =
+    v.text ∙ ap (λ i. with_prefix v.wrote (replayed rules world i)) v.stand.0 in
     record {
       bytes = v.bytes;
       of_source = v.of_source;
@@ -125,7 +125,7 @@ told_end rules world s left left' old new a at_end =
       ends = (ap (λ (o : Outcome). o.status) done, refl);
     }
 
--- where nothing more is known than the front that was written
+-- where nothing more is known than the prefix that was written
 told_front : (rules : List Rule) (world : World) (s : State) (left left' old new : Option (List ℕ)) (result : Result (Option Placed) RecordFault)
     → Answered (Answer result) rules world s left left' old new → (s.ended ≡ true → IsAtEnd left') → (fault : ReplayFault)
     → ((outcome : Outcome) (rest : List ℕ) → Ends outcome rest (Err fault)) → Told rules left old new (Err fault)
@@ -147,8 +147,8 @@ pub told_fault : (rules : List Rule) (world : World) (s : State) (left left' old
 unfolding replayed
 told_fault rules world s left left' old new (reader.Bad offset code) a at_end =
     let v = seen (Answer (Err (reader.Bad offset code))) rules world s left left' old new a at_end in
-    let done : answers_of rules v.bytes ≡ with_front v.wrote (record_refused offset code) =
-    v.text ∙ ap (λ i. with_front v.wrote (replayed rules world i)) v.stand.0 in
+    let done : answers_of rules v.bytes ≡ with_prefix v.wrote (record_refused offset code) =
+    v.text ∙ ap (λ i. with_prefix v.wrote (replayed rules world i)) v.stand.0 in
     record {
       bytes = v.bytes;
       of_source = v.of_source;
@@ -163,12 +163,12 @@ told_fault rules world s left left' old new reader.NoMemory a at_end = told_fron
 
 -- a fault of the source, where the pending bytes decide nothing more
 pub told_decided : (rules : List Rule) (world : World) (s : State) (left left' old new : Option (List ℕ))
-    → Answered (Answer (Err reader.Failed)) rules world s left left' old new → (s.ended ≡ false) → (items_behind s false [] ≡ Unknown) → ToldDecided rules left left' old new
+    → Answered (Answer (Err reader.Failed)) rules world s left left' old new → (s.ended ≡ false) → (items_after s false [] ≡ Unknown) → ToldDecided rules left left' old new
 unfolding replayed
 told_decided rules world s left left' old new a going undecided =
     let (before, stand, text) = a.same false [] (λ ended. absurd (true≢false (sym ended ∙ going))) in
-    let here : replayed rules start (decided a.took record_limit) ≡ with_front a.wrote (record { text = []; status = 5 }) =
-    rw append-nil at text ∙ ap (λ i. with_front a.wrote (replayed rules world i)) (sym stand ∙ undecided) in
+    let here : replayed rules start (decided_items a.took record_limit) ≡ with_prefix a.wrote (record { text = []; status = 5 }) =
+    rw append-nil at text ∙ ap (λ i. with_prefix a.wrote (replayed rules world i)) (sym stand ∙ undecided) in
     record {
       took = a.took;
       consumed = a.consumed;
@@ -179,11 +179,11 @@ told_decided rules world s left left' old new a going undecided =
 -- the same of any fault of the reader that is the source's
 pub told_source : (rules : List Rule) (world : World) (s : State) (left left' old new : Option (List ℕ)) (fault : RecordFault) → reader_fault fault ≡ Source
     → Answered (Answer (Err fault)) rules world s left left' old new
-    → (fault ≡ reader.Failed → (s.ended ≡ false) × (decided_now s ≡ Unknown)) → ToldDecided rules left left' old new
+    → (fault ≡ reader.Failed → (s.ended ≡ false) × (decided_items_now s ≡ Unknown)) → ToldDecided rules left left' old new
 told_source rules world s left left' old new (reader.Bad offset code) is a undecided = cc
 told_source rules world s left left' old new reader.Failed is a undecided =
     let (going, unknown) = undecided refl in
-    told_decided rules world s left left' old new a going (ap (λ ends. items_behind s ends []) (sym going) ∙ unknown)
+    told_decided rules world s left left' old new a going (ap (λ ends. items_after s ends []) (sym going) ∙ unknown)
 told_source rules world s left left' old new reader.NoMemory is a undecided = cc
 
 -- an event that is answered
@@ -199,27 +199,27 @@ answered_next rules world after s left left' old new new' placed a (allowed, goe
   limit = a.limit;
   same = λ ends more may.
       let (before, stand, text) = a.same ends more may in
-      (items_behind s ends more, refl, text ∙ ap (λ i. with_front a.wrote (replayed rules world i)) stand ∙ rw (allowed, ← goes, append_assoc) refl);
+      (items_after s ends more, refl, text ∙ ap (λ i. with_prefix a.wrote (replayed rules world i)) stand ∙ rw (allowed, ← goes, append_assoc) refl);
 }
 
--- an event of whose answer a front was written
+-- an event of whose answer a prefix was written
 told_part : (rules : List Rule) (world : World) (s : State) (left left' old new new' : Option (List ℕ)) (placed : Placed) (fault : ReplayFault)
     → Answered (Answer (Ok (Some placed))) rules world s left left' old new → (s.ended ≡ true → IsAtEnd left')
-    → refusal_of world placed.event ≡ None → AppendsFront new new' (text_of rules world placed.event)
+    → refusal_of world placed.event ≡ None → AppendsPrefix new new' (text_of rules world placed.event)
     → ((outcome : Outcome) (rest : List ℕ) → Ends outcome rest (Err fault)) → Told rules left old new' (Err fault)
 unfolding replayed
 told_part rules world s left left' old new new' placed fault a at_end allowed part ends =
     let v = seen (Answer (Ok (Some placed))) rules world s left left' old new a at_end in
     let behind = (replayed rules (world_after world placed.event) v.behind).text in
     let text : (answers_of rules v.bytes).text ≡ v.wrote ++ (text_of rules world placed.event ++ behind) =
-    ap (λ (o : Outcome). o.text) (v.text ∙ ap (λ i. with_front v.wrote (replayed rules world i)) v.stand) ∙ rw allowed refl in
+    ap (λ (o : Outcome). o.text) (v.text ∙ ap (λ i. with_prefix v.wrote (replayed rules world i)) v.stand) ∙ rw allowed refl in
     record {
       bytes = v.bytes;
       of_source = v.of_source;
-      wrote = v.wrote ++ part.front;
+      wrote = v.wrote ++ part.prefix;
       rest = part.rest ++ behind;
       whole = text ∙ rw (part.whole, append_assoc, append_assoc) refl;
-      appended = Appends-trans old new new' v.wrote part.front v.appended part.appended;
+      appended = Appends-trans old new new' v.wrote part.prefix v.appended part.appended;
       ends = ends (answers_of rules v.bytes) (part.rest ++ behind);
     }
 
@@ -230,8 +230,8 @@ pub told_event : (rules : List Rule) (world after : World) (s : State) (left lef
 unfolding replayed
 told_event rules world after s left left' old new new' placed (Refused offset code) a at_end (refused, here, kept) =
     let v = seen (Answer (Ok (Some placed))) rules world s left left' old new a at_end in
-    let done : answers_of rules v.bytes ≡ with_front v.wrote (record_refused placed.offset code) =
-    v.text ∙ ap (λ i. with_front v.wrote (replayed rules world i)) v.stand ∙ rw refused refl in
+    let done : answers_of rules v.bytes ≡ with_prefix v.wrote (record_refused placed.offset code) =
+    v.text ∙ ap (λ i. with_prefix v.wrote (replayed rules world i)) v.stand ∙ rw refused refl in
     record {
       bytes = v.bytes;
       of_source = v.of_source;

@@ -2,7 +2,7 @@
 use Rattle.std.proofs.Common.{◌≡◌, ℕ, List, [], Option, None, Some, Result, Ok, Err, IfSome, unwrap_or, refl, sym, ap, append-nil}
 use Rattle.std.specs.Io.KnownBytes.{Appends}
 use Rattle.std.proofs.KnownBytes.{Appends-nil, Appends-trans}
-use Rattle.hx_outside.specs.Files.{file_at}
+use Rattle.hx_base.specs.Pairs.{value_at}
 use Rattle.hx_outside.specs.declared.FileFault.{FileFault}
 use Rattle.hx_outside.specs.declared.FileFault.TheVariants as file
 use Rattle.hx_words.specs.Variable.{Env}
@@ -12,7 +12,7 @@ use Rattle.hxeval.specs.Replay.{Outcome, replayed, start}
 use Rattle.hxeval.specs.Run.{IsConfig, SourceFails, config_line, outcome_of}
 use Rattle.hxeval.specs.RunFault.{Attempted, Leaves, from_file, from_load, from_replay}
 use Rattle.hxeval.specs.Told.{IsRecord, Told, ToldDecided, Ends, answers_of, record_limit}
-use Rattle.hx_record.specs.Record.{decided}
+use Rattle.hx_record.specs.Record.{decided_items}
 use Rattle.hxeval.specs.declared.load.Refusal.{Refusal}
 use Rattle.hxeval.specs.declared.load.LoadFault.{LoadFault}
 use Rattle.hxeval.specs.declared.load.LoadFault.TheVariants as load
@@ -30,7 +30,7 @@ Known = Option (List ℕ)
 -- the configuration and the record, as far as files and source tell
 abbrev config_in : Held → List ℕ → Option (List ℕ)
 config_in None name = None
-config_in (Some files) name = file_at files name
+config_in (Some files) name = value_at files name
 
 config_in_is : (held : Held) (name : List ℕ) → IsConfig held name (config_in held name)
 config_in_is None name = tt
@@ -40,7 +40,7 @@ record_in_is : (left : Known) → IsRecord left (unwrap_or left [])
 record_in_is None = tt
 record_in_is (Some left) = refl
 
-pub is_config : (held : Held) (name items : List ℕ) → IfSome held (λ files. file_at files name ≡ Some items) → IsConfig held name (Some items)
+pub is_config : (held : Held) (name items : List ℕ) → IfSome held (λ files. value_at files name ≡ Some items) → IsConfig held name (Some items)
 is_config None name items known = tt
 is_config (Some files) name items known = sym known
 
@@ -132,7 +132,7 @@ source_moved env held name left left' old mid new s nothing = record {
     took = s.told.took;
     consumed = s.told.consumed;
     going_on = s.told.going_on;
-    written = rw append-nil at (Appends-trans old mid new (replayed s.rules start (decided s.told.took record_limit)).text [] s.told.written nothing);
+    written = rw append-nil at (Appends-trans old mid new (replayed s.rules start (decided_items s.told.took record_limit)).text [] s.told.written nothing);
   };
 }
 

@@ -74,8 +74,8 @@ values_of_is words values is =
     let (more, brace) = both (ltb 1 (length words)) _ firsts in
     let size : 1 < length words = ltb-true 1 (length words) more in
     let last : get_or words (length words - 1) [] ≡ codes "}" = same_bytes (get_or words (length words - 1) []) (codes "}") brace in
-    let front : length (take (length words - 1) words) ≡ length words - 1 = length-take-le (length words - 1) words (omega arith) in
-    (last_word words (omega (arith, size)) ∙ rw (taken, last) refl, rw (← taken) (omega (arith, front, size)), rw (← taken) all)
+    let prefix : length (take (length words - 1) words) ≡ length words - 1 = length-take-le (length words - 1) words (omega arith) in
+    (last_word words (omega (arith, size)) ∙ rw (taken, last) refl, rw (← taken) (omega (arith, prefix, size)), rw (← taken) all)
 
 rule_with_is : (unless : Option Bool) (values : Option (List (List ℕ))) (rule : Rule) → rule_with unless values ≡ Some rule
     → (unless ≡ Some rule.unless) × (values ≡ Some rule.values)

@@ -4,10 +4,10 @@ use Rattle.std.specs.Io.KnownBytes.{Appends}
 use Rattle.std.proofs.KnownBytes.{Appends-trans}
 use Rattle.hx_words.specs.Variable.{Env}
 use Rattle.hxeval.specs.Configuration.{loaded}
-use Rattle.hx_record.specs.Record.{Items, Unknown, Done, Bad, Then, rec}
+use Rattle.hx_record.specs.Record.{Items, Unknown, Done, Bad, Then, record_items}
 use Rattle.hx_record.specs.declared.Placed.{Placed}
 use Rattle.hxeval.specs.Rules.{Rule}
-use Rattle.hxeval.specs.Replay.{Outcome, replayed, with_front, record_refused, start, refusal_of, world_after, text_of, events_of, is_whole, AreAllowed, text_of_all}
+use Rattle.hxeval.specs.Replay.{Outcome, replayed, with_prefix, record_refused, start, refusal_of, world_after, text_of, events_of, is_whole, AreAllowed, text_of_all}
 use Rattle.hxeval.specs.Run.{Ran, Headline, IsConfig, judged, outcome_of}
 use Rattle.hxeval.specs.Told.{IsRecord, answers_of, record_limit}
 use Rattle.hxeval.specs.RunFault.{Attempted, Leaves, Finishes, last_line, status_of}
@@ -28,7 +28,7 @@ replays_then : (rules : List Rule) (world : World) (placed : Placed) (rest : Ite
     → Replays rules world (Then placed rest)
 unfolding replayed
 replays_then rules world placed rest None allowed is behind =
-    let here : replayed rules world (Then placed rest) ≡ with_front (text_of rules world placed.event) (replayed rules (world_after world placed.event) rest) = rw allowed refl in
+    let here : replayed rules world (Then placed rest) ≡ with_prefix (text_of rules world placed.event) (replayed rules (world_after world placed.event) rest) = rw allowed refl in
     let later = behind (sym (ap (λ (o : Outcome). o.status) here) ∙ is) in
     record {
       whole = later.whole;
@@ -65,8 +65,8 @@ unfolding outcome_of
 headline_of env held name left old new None bytes wrote rest files source whole appended leaves = absurd (omega (arith, leaves.0))
 headline_of env held name left old new (Some config) bytes wrote rest files source whole appended leaves =
     let a = judged_done (loaded env config) bytes leaves.0 in
-    let r = replays a.rules start (rec bytes record_limit) a.status in
-    let all : wrote ≡ text_of_all a.rules start (events_of (rec bytes record_limit)) =
+    let r = replays a.rules start (record_items bytes record_limit) a.status in
+    let all : wrote ≡ text_of_all a.rules start (events_of (record_items bytes record_limit)) =
     sym (whole ∙ rw (leaves.1, append-nil) refl) ∙ a.text ∙ r.text in
     record {
       config = config;
@@ -111,7 +111,7 @@ late_large status (zero, within, is) = omega (arith, is)
 late_large status (suc zero, within, is) = omega (arith, is)
 late_large status (suc (suc k), within, is) = absurd (omega (arith, within))
 
--- the line that tells a refusal, or a front of it
+-- the line that tells a refusal, or a prefix of it
 ran_refused : (env : Env) (held : Option (List (List ℕ × List ℕ))) (name : List ℕ) (left old mid new : Option (List ℕ)) (fault : RunFault) (status : ℕ)
     (a : Attempted env held name left old mid (Err fault)) → (outcome_of env a.config a.bytes).status ≡ status_of fault → a.rest ≡ last_line fault
     → Finishes fault mid new status → Ran env held name left old new status
@@ -131,16 +131,16 @@ ran_refused env held name left old mid new fault status a is rest (inr (late, pa
   bytes = a.bytes;
   of_files = a.of_files;
   of_source = a.of_source;
-  wrote = a.wrote ++ part.front;
+  wrote = a.wrote ++ part.prefix;
   rest = part.rest;
   whole = a.whole ∙ rw (rest, part.whole, append_assoc) refl;
-  appended = Appends-trans old mid new a.wrote part.front a.appended part.appended;
+  appended = Appends-trans old mid new a.wrote part.prefix a.appended part.appended;
   exact = λ exact. absurd (omega (arith, exact_small status exact, late_large status late));
 }
 
-nil_of_append : (front rest : List ℕ) → front ++ rest ≡ [] → front ≡ []
+nil_of_append : (prefix rest : List ℕ) → prefix ++ rest ≡ [] → prefix ≡ []
 nil_of_append [] rest is = refl
-nil_of_append (b ∷ front) rest is = cc
+nil_of_append (b ∷ prefix) rest is = cc
 
 -- no line
 ran_stopped : (env : Env) (held : Option (List (List ℕ × List ℕ))) (name : List ℕ) (left old mid new : Option (List ℕ)) (fault : RunFault) (status : ℕ)
@@ -158,15 +158,15 @@ ran_stopped env held name left old mid new fault status a large none (inl (same,
   exact = λ exact. absurd (omega (arith, exact_small status exact, large, same));
 }
 ran_stopped env held name left old mid new fault status a large none (inr (late, part)) =
-    let empty : part.front ≡ [] = nil_of_append part.front part.rest (sym part.whole ∙ none) in record {
+    let empty : part.prefix ≡ [] = nil_of_append part.prefix part.rest (sym part.whole ∙ none) in record {
       config = a.config;
       bytes = a.bytes;
       of_files = a.of_files;
       of_source = a.of_source;
-      wrote = a.wrote ++ part.front;
+      wrote = a.wrote ++ part.prefix;
       rest = a.rest;
       whole = a.whole ∙ rw (empty, append-nil) refl;
-      appended = Appends-trans old mid new a.wrote part.front a.appended part.appended;
+      appended = Appends-trans old mid new a.wrote part.prefix a.appended part.appended;
       exact = λ exact. absurd (omega (arith, exact_small status exact, late_large status late));
     }
 

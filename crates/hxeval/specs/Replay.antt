@@ -15,8 +15,8 @@ pub record Outcome : Type 0 where
   pub text : List ℕ
   pub status : ℕ
 
-abbrev pub with_front : List ℕ → Outcome → Outcome
-with_front front outcome = record { text = front ++ outcome.text; status = outcome.status }
+abbrev pub with_prefix : List ℕ → Outcome → Outcome
+with_prefix prefix outcome = record { text = prefix ++ outcome.text; status = outcome.status }
 
 -- the last line of a record that is refused
 abbrev pub record_line : (offset code : ℕ) → List ℕ
@@ -52,7 +52,7 @@ text_of rules world (Cli session text) = []
 
 -- an event at an offset that may stand there, with its text and what follows it, or that is refused
 abbrev pub answered : Option ℕ → ℕ → List ℕ → Outcome → Outcome
-answered None offset text behind = with_front text behind
+answered None offset text behind = with_prefix text behind
 answered (Some code) offset text behind = record_refused offset code
 
 -- what the items of a record are answered, from a world on; more is not known where its bytes are

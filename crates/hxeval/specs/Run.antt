@@ -5,10 +5,10 @@ use Rattle.std.specs.Io.KnownBytes.{Appends}
 use Rattle.std.specs.Str.{bytes_eq}
 use Rattle.std.specs.declared.alloc.Global.{Global}
 use Rattle.std.specs.declared.vec.Vec.{Vec}
-use Rattle.hx_outside.specs.Files.{file_at}
+use Rattle.hx_base.specs.Pairs.{value_at}
 use Rattle.hx_words.specs.Variable.{Env}
 use Rattle.hxeval.specs.Configuration.{loaded}
-use Rattle.hx_record.specs.Record.{rec}
+use Rattle.hx_record.specs.Record.{record_items}
 use Rattle.hxeval.specs.Rules.{Rule}
 use Rattle.hxeval.specs.Replay.{Outcome, start, events_of, is_whole, AreAllowed, text_of_all}
 use Rattle.hxeval.specs.Told.{IsRecord, ToldDecided, record_limit, answers_of}
@@ -40,9 +40,9 @@ outcome_of env (Some config) bytes = judged (loaded env config) bytes
 -- the configuration is what the files hold under its name, where they tell
 abbrev pub IsConfig : Option (List (List ℕ × List ℕ)) → List ℕ → Option (List ℕ) → Type 0
 IsConfig None name config = ⊤
-IsConfig (Some files) name config = config ≡ file_at files name
+IsConfig (Some files) name config = config ≡ value_at files name
 
--- The text that a run writes, and how much of it was written: all of it where the status is 0, 3 or 4, and a front of it at any other.
+-- The text that a run writes, and how much of it was written: all of it where the status is 0, 3 or 4, and a prefix of it at any other.
 -- The text and these statuses are those of the configuration that the files hold and of the record that the source has.
 pub record Ran (env : Env) (held : Option (List (List ℕ × List ℕ))) (name : List ℕ) (left old new : Option (List ℕ)) (status : ℕ) : Type 0 where
   pub config : Option (List ℕ)
@@ -64,9 +64,9 @@ pub record Headline (env : Env) (held : Option (List (List ℕ × List ℕ))) (n
   pub of_files : IsConfig held name (Some config)
   pub of_source : IsRecord left bytes
   pub accepted : loaded env config ≡ Ok rules
-  pub read : is_whole (rec bytes record_limit) ≡ true
-  pub allowed : AreAllowed start (events_of (rec bytes record_limit))
-  pub written : Appends old new (text_of_all rules start (events_of (rec bytes record_limit)))
+  pub read : is_whole (record_items bytes record_limit) ≡ true
+  pub allowed : AreAllowed start (events_of (record_items bytes record_limit))
+  pub written : Appends old new (text_of_all rules start (events_of (record_items bytes record_limit)))
 
 -- The source failed: the files hold a configuration that is accepted, where they tell, and exactly the answers were
 -- written to the events that the bytes taken from the source decide.

@@ -1,7 +1,7 @@
 -- Why a run ended before the record did, and what it then says.
 use Rattle.std.specs.Prelude.{◌≡◌, ℕ, List, [], ◌∷◌, ◌++◌, Contains, Option, Result, Ok, Err, ⊤, ◌⊎◌}
 use Rattle.std.specs.Io.KnownBytes.{Appends}
-use Rattle.hx_outside.specs.Fronts.{AppendsFront}
+use Rattle.hx_outside.specs.Prefixes.{AppendsPrefix}
 use Rattle.hx_outside.specs.declared.FileFault.{FileFault}
 use Rattle.hx_outside.specs.declared.FileFault.TheVariants as file
 use Rattle.hx_words.specs.Variable.{Env}
@@ -51,7 +51,7 @@ Leaves outcome rest (Err (Config refusal)) = (outcome.status ≡ 3) × (rest ≡
 Leaves outcome rest (Err (Record offset code)) = (outcome.status ≡ 4) × (rest ≡ last_line (Record offset code))
 Leaves outcome rest (Err _) = ⊤
 
--- a run up to its end or its fault: a front of its text was written, and of a refusal all but the line that tells it
+-- a run up to its end or its fault: a prefix of its text was written, and of a refusal all but the line that tells it
 pub record Attempted (env : Env) (held : Option (List (List ℕ × List ℕ))) (name : List ℕ) (left old new : Option (List ℕ)) (result : Result (Unit {0}) RunFault) : Type 0 where
   pub config : Option (List ℕ)
   pub bytes : List ℕ
@@ -66,4 +66,4 @@ pub record Attempted (env : Env) (held : Option (List (List ℕ × List ℕ))) (
 -- the end of a run: the line that tells the fault was written, and the status is the fault's, or the sink failed or memory ran out before
 abbrev pub Finishes : RunFault → (old new : Option (List ℕ)) → ℕ → Type 0
 Finishes fault old new status =
-    ((status ≡ status_of fault) × Appends old new (last_line fault)) ⊎ (Contains (6 ∷ 7 ∷ []) status × AppendsFront old new (last_line fault))
+    ((status ≡ status_of fault) × Appends old new (last_line fault)) ⊎ (Contains (6 ∷ 7 ∷ []) status × AppendsPrefix old new (last_line fault))

@@ -2,7 +2,7 @@ ghost use Rattle.std.specs.Prelude.{◌≡◌, ℕ, ◌^◌, ◌<◌, ◌≤◌,
 ghost use Rattle.std.specs.Fmt.{decimal};
 ghost use Rattle.std.specs.Io.KnownBytes.{Appends};
 ghost use Rattle.hx_outside.specs.Count.{Rose};
-ghost use Rattle.hx_outside.specs.Fronts.{AppendsFront};
+ghost use Rattle.hx_outside.specs.Prefixes.{AppendsPrefix};
 ghost use Rattle.std.specs.List.{after_first};
 ghost use Rattle.memchr.specs.Find.{is_byte};
 ghost use Rattle.hxeval.specs.Replay.{record_line};
@@ -30,7 +30,7 @@ type Parts<'t> = [&'t [u8]; 5];
 /// `words` are those of the command line, `file_failed` says that the configuration couldn't be read, and
 /// `last_line` is the last line that was written.
 ///
-/// `Failed` only where the count of faults of `err` rose, and `NoMemory` where memory ran out: a front of the text
+/// `Failed` only where the count of faults of `err` rose, and `NoMemory` where memory ran out: a prefix of the text
 /// was then written.
 pub fn explain<K: Sink>(
     err: &mut K,
@@ -41,7 +41,7 @@ pub fn explain<K: Sink>(
 ) -> Result<(), SinkFault>
     ensures ok { OnOk result (Appends (K.written err.old) (K.written err.new)
         (explanation status (given_name (texts_of words.now)) file_failed last_line.now)) }
-    ensures front { AppendsFront (K.written err.old) (K.written err.new)
+    ensures prefix { AppendsPrefix (K.written err.old) (K.written err.new)
         (explanation status (given_name (texts_of words.now)) file_failed last_line.now) }
     ensures failed { IsErrOf result SinkFault.Failed → Rose (K.faults err.old) (K.faults err.new) }
     // The text of a refusal names the line or the offset, and the code, that the last line tells.
@@ -59,7 +59,7 @@ pub fn explain<K: Sink>(
 /// Writes the parts of a text, one behind the other.
 fn write_parts<K: Sink>(out: &mut K, parts: &[&[u8]]) -> Result<(), SinkFault>
     ensures ok { OnOk result (Appends (K.written out.old) (K.written out.new) (all_of parts.now)) }
-    ensures front { AppendsFront (K.written out.old) (K.written out.new) (all_of parts.now) }
+    ensures prefix { AppendsPrefix (K.written out.old) (K.written out.new) (all_of parts.now) }
     ensures later { K.faults out.old ≤ K.faults out.new }
     ensures failed { IsErrOf result SinkFault.Failed → Rose (K.faults out.old) (K.faults out.new) }
 {

@@ -1,5 +1,5 @@
 ghost use Rattle.std.specs.Prelude.{◌≡◌, IfOk, Ok, Err};
-ghost use Rattle.hx_words.specs.Variable.{pairs_of};
+ghost use Rattle.hx_base.specs.Pairs.{pairs_of};
 ghost use Rattle.hxeval.specs.Configuration.{line_rule, loaded};
 ghost use Rattle.hxeval.specs.declared.load.Refusal.{Refusal};
 

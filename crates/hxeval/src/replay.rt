@@ -91,7 +91,7 @@ impl From<RecordFault> for ReplayFault {
 ///
 /// `Refused` exactly where the record is refused, after the answers to the events before. `Source` and `Sink` only
 /// where the count of faults of that one rose, and `NoMemory` where memory runs out: what was written is then a
-/// front of the whole text, and after `Source` exactly the answers to the events that the bytes taken decide.
+/// prefix of the whole text, and after `Source` exactly the answers to the events that the bytes taken decide.
 pub fn replay<S: Source, K: Sink>(
     alloc: Global,
     rules: &Rules,

@@ -2,7 +2,7 @@ ghost use Rattle.std.specs.Prelude.{◌≡◌, ◌≢◌, ◌≤◌, ◌↔◌, 
 ghost use Rattle.std.specs.Option.{option_copied};
 ghost use Rattle.std.specs.Io.KnownBytes.{Appends, IsAtEnd};
 ghost use Rattle.hx_outside.specs.Count.{Rose};
-ghost use Rattle.hx_words.specs.Variable.{pairs_of};
+ghost use Rattle.hx_base.specs.Pairs.{pairs_of};
 ghost use Rattle.hxeval.specs.Run.{config_name, texts_of, Ran, Headline, SourceFails};
 ghost use Rattle.hxeval.specs.RunFault.{Attempted, Finishes};
 ghost use Rattle.hxeval.specs.declared.load.Refusal.{Refusal};

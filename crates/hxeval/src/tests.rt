@@ -370,11 +370,11 @@ fn a_record_cut_anywhere_and_read_in_any_pieces_is_answered_alike(
     let record = record_of(rt.alloc(), &[head])?;
     let config = b"http-request deny if { path /a }".as_slice();
     for cut in 0..record.len() + 1 {
-        let front = record[..cut].to_vec(rt.alloc())?;
-        let (status, written) = ran_in_pieces(rt.alloc(), config, front, 65536)?;
+        let prefix = record[..cut].to_vec(rt.alloc())?;
+        let (status, written) = ran_in_pieces(rt.alloc(), config, prefix, 65536)?;
         for piece in [1, 2, 3, 7, 8] {
-            let front = record[..cut].to_vec(rt.alloc())?;
-            let (again, text) = ran_in_pieces(rt.alloc(), config, front, piece)?;
+            let prefix = record[..cut].to_vec(rt.alloc())?;
+            let (again, text) = ran_in_pieces(rt.alloc(), config, prefix, piece)?;
             assert_eq!(rt; again, status);
             assert_eq!(rt; text.as_slice(), written.as_slice());
         }

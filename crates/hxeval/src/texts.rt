@@ -11,7 +11,7 @@ use std::rt::Env;
 pub trait Texts {
     ghost texts: { Self → Option (List (List ℕ)) };
 
-    /// Puts the text with this index, from 0, at the front of `buffer`, and answers its length in bytes.
+    /// Puts the text with this index, from 0, at the start of `buffer`, and answers its length in bytes.
     ///
     /// `NotPresent` only where there are no more texts than `index`, and `TooLong` only where the text is longer
     /// than `buffer`.

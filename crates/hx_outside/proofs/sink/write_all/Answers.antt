@@ -1,6 +1,6 @@
 use Rattle.std.proofs.Common.{arith}
 use Rattle.std.proofs.lemmas.List.{take_rest}
-use Rattle.hx_outside.proofs.FrontLemmas.{more_appended}
+use Rattle.hx_outside.proofs.PrefixLemmas.{more_appended}
 use Rattle.hx_outside.proofs.sink.write_all.Goals as goal
 
 pub pieces-preserved : goal.pieces-preserved

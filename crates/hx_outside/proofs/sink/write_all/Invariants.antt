@@ -1,5 +1,5 @@
 use Rattle.std.proofs.Common.{◌≤◌, length}
-use Rattle.hx_outside.proofs.FrontLemmas.{AppendsAllBut}
+use Rattle.hx_outside.proofs.PrefixLemmas.{AppendsAllBut}
 use Rattle.hx_outside.proofs.sink.write_all.Given as goal
 
 abbrev pub invariant-pieces : goal.invariant-pieces

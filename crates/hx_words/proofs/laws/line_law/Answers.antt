@@ -1,4 +1,4 @@
-use Rattle.hx_words.specs.Variable.{pairs_of}
+use Rattle.hx_base.specs.Pairs.{pairs_of}
 use Rattle.hx_words.proofs.LineLaws.{words_are_runs}
 use Rattle.hx_words.proofs.laws.line_law.Goals as goal
 

@@ -1,5 +1,5 @@
 use Rattle.std.proofs.Common.{length}
-use Rattle.hx_words.specs.Variable.{pairs_of}
+use Rattle.hx_base.specs.Pairs.{pairs_of}
 use Rattle.hx_words.proofs.Progress.{Goes}
 use Rattle.hx_words.proofs.splitting.split.Given as goal
 

@@ -3,8 +3,8 @@ use Rattle.hxeval.specs.Explanation.{all_of}
 use Rattle.hxeval.proofs.ExplainLemmas.{around_part}
 use Rattle.hxeval.proofs.explain.write_parts.Goals as goal
 
-pub returns-in_err-write_all-clause-front : goal.returns-in_err-write_all-clause-front
-returns-in_err-write_all-clause-front g c =
+pub returns-in_err-write_all-clause-prefix : goal.returns-in_err-write_all-clause-prefix
+returns-in_err-write_all-clause-prefix g c =
     let parts = c.args.parts.now in
     let i = c.loop-part.part-index in
     c.write_all.ensures.stays_front (g.K.Sink.written c.args.out.now) (all_of (take i parts)) (all_of (drop (i + 1) parts)) (all_of parts)

@@ -1,5 +1,5 @@
 use Rattle.std.proofs.Common.{◌≡◌, ◌+◌, ◌≤◌, length}
-use Rattle.hx_words.specs.Variable.{pairs_of}
+use Rattle.hx_base.specs.Pairs.{pairs_of}
 use Rattle.memchr.specs.Find.{is_byte}
 use Rattle.std.specs.Option.{option_copied}
 use Rattle.hxeval.specs.Bytes.{pieces_of}

@@ -1,5 +1,5 @@
 use Rattle.std.proofs.Common.{◌≡◌, take}
-use Rattle.hx_words.specs.Variable.{pairs_of}
+use Rattle.hx_base.specs.Pairs.{pairs_of}
 use Rattle.hxeval.specs.Machine.{variables_of}
 use Rattle.hxeval.specs.Run.{texts_of}
 use Rattle.hxeval.proofs.machine.variables.Given as goal

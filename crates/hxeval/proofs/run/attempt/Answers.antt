@@ -1,6 +1,6 @@
 use Rattle.std.proofs.Common.{◌≡◌, ap, Ok, Err}
 use Rattle.std.proofs.lemmas.Result.{err_from_is_err_and}
-use Rattle.hx_words.specs.Variable.{pairs_of}
+use Rattle.hx_base.specs.Pairs.{pairs_of}
 use Rattle.hxeval.specs.RunFault.{from_replay}
 use Rattle.hxeval.specs.declared.run_fault.RunFault.TheVariants.{Source}
 use Rattle.hxeval.proofs.RunLemmas.{is_config, unread, unloaded, replayed_run, source_fails, from_source}

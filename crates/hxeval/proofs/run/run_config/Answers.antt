@@ -1,5 +1,5 @@
 use Rattle.std.proofs.Common.{◌<◌, ◌∙◌, inl, inr, ap, arith, Err}
-use Rattle.hx_words.specs.Variable.{pairs_of}
+use Rattle.hx_base.specs.Pairs.{pairs_of}
 use Rattle.hxeval.proofs.StatusLemmas.{finished_status, finished_by, finished_line, is_outside, ran_finished}
 use Rattle.hxeval.proofs.RunLemmas.{source_moved}
 use Rattle.hxeval.proofs.run.run_config.Goals as goal

@@ -3,7 +3,7 @@ use Rattle.std.proofs.Common.{add-zero}
 use Rattle.std.proofs.lemmas.Bool.{false≢true}
 use Rattle.std.proofs.lemmas.Result.{err_from_is_err_and}
 use Rattle.hx_record.specs.Record.{Unknown, Bad}
-use Rattle.hx_record.specs.State.{decided_now}
+use Rattle.hx_record.specs.State.{decided_items_now}
 use Rattle.hx_record.proofs.StateLemmas.{skip_passes, found_passes, fault_within, undecided_now, found_now, finish_now, fault_now, long_now}
 use Rattle.hx_record.proofs.ReadLemmas.{behind_start, behind_skip, behind_fill, alone_start, alone_skip, alone_fill, undecided_now_open, undecided_items, finish_ended, told, found_no_fault, work_skip, work_fill}
 use Rattle.hx_record.proofs.AskLemmas.{asks_start, asks_skip, asks_fill}
@@ -121,35 +121,35 @@ returns-in_err-judge-clause-again g c offset code bad =
 pub returns-in-Err-clause-again : goal.returns-in-Err-clause-again
 returns-in-Err-clause-again g c offset code bad =
     let e = sym c.in_ok-judge.ensures.ok ∙ c.in-Undecided.is in
-    let so_far : decided_now c.pieces.self ≡ Bad offset code = told c.args.self.now c.pieces.self c.args.source.now c.pieces.source offset code c.pieces.invariant.left_alone bad in
-    let unknown : decided_now c.pieces.self ≡ Unknown = undecided_now c.pieces.self e in
+    let so_far : decided_items_now c.pieces.self ≡ Bad offset code = told c.args.self.now c.pieces.self c.args.source.now c.pieces.source offset code c.pieces.invariant.left_alone bad in
+    let unknown : decided_items_now c.pieces.self ≡ Unknown = undecided_now c.pieces.self e in
     cc
 
 pub returns-in-Found-clause-again : goal.returns-in-Found-clause-again
 returns-in-Found-clause-again g c offset code bad =
     let e = sym c.in_ok-judge.ensures.ok ∙ c.in-Found.is in
-    let so_far : decided_now c.pieces.self ≡ Bad offset code = told c.args.self.now c.pieces.self c.args.source.now c.pieces.source offset code c.pieces.invariant.left_alone bad in
+    let so_far : decided_items_now c.pieces.self ≡ Bad offset code = told c.args.self.now c.pieces.self c.args.source.now c.pieces.source offset code c.pieces.invariant.left_alone bad in
     let event = found_now c.pieces.self c.in-Found.used c.in-Found.event e in
     cc
 
 pub returns-in-Finish-clause-again : goal.returns-in-Finish-clause-again
 returns-in-Finish-clause-again g c offset code bad =
     let e = sym c.in_ok-judge.ensures.ok ∙ c.in-Finish.is in
-    let so_far : decided_now c.pieces.self ≡ Bad offset code = told c.args.self.now c.pieces.self c.args.source.now c.pieces.source offset code c.pieces.invariant.left_alone bad in
+    let so_far : decided_items_now c.pieces.self ≡ Bad offset code = told c.args.self.now c.pieces.self c.args.source.now c.pieces.source offset code c.pieces.invariant.left_alone bad in
     let done = finish_now c.pieces.self e in
     cc
 
 pub returns-in-TooLong-clause-again : goal.returns-in-TooLong-clause-again
 returns-in-TooLong-clause-again g c offset code bad =
     let e = sym c.in_ok-judge.ensures.ok ∙ c.in-TooLong.is in
-    let so_far : decided_now c.pieces.self ≡ Bad offset code = told c.args.self.now c.pieces.self c.args.source.now c.pieces.source offset code c.pieces.invariant.left_alone bad in
+    let so_far : decided_items_now c.pieces.self ≡ Bad offset code = told c.args.self.now c.pieces.self c.args.source.now c.pieces.source offset code c.pieces.invariant.left_alone bad in
     let long = long_now c.pieces.self e in
     rw (c.limit-offset.ensures, c.code.ensures, c.judge.ensures.same) (cc)
 
 pub returns-in-Fault-clause-again : goal.returns-in-Fault-clause-again
 returns-in-Fault-clause-again g c offset code bad =
     let e = sym c.in_ok-judge.ensures.ok ∙ c.in-Fault.is in
-    let so_far : decided_now c.pieces.self ≡ Bad offset code = told c.args.self.now c.pieces.self c.args.source.now c.pieces.source offset code c.pieces.invariant.left_alone bad in
+    let so_far : decided_items_now c.pieces.self ≡ Bad offset code = told c.args.self.now c.pieces.self c.args.source.now c.pieces.source offset code c.pieces.invariant.left_alone bad in
     let fault = fault_now c.pieces.self c.in-Fault.skip c.in-Fault.refusal e in
     rw (c.place-offset-in-Fault.ensures, c.code-in-Fault.ensures, c.judge.ensures.same) (cc)
 

@@ -1,6 +1,6 @@
 use Rattle.std.proofs.Common.{◌≡◌, ◌≤◌, true}
 use Rattle.std.specs.Io.KnownBytes.{IsAtEnd}
-use Rattle.hx_outside.specs.Log.{Since}
+use Rattle.hx_outside.specs.Log.{HoldsSince}
 use Rattle.hx_record.proofs.ReadLemmas.{Behind, LeftAlone, work}
 use Rattle.hx_record.proofs.AskLemmas.{Told}
 use Rattle.hx_record.proofs.reader.Reader.next_event.Given as goal
@@ -13,7 +13,7 @@ invariant-pieces g l =
     record {
       behind : Behind l.fn.self l.self (left l.fn.source) (left l.source);
       left_alone : LeftAlone l.fn.self l.self l.fn.source l.source;
-      asked : Since (log l.fn.source) (log l.source) (Told l.fn.self l.self behind.took);
+      asked : HoldsSince (log l.fn.source) (log l.source) (Told l.fn.self l.self behind.took);
       ended : l.self.ended ≡ true → IsAtEnd (left l.source);
       later : faults l.fn.source ≤ faults l.source;
     }
