@@ -77,6 +77,9 @@ impl<'r, R: rt::Files> Files for DirFiles<'r, R> {
         ensures kept { OnOk result (self.new.last ≡ self.old.last) }
         ensures kept_without_memory { IsErrOf result FileFault.NoMemory
             → self.new.last ≡ self.old.last }
+        ensures uncounted { OnOk result (self.new.faults ≡ self.old.faults) }
+        ensures uncounted_without_memory { IsErrOf result FileFault.NoMemory
+            → self.new.faults ≡ self.old.faults }
 
         ensures utf8 { OnOk result (IsUtf8 name.now) }
         ensures longest { IfOk result (λ bytes. vec_len bytes ≤ 268435456) }

@@ -9,8 +9,8 @@ use std::alloc::Global;
 ///
 /// Files have three meanings, which contracts speak of. `held` is the pairs of a name and its
 /// bytes, of which the first pair of a name counts, for files that tell them; they never change.
-/// `faults` is a count that never falls and rises with each `Failed`; one that stands at the last
-/// value of a u64 counts as risen. `last` is the name of the last read that answered `Failed`, and
+/// `faults` is a count that rises with each `Failed`, and stays with every other answer; at the last
+/// value of a u64 it saturates, which counts as risen. `last` is the name of the last read that answered `Failed`, and
 /// none before one.
 pub trait Files {
     ghost held: { Self → Option (List (List ℕ × List ℕ)) };
@@ -33,5 +33,8 @@ pub trait Files {
         ensures named { IsErrOf result FileFault.Failed → last self.new ≡ Some name.now }
         ensures kept { OnOk result (last self.new ≡ last self.old) }
         ensures kept_without_memory { IsErrOf result FileFault.NoMemory
-            → last self.new ≡ last self.old };
+            → last self.new ≡ last self.old }
+        ensures uncounted { OnOk result (faults self.new ≡ faults self.old) }
+        ensures uncounted_without_memory { IsErrOf result FileFault.NoMemory
+            → faults self.new ≡ faults self.old };
 }

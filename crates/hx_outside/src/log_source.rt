@@ -1,4 +1,4 @@
-ghost use Rattle.std.specs.Prelude.{◌≡◌, ◌<◌, ◌≤◌, ◌++◌, ◌∷◌, [], length, OnErr, IfSome, None, Some};
+ghost use Rattle.std.specs.Prelude.{◌≡◌, ◌<◌, ◌≤◌, ◌++◌, ◌∷◌, [], length, OnOk, OnErr, IfSome, None, Some};
 ghost use Rattle.std.specs.Option.{option_map, option_copied};
 ghost use Rattle.std.specs.Io.{ReadsAtMost};
 ghost use Rattle.std.specs.Io.KnownBytes.{ReadConsumes};
@@ -91,6 +91,7 @@ impl<S: Source> Source for LogSource<S> {
         ensures bytes { ReadConsumes (S.left self.old.inner) (S.left self.new.inner) result buf.new }
         ensures later { S.faults self.old.inner ≤ S.faults self.new.inner }
         ensures failed { OnErr result (Rose (S.faults self.old.inner) (S.faults self.new.inner)) }
+        ensures uncounted { OnOk result (S.faults self.new.inner ≡ S.faults self.old.inner) }
         ensures log { Logs self.old.log self.new.log (bytes_read result buf.new) }
         // The source within is read once.
         ensures once { Logs (S.log self.old.inner) (S.log self.new.inner) (bytes_read result buf.new) }

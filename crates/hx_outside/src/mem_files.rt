@@ -82,6 +82,9 @@ impl Files for MemFiles {
         ensures kept { OnOk result (self.new.last ≡ self.old.last) }
         ensures kept_without_memory { IsErrOf result FileFault.NoMemory
             → self.new.last ≡ self.old.last }
+        ensures uncounted { OnOk result (self.new.faults ≡ self.old.faults) }
+        ensures uncounted_without_memory { IsErrOf result FileFault.NoMemory
+            → self.new.faults ≡ self.old.faults }
 
         ensures chosen { OnOk result (¬ (Contains self.old.fails (next_count self.old.calls))) }
         ensures why { IsErrOf result FileFault.Failed
