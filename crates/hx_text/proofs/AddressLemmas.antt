@@ -9,7 +9,8 @@ use Rattle.std.proofs.lemmas.List.Elements.{All-head, All-tail, All-from_get_or}
 use Rattle.std.proofs.lemmas.List.Splits.{slice_split_at, slice_split_none, join_with_byte-slice_split}
 use Rattle.memchr.specs.Find.{is_byte, Passes, Nowhere}
 use Rattle.hx_text.specs.Number.{number_up_to}
-use Rattle.hx_text.specs.Address.{pieces, cut_of, last_cut_of, octet_of, four_octets, dotted_of}
+use Rattle.hx_text.specs.Address.{octet_of, four_octets, dotted_of}
+use Rattle.hx_text.specs.Cut.{pieces, cut_of, last_cut_of}
 use Rattle.hx_text.proofs.NumberLemmas.{IsDigits, own, up_to_has_digits}
 
 -- ---- a text cut at a byte

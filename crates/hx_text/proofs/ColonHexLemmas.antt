@@ -6,7 +6,8 @@ use Rattle.std.specs.Option.{option_and_then, option_map}
 use Rattle.std.proofs.lemmas.Fmt.{length-decimal-le}
 use Rattle.std.specs.Net.Reader.{Read, read_ipv6, whole_value}
 use Rattle.std.proofs.NetLemmas.Ipv6.{read_ipv6_complete, read_ipv6_sound, EndsGroups-nil}
-use Rattle.hx_text.specs.Address.{groups_number, plain_groups_of, last_cut_of, ending_in, dotted_end_of, colon_hex_of}
+use Rattle.hx_text.specs.Address.{groups_number, plain_groups_of, address_ending_in, dotted_end_of, colon_hex_of}
+use Rattle.hx_text.specs.Cut.{last_cut_of}
 
 -- a text of the grammar writes its groups
 pub plain_spelled : (text groups : List ℕ) → IsColonHex text groups → plain_groups_of text ≡ Some groups
@@ -81,7 +82,7 @@ length-colon_hex text groups (inr h) =
     omega (arith, shown, front, back, h.room)
 
 -- a longer text is no address
-pub too_long : (four : ℕ) (front end : List ℕ) → 49 < length front → None ≡ option_map (ending_in four) (plain_groups_of (front ++ end))
+pub too_long : (four : ℕ) (front end : List ℕ) → 49 < length front → None ≡ option_map (address_ending_in four) (plain_groups_of (front ++ end))
 too_long four front end long =
-    ap (option_map (ending_in four))
+    ap (option_map (address_ending_in four))
     (plain_none (front ++ end) (λ groups spelled. absurd (omega (arith, length-append front end, length-colon_hex (front ++ end) groups spelled))))

@@ -6,7 +6,7 @@ use Rattle.std.specs.Net.Addr.{octets_of}
 use Rattle.std.specs.Str.{bytes_eq}
 use Rattle.std.specs.Prelude.{codes}
 use Rattle.std.proofs.NetLemmas.Texts.{IsZeroRun-longest_zero_run, longest_zero_run_first}
-use Rattle.hx_text.specs.Address.{groups_of, is_mapped, IsZeroRun, IsFirstLongestRun}
+use Rattle.hx_text.specs.Printing.{groups_of, is_mapped, IsZeroRun, IsFirstLongestRun}
 use Rattle.std.specs.Net.Text.{dotted_text, ipv4_text, ipv6_text, hex, groups_text, longest_zero_run, hex_groups_text}
 
 -- a group of one, two, three and four digits

@@ -11,7 +11,9 @@ use Rattle.std.proofs.NetLemmas.Alphabet.{IsDigitOrDot, All-ipv4_text}
 use Rattle.std.proofs.lemmas.List.Elements.{All-weaker}
 use Rattle.std.proofs.NetLemmas.Texts.{AllSegments, IsDotted-ipv4_text, IsColonHex-ipv6_text}
 use Rattle.hx_text.specs.declared.address.Ip.TheVariants.{V4, V6}
-use Rattle.hx_text.specs.Address.{pieces, octet_of, dotted_of, groups_number, groups_of, ip_of, ip_text}
+use Rattle.hx_text.specs.Address.{octet_of, dotted_of, groups_number, ip_of, ip_text}
+use Rattle.hx_text.specs.Cut.{pieces}
+use Rattle.hx_text.specs.Printing.{groups_of}
 use Rattle.hx_text.proofs.NumberLemmas.{decimal_digits, up_to-decimal}
 use Rattle.hx_text.proofs.AddressLemmas.{IsOther, no_byte, last_cut_of_none}
 use Rattle.hx_text.proofs.ColonHexLemmas.{colon_hex_spelled, colon_hex_none, plain_none}
@@ -77,7 +79,7 @@ octet_of-decimal n fits = rw (le-leb (length (decimal n)) 3 (length-decimal-le 3
 no_dot : (n : ℕ) → n < 256 → All (IsOther 46) (decimal n)
 no_dot n fits = no_byte 46 (omega arith) (decimal n) (decimal_digits n (omega arith))
 
-dotted_of-dotted_text : (a b c d : ℕ) → a < 256 → b < 256 → c < 256 → d < 256 → dotted_of (dotted_text a b c d) ≡ Some (from_be_bytes w32 (a ∷ b ∷ c ∷ d ∷ []))
+pub dotted_of-dotted_text : (a b c d : ℕ) → a < 256 → b < 256 → c < 256 → d < 256 → dotted_of (dotted_text a b c d) ≡ Some (from_be_bytes w32 (a ∷ b ∷ c ∷ d ∷ []))
 unfolding dotted_of
 dotted_of-dotted_text a b c d ha hb hc hd =
     let is_dot = λ (b : ℕ). eqb b 46 in

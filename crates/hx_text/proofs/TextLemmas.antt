@@ -8,13 +8,14 @@ use Rattle.std.specs.Int.{w32, to_be_bytes}
 use Rattle.std.specs.Net.Addr.{octets_of}
 use Rattle.std.specs.Net.Text.{hex, ipv4_text, ipv6_text}
 use Rattle.std.specs.Prelude.{codes}
-use Rattle.hx_text.specs.Address.{groups_of, is_mapped, mapped}
+use Rattle.hx_text.specs.Printing.{groups_of, is_mapped}
+use Rattle.hx_text.specs.Mapping.{mapped_address}
 use Rattle.hx_text.proofs.PrintLemmas.{hex_one, hex_two, hex_three, hex_four, mapped_text, other_text}
 use Rattle.hx_text.proofs.RoundTripLemmas.{Below, below_none, below_more, groups_fit}
 
 -- ---- a dotted end
 
-mapped_groups : (four : ℕ) → four < 2 ^ 32 → groups_of (mapped four) ≡ 0 ∷ 0 ∷ 0 ∷ 0 ∷ 0 ∷ 0xffff ∷ (four / 2 ^ 16) ∷ (four % 2 ^ 16) ∷ []
+mapped_groups : (four : ℕ) → four < 2 ^ 32 → groups_of (mapped_address four) ≡ 0 ∷ 0 ∷ 0 ∷ 0 ∷ 0 ∷ 0xffff ∷ (four / 2 ^ 16) ∷ (four % 2 ^ 16) ∷ []
 mapped_groups four fits =
     let a = 0xffff * 2 ^ 32 + four in
     let one : a / 2 ^ 112 % 2 ^ 16 ≡ 0 = omega arith in
@@ -35,7 +36,7 @@ mapped_octets four fits =
     let last : four % 2 ^ 16 % 256 ≡ four % 256 = omega arith in
     rw (one, two, three, last) refl
 
-pub mapped_shown : (four : ℕ) → four < 2 ^ 32 → ipv6_text (groups_of (mapped four)) ≡ codes "::ffff:" ++ ipv4_text (to_be_bytes w32 four)
+pub mapped_shown : (four : ℕ) → four < 2 ^ 32 → ipv6_text (groups_of (mapped_address four)) ≡ codes "::ffff:" ++ ipv4_text (to_be_bytes w32 four)
 mapped_shown four fits =
     ap ipv6_text (mapped_groups four fits)
     ∙ mapped_text (0 ∷ 0 ∷ 0 ∷ 0 ∷ 0 ∷ 0xffff ∷ (four / 2 ^ 16) ∷ (four % 2 ^ 16) ∷ []) refl

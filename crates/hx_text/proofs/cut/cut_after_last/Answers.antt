@@ -1,6 +1,6 @@
 use Rattle.std.proofs.Common.{sym}
 use Rattle.hx_text.proofs.AddressLemmas.{last_cut_of_place, last_cut_of_nowhere}
-use Rattle.hx_text.proofs.cut.cut_behind_last.Goals as goal
+use Rattle.hx_text.proofs.cut.cut_after_last.Goals as goal
 
 pub returns-in-Some : goal.returns-in-Some
 returns-in-Some c =
