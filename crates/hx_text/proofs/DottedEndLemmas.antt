@@ -1,5 +1,5 @@
--- A text of std's grammar that has a dot ends in an IPv4 address, and with `0:0` in the place of that
--- address it is one of the grammar too.
+-- A text of std's grammar that has a dot ends in an IPv4 address, and with `0:0` instead of
+-- that address it is one of the grammar too.
 use Rattle.std.proofs.Common.{◌≡◌, ℕ, ◌+◌, ◌-◌, ◌<◌, true, false, eqb, List, [], ◌∷◌, ◌++◌, length, replicate, All, refl, sym, ap, ◌∙◌, subst, arith, append_assoc, append-nil, length-append, ◌⊎◌, inl, inr}
 use Rattle.std.specs.Prelude.{codes}
 use Rattle.std.specs.Char.{digit_value}
@@ -32,7 +32,8 @@ groups_have_no_dot lead text (s ∷ segments) plain (inl (group, rest, split, is
     let digits = digits_have_no_dot group is_group.0.0.1 in
     let later = groups_have_no_dot (58 ∷ []) rest segments colon_is_no_dot more in
     subst (All (IsOther 46)) (sym split)
-    (All-append (IsOther 46) (lead ++ group) rest (All-append (IsOther 46) lead group plain digits) later)
+    (All-append (IsOther 46) (lead ++ group) rest (All-append (IsOther 46) lead group plain digits)
+    later)
 groups_have_no_dot lead text (s ∷ segments) plain (inr h) = let same : false ≡ true = h.2 in cc
 
 -- ---- groups that end in an IPv4 address
@@ -40,7 +41,8 @@ groups_have_no_dot lead text (s ∷ segments) plain (inr h) = let same : false �
 abbrev pub EndsInColon : List ℕ → Type 0
 EndsInColon text = (c : List ℕ) × (text ≡ c ++ 58 ∷ [])
 
--- what comes before the IPv4 address: what leads the groups, without a group, or a text up to a colon
+-- what comes before the IPv4 address: what leads the groups, without a group, or a text up to a
+-- colon
 abbrev IsBeforeEnd : List ℕ → List ℕ → List ℕ → Type 0
 IsBeforeEnd lead before first = ((before ≡ lead) × (first ≡ [])) ⊎ EndsInColon before
 
@@ -58,7 +60,13 @@ record EndsDotted (lead text segments : List ℕ) : Type 0 where
 zero_groups : (lead : List ℕ) → IsGroupsAfter true lead (lead ++ codes "0:0") (0 ∷ 0 ∷ [])
 zero_groups lead =
     let zero_group : IsGroup (48 ∷ []) 0 = omega arith in
-    inl (48 ∷ [], 58 ∷ 48 ∷ [], sym (append_assoc lead (48 ∷ []) (58 ∷ 48 ∷ [])), zero_group, inl (48 ∷ [], [], refl, zero_group, refl))
+    inl (
+      48 ∷ [],
+      58 ∷ 48 ∷ [],
+      sym (append_assoc lead (48 ∷ []) (58 ∷ 48 ∷ [])),
+      zero_group,
+      inl (48 ∷ [], [], refl, zero_group, refl),
+    )
 
 ends_in_colon : (text before first : List ℕ) → IsBeforeEnd (58 ∷ []) before first
     → EndsInColon (text ++ before)
@@ -73,7 +81,8 @@ ends_dotted lead text [] plain dot h =
 ends_dotted lead text (s ∷ segments) plain dot (inl (group, rest, split, is_group, more)) =
     let digits = digits_have_no_dot group is_group.0.0.1 in
     let rest_dot : All (IsOther 46) rest → ⊥ = λ none. dot (subst (All (IsOther 46)) (sym split)
-    (All-append (IsOther 46) (lead ++ group) rest (All-append (IsOther 46) lead group plain digits) none)) in
+    (All-append (IsOther 46) (lead ++ group) rest (All-append (IsOther 46) lead group plain digits)
+    none)) in
     let later = ends_dotted (58 ∷ []) rest segments colon_is_no_dot rest_dot more in
     record {
       before = (lead ++ group) ++ later.before;
@@ -86,7 +95,13 @@ ends_dotted lead text (s ∷ segments) plain dot (inl (group, rest, split, is_gr
       is_before = inr (ends_in_colon (lead ++ group) later.before later.first later.is_before);
       dotted = later.dotted;
       is_segments = ap (λ t. s ∷ t) later.is_segments;
-      groups = inl (group, later.before ++ codes "0:0", append_assoc (lead ++ group) later.before (codes "0:0"), is_group, later.groups);
+      groups = inl (
+        group,
+        later.before ++ codes "0:0",
+        append_assoc (lead ++ group) later.before (codes "0:0"),
+        is_group,
+        later.groups,
+      );
     }
 ends_dotted lead text (s ∷ segments) plain dot (inr (last, octets, allowed, split, dotted, value)) =
     record {
@@ -118,7 +133,8 @@ pub record EndsInDotted (text segments : List ℕ) : Type 0 where
 length-octets : (text octets : List ℕ) → IsDotted text octets → length (segments_of octets) ≡ 2
 length-octets text octets h = ap (λ o. length (segments_of o)) h.value
 
-not_alone : (before first : List ℕ) → length first ≡ 6 → IsBeforeEnd [] before first → EndsInColon before
+not_alone : (before first : List ℕ) → length first ≡ 6 → IsBeforeEnd [] before first
+    → EndsInColon before
 not_alone before first six (inl h) = absurd (omega (arith, six, ap length h.1))
 not_alone before first six (inr h) = h
 
@@ -135,7 +151,8 @@ after_gap head before first (inr (c, e)) = (
       ∙ sym (append_assoc (head ++ 58 ∷ 58 ∷ []) c (58 ∷ [])),
 )
 
-pub ends_in_dotted : (text segments : List ℕ) → (All (IsOther 46) text → ⊥) → IsColonHex text segments
+pub ends_in_dotted : (text segments : List ℕ) → (All (IsOther 46) text → ⊥)
+    → IsColonHex text segments
     → EndsInDotted text segments
 ends_in_dotted text segments dot (inl (groups, eight)) =
     let none = All-nil (IsOther 46) in
@@ -158,10 +175,13 @@ ends_in_dotted text segments dot (inl (groups, eight)) =
     }
 ends_in_dotted text segments dot (inr h) =
     let none = All-nil (IsOther 46) in
-    let gap : All (IsOther 46) (58 ∷ 58 ∷ []) = All-cons (IsOther 46) 58 (58 ∷ []) refl colon_is_no_dot in
+    let gap : All (IsOther 46) (58 ∷ 58 ∷ []) =
+    All-cons (IsOther 46) 58 (58 ∷ []) refl colon_is_no_dot in
     let head_plain = groups_have_no_dot [] h.head_text h.head none h.head_groups in
-    let tail_dot : All (IsOther 46) h.tail_text → ⊥ = λ plain. dot (subst (All (IsOther 46)) (sym h.spelled)
-    (All-append (IsOther 46) (h.head_text ++ 58 ∷ 58 ∷ []) h.tail_text (All-append (IsOther 46) h.head_text (58 ∷ 58 ∷ []) head_plain gap) plain)) in
+    let tail_dot : All (IsOther 46) h.tail_text → ⊥ =
+    λ plain. dot (subst (All (IsOther 46)) (sym h.spelled)
+    (All-append (IsOther 46) (h.head_text ++ 58 ∷ 58 ∷ []) h.tail_text
+    (All-append (IsOther 46) h.head_text (58 ∷ 58 ∷ []) head_plain gap) plain)) in
     let e = ends_dotted [] h.tail_text h.tail none tail_dot h.tail_groups in
     let two = length-octets e.last e.octets e.dotted in
     let all : length h.tail ≡ length e.first + length (segments_of e.octets) =
@@ -197,6 +217,7 @@ ends_in_dotted text segments dot (inr h) =
         room = omega (arith, same, h.room);
         value =
             append_assoc (h.head ++ zeros) e.first (0 ∷ 0 ∷ [])
-            ∙ ap (λ n. (h.head ++ replicate (8 - length h.head - n) 0) ++ (e.first ++ 0 ∷ 0 ∷ [])) same;
+            ∙ ap (λ n. (h.head ++ replicate (8 - length h.head - n) 0) ++ (e.first ++ 0 ∷ 0 ∷ []))
+            same;
       });
     }

@@ -125,11 +125,12 @@ fn read_colon_hex(text: &[u8]) -> Option<u128>
     }
 }
 
-/// The internet address that `text` writes, and nothing else: blanks, brackets, a port or a zone are
-/// no part of one. An IPv4 address is four decimal octets with dots between them, each of up to three
-/// digits, where zeros may lead (`010` is ten). An IPv6 address has one of the three forms of RFC 4291
-/// section 2.2: groups of hex digits, groups with one `::`, and groups that end in an IPv4 address,
-/// whose octets may have leading zeros too. None exactly where the text is neither.
+/// The internet address that `text` writes, and nothing else: blanks, brackets, a port or a zone
+/// are no part of one. An IPv4 address is four decimal octets with dots between them, each of up
+/// to three digits, where zeros may lead (`010` is ten). An IPv6 address has one of the three
+/// forms of RFC 4291 section 2.2: groups of hex digits, groups with one `::`, and groups that end
+/// in an IPv4 address, whose octets may have leading zeros too. None exactly where the text is
+/// neither.
 #[tactic(auto, unfolding(crate::specs::Address::ip_of))]
 pub fn read_ip(text: &[u8]) -> Option<Ip>
     ensures value { result ≡ ip_of text.now }

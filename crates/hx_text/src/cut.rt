@@ -5,10 +5,12 @@ ghost use Rattle.hx_text.specs.Cut.{pieces, cut_of, last_cut_of};
 
 use memchr::{memchr, memrchr};
 
-/// The text before the first byte of this value, and the text after it. None exactly where no byte
-/// has the value.
+/// The text before the first byte of this value, and the text after that byte, both lent. None
+/// exactly where no byte has the value.
 pub fn cut_at(byte: u8, text: &[u8]) -> Option<(&[u8], &[u8])>
     ensures value { option_map (λ p. (p.0.now, p.1.now)) result ≡ cut_of byte text.now }
+    // Follow from `value`. They save callers that cut on, as `read_ip` does, the lemmas on
+    // `pieces`.
     ensures cut { IfSome result (λ p. pieces byte text.now ≡ p.0.now ∷ pieces byte p.1.now) }
     ensures whole { IfNone result (pieces byte text.now ≡ text.now ∷ []) }
 {

@@ -33,12 +33,12 @@ pub fn printed_ip_reads_back(ip: Ip)
     }
 }
 
-/// The text of an IPv6 address outside `::ffff:0:0/96` is its groups with colons between them, where
-/// the longest run of zero groups, and the first of that length, is written `::` if it has two groups
-/// or more, and none if no run has (RFC 5952, section 4.2). The text of an address of
-/// `::ffff:0:0/96` is `::ffff:` and the text of the IPv4 address that its last 32 bits make (section
-/// 5). No group begins with a zero digit, except the group 0, which is `0` (section 4.1), and no
-/// text has a capital letter (section 4.3).
+/// The text of an IPv6 address outside `::ffff:0:0/96` is its groups with colons between them,
+/// where the longest run of zero groups, and the first of that length, is written `::` if it has
+/// two groups or more, and none if no run has (RFC 5952, section 4.2). The text of an address of
+/// `::ffff:0:0/96` is `::ffff:` and the text of the IPv4 address that its last 32 bits make
+/// (section 5). No group begins with a zero digit, except the group 0, which is `0` (section
+/// 4.1), and no text has a capital letter (section 4.3).
 pub fn printed_ipv6_is_canonical(address: u128)
     ensures compressed { (run : ℕ × ℕ) → is_mapped (groups_of address) ≡ false
         → IsFirstLongestRun (groups_of address) run → 2 ≤ run.1

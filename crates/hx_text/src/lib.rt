@@ -1,5 +1,6 @@
-//! Owned bytes, and the numbers, addresses and networks that the texts of configurations and records
-//! write. Each reader answers exactly the value that its grammar gives, and none exactly outside it.
+//! Owned bytes, and the numbers, addresses and networks that the texts of configurations and
+//! records write. Each reader answers exactly the value that its grammar gives, and none exactly
+//! outside it.
 //!
 //! ```
 //! fn is_private(text: &[u8]) -> bool {

@@ -1,8 +1,8 @@
-ghost use Rattle.std.specs.Prelude.{◌≡◌, ℕ, IfSome, IfNone};
+ghost use Rattle.std.specs.Prelude.{◌≡◌, ℕ, Some, IfSome};
 ghost use Rattle.hx_text.specs.Mapping.{mapped_address, ipv4_of, StandsFor};
 
-/// `::ffff:a.b.c.d` of the IPv4 address `a.b.c.d`, which stands for it among IPv6 addresses (RFC 4291
-/// section 2.5.5.2). `a` has the highest octet first.
+/// `::ffff:a.b.c.d` of the IPv4 address `a.b.c.d`, which stands for it among IPv6 addresses (RFC
+/// 4291 section 2.5.5.2). `a` has the highest octet first.
 pub fn map4to6(a: u32) -> u128
     ensures { result ≡ mapped_address a }
 {
@@ -16,7 +16,7 @@ pub fn map4to6(a: u32) -> u128
 pub fn six_to_four(a: u128) -> Option<u32>
     ensures value { result ≡ ipv4_of a }
     ensures found { IfSome result (StandsFor a) }
-    ensures none { IfNone result ((ipv4 : ℕ) → ¬ StandsFor a ipv4) }
+    ensures unique { (ipv4 : ℕ) → StandsFor a ipv4 → result ≡ Some ipv4 }
 {
     match a >> 32 {
         0 | 0xffff => Some((a % 0x1_0000_0000) as u32),

@@ -6,9 +6,9 @@ use crate::address::{Ip, read_dotted, read_ip};
 use crate::cut::cut_at;
 use crate::numbers::read_number;
 
-/// A network: an address of which the first `bits` bits count, or an IPv4 address of which the bits
-/// count that are set in `mask`. The other bits of `ip` are zero. A mask has a zero before a one: one
-/// whose ones all come first is a count of bits.
+/// A network: an address of which the first `bits` bits count, or an IPv4 address of which the
+/// bits count that are set in `mask`. The other bits of `ip` are zero. A mask has a zero before a
+/// one: one whose ones all come first is a count of bits.
 #[derive(Clone, Copy, Debug, PartialEq, Eq)]
 pub enum Net {
     Plain { ip: Ip, bits: u32 },
@@ -118,14 +118,15 @@ fn host_network(ip: Ip) -> Net
     }
 }
 
-/// The network that `text` writes: an address alone, which is the network of all its bits; an IPv4
-/// address, `/`, and a count of at most 32 bits or a mask in dotted decimal; or an IPv6 address, `/`,
-/// and a count of at most 128 bits. A count has no leading zero. A mask whose ones all come first is
-/// answered as their count. Bits of the address beyond the count or the mask are answered as zeros.
-/// None exactly where the text is anything else.
+/// The network that `text` writes: an address alone, which is the network of all its bits; an
+/// IPv4 address, `/`, and a count of at most 32 bits or a mask in dotted decimal; or an IPv6
+/// address, `/`, and a count of at most 128 bits. A count has no leading zero. A mask whose ones
+/// all come first is answered as their count. Bits of the address beyond the count or the mask
+/// are answered as zeros. None exactly where the text is anything else.
 #[tactic(auto, unfolding(crate::specs::Network::net_of))]
 pub fn read_net(text: &[u8]) -> Option<Net>
     ensures value { result ≡ net_of text.now }
+    // Follows from `value`. It saves callers the lemmas on the bits of a network.
     ensures kept { IfSome result IsNet }
 {
     match cut_at(b'/', text) {

@@ -25,12 +25,13 @@ fn parse_number(text: &str, most: u64) -> Option<u64>
     }
 }
 
-/// The number that `text` writes in decimal digits alone, where it is at most `most`. None exactly
-/// where the text is anything else (a sign, a blank, no digit at all), or the number is above `most`.
-/// Zeros may lead.
+/// The number that `text` writes in decimal digits alone, where it is at most `most`. None
+/// exactly where the text is anything else (a sign, a blank, no digit at all), or the number is
+/// above `most`. Zeros may lead.
 #[tactic(auto, using(crate::proofs::NumberLemmas::no_number))]
 pub fn read_number(text: &[u8], most: u64) -> Option<u64>
     ensures value { result ≡ number_up_to most text.now }
+    // Follows from `value`. It saves callers that cast the number a lemma.
     ensures within { IfSome result (λ n. n ≤ most) }
 {
     if begins_with_plus(text) {
@@ -66,8 +67,8 @@ pub fn read_i64(text: &[u8]) -> Option<i64>
     }
 }
 
-/// Writes the shortest decimal text of `n` at the start of `out`, and answers its length in bytes. The
-/// rest of `out` stays as it was.
+/// Writes the shortest decimal text of `n` at the start of `out`, and answers its length in
+/// bytes. The rest of `out` stays as it was.
 pub fn print_i64(n: i64, out: &mut [u8; 20]) -> usize
     ensures text { out.new ≡ signed_decimal n ++ drop result out.old }
     ensures len { result ≡ length (signed_decimal n) }

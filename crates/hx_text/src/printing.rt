@@ -9,8 +9,8 @@ use crate::address::Ip;
 use arrayvec::ArrayVec;
 use itoa::Buffer;
 
-/// A text that is being written. The longest text of an address has 39 bytes: eight groups of four digits, and
-/// seven colons.
+/// A text that is being written. The longest text of an address has 39 bytes: eight groups of
+/// four digits, and seven colons.
 type Line = ArrayVec<u8, 39>;
 
 pub(crate) fn push_all<const N: usize>(line: &mut ArrayVec<u8, N>, bytes: &[u8])
@@ -203,9 +203,9 @@ fn text_of(ip: Ip) -> Line
     line
 }
 
-/// Writes the text of `ip` at the start of `out`, and answers its length in bytes. The rest of `out`
-/// stays as it was. An IPv4 address is written in dotted decimal, and an IPv6 address as RFC 5952 section
-/// 4 has it, with the last 32 bits in dotted decimal for `::ffff:0:0/96` alone.
+/// Writes the text of `ip` at the start of `out`, and answers its length in bytes. The rest of
+/// `out` stays as it was. An IPv4 address is written in dotted decimal, and an IPv6 address as
+/// RFC 5952 section 4 has it, with the last 32 bits in dotted decimal for `::ffff:0:0/96` alone.
 pub fn print_ip(ip: Ip, out: &mut [u8; 39]) -> usize
     ensures text { out.new ≡ ip_text ip ++ drop result out.old }
     ensures len { result ≡ length (ip_text ip) }

@@ -15,7 +15,8 @@ unfolding ip_text
 returns-clause-plain c = plain_groups (groups_of c.args.address)
 
 pub returns-clause-some : goal.returns-clause-some
-returns-clause-some c = (longest_zero_run (groups_of c.args.address), first_longest_run (groups_of c.args.address))
+returns-clause-some c =
+    (longest_zero_run (groups_of c.args.address), first_longest_run (groups_of c.args.address))
 
 pub returns-clause-mapped : goal.returns-clause-mapped
 unfolding ip_text
