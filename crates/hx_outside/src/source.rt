@@ -12,9 +12,9 @@ use std::alloc::Global;
 ///
 /// A source has three meanings, which contracts speak of. `left` is the bytes not yet read, where
 /// they are known; known bytes stay known. `faults` is a count that rises with each `Failed`,
-/// where it doesn't saturate, and stays with each read that gives bytes. So a failure deep inside
-/// a longer call shows by the count before that call and after it. `log` is what each read so far
-/// gave, where that is known, so that a longer call can say when it reads; a known log may become
+/// where it doesn't saturate, and stays with every other answer. So a failure deep inside a longer
+/// call shows by the count before that call and after it. `log` is what each read so far gave,
+/// where that is known, so that a longer call can say when it reads; a known log may become
 /// unknown, and an unknown one stays so.
 pub trait Source {
     ghost left: { Self → Option (List ℕ) };

@@ -1,5 +1,5 @@
--- A text of std's grammar that has a dot ends in an IPv4 address, and with `0:0` instead of
--- that address it is one of the grammar too.
+-- A text of std's grammar that has a dot ends in an IPv4 address, and with `0:0` instead of that
+-- address it is one of the grammar too.
 use Rattle.std.proofs.Common.{◌≡◌, ℕ, ◌+◌, ◌-◌, ◌<◌, true, false, eqb, List, [], ◌∷◌, ◌++◌, length, replicate, All, refl, sym, ap, ◌∙◌, subst, arith, append_assoc, append-nil, length-append, ◌⊎◌, inl, inr}
 use Rattle.std.specs.Prelude.{codes}
 use Rattle.std.specs.Char.{digit_value}

@@ -56,8 +56,8 @@ pub record IsPlainIpv6 (text : List ℕ) (address : ℕ) : Type 0 where
   pub spelled : IsColonHex text groups
   pub number : address ≡ groups_number groups
 
--- The text ends in an IPv4 address in dotted decimal after a colon. With `0:0` instead it is
--- one of std's grammar, and the first six groups and the IPv4 address make this address.
+-- The text ends in an IPv4 address in dotted decimal after a colon. With `0:0` instead it is one of
+-- std's grammar, and the first six groups and the IPv4 address make this address.
 pub record EndsInIpv4 (text : List ℕ) (address : ℕ) : Type 0 where
   pub before : List ℕ
   pub end : List ℕ
@@ -81,8 +81,8 @@ unfoldable pub plain_groups_of : List ℕ → Option (List ℕ)
 plain_groups_of text = whole_value (read_ipv6 text)
 
 -- The address of a text that is cut after its last colon and ends in an IPv4 address in dotted
--- decimal. The dotted end stands for the last two groups: with `0:0` instead the text is one
--- of std's grammar, and its first six groups are those of the address.
+-- decimal. The dotted end stands for the last two groups: with `0:0` instead the text is one of
+-- std's grammar, and its first six groups are those of the address.
 abbrev pub dotted_end_of : List ℕ × List ℕ → Option ℕ
 dotted_end_of parts = do
   ipv4 ← dotted_of parts.1

@@ -3,7 +3,8 @@ ghost use Rattle.std.specs.Prelude.{◌≡◌, ◌≢◌, ℕ, false, ◌+◌, �
 ghost use Rattle.std.specs.Char.{digit_char, is_ascii_uppercase};
 ghost use Rattle.std.specs.Fmt.{signed_decimal};
 ghost use Rattle.std.specs.Net.Text as Text;
-ghost use Rattle.hx_text.specs.Address.{ip_of, ip_text};
+ghost use Rattle.hx_text.specs.Address.{IsIpText, ip_of, ip_text};
+ghost use Rattle.hx_text.specs.declared.address.Ip.{Ip};
 ghost use Rattle.hx_text.specs.Mapping.{mapped_address, ipv4_of};
 ghost use Rattle.hx_text.specs.Number.{int_of};
 ghost use Rattle.hx_text.specs.Printing.{groups_of, is_mapped, IsZeroRun, IsFirstLongestRun};
@@ -13,6 +14,11 @@ use crate::address::Ip;
 /// What `print_i64` writes, `read_i64` reads as the same number.
 pub fn printed_i64_reads_back(n: i64)
     ensures { int_of (signed_decimal n) ≡ Some n }
+{}
+
+/// No text writes two addresses.
+pub fn one_address(text: &[u8])
+    ensures { (a b : Ip) → IsIpText text.now a → IsIpText text.now b → a ≡ b }
 {}
 
 fn printed_ipv4_reads_back(address: u32)
