@@ -9,11 +9,12 @@ pub record AppendsPrefix (old new : Option (List ℕ)) (text : List ℕ) : Type 
   pub whole : text ≡ prefix ++ rest
   pub appended : Appends old new prefix
 
--- the same within a whole text: where `before` was appended before and `after` is to follow, what is appended is a
--- prefix of all of it
+-- the same within a longer text: where `before` was appended earlier and `after` is to follow, what
+-- is appended by then is a prefix of all of it
 abbrev pub StaysPrefix : Option (List ℕ) → Option (List ℕ) → List ℕ → Type 0
 StaysPrefix old new bytes =
-    (start : Option (List ℕ)) (before after text : List ℕ) → Appends start old before → text ≡ before ++ bytes ++ after → AppendsPrefix start new text
+    (start : Option (List ℕ)) (before after text : List ℕ)
+    → Appends start old before → text ≡ before ++ bytes ++ after → AppendsPrefix start new text
 
 -- exactly some prefix of what was left is gone, and its bytes have the property P
 pub record TakesPrefix (old new : Option (List ℕ)) (P : List ℕ → Type 0) : Type 0 where

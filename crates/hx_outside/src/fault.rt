@@ -1,7 +1,7 @@
 use std::alloc::{AllocError, AllocFailed};
 use thiserror::Error;
 
-/// A source failed. Its count of faults rose with this answer.
+/// A source failed, and its count of faults rose with this answer.
 #[derive(Clone, Copy, Debug, PartialEq, Eq, Error)]
 #[error("reading failed")]
 pub struct Failed;

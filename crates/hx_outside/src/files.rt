@@ -1,6 +1,6 @@
 ghost use Rattle.std.specs.Prelude.{◌≡◌, ℕ, ◌≤◌, List, Option, Some, IfOk, OnOk, IfSome, IsErrOf};
 ghost use Rattle.hx_outside.specs.Count.{Rose};
-ghost use Rattle.hx_base.specs.Pairs.{value_at};
+ghost use Rattle.hx_base.specs.Pairs.{NamedBytes, value_at};
 
 use crate::fault::FileFault;
 use std::alloc::Global;
@@ -8,30 +8,35 @@ use std::alloc::Global;
 /// Whole files, by name.
 ///
 /// Files have three meanings, which contracts speak of. `held` is the pairs of a name and its
-/// bytes, of which the first pair of a name counts, for files that tell them; they never change.
-/// `faults` is a count that never falls and rises with each `Failed`; one that stands at the last
-/// value of a u64 counts as risen. `last` is the name of the last read that answered `Failed`, and
-/// none before one.
+/// bytes, of which the first pair of a name counts, where they are known; they never change.
+/// `faults` is a count that rises with each `Failed`, where it doesn't saturate, and stays with
+/// every other answer. `last` is the name of the last read that answered `Failed`, and none
+/// before one.
 pub trait Files {
-    ghost held: { Self → Option (List (List ℕ × List ℕ)) };
+    ghost held: { Self → Option NamedBytes };
 
     ghost faults: { Self → ℕ };
 
     ghost last: { Self → Option (List ℕ) };
 
-    /// The bytes of the file of this name.
+    /// The bytes of the file of this name, in a vector of `alloc`.
     ///
-    /// `Failed` only where `faults` rose, as for a name that is missing; `last` is then this name,
-    /// and after any other answer what it was. `NoMemory` where memory runs out, that for `last`
-    /// included, which is taken first.
+    /// `Failed` only where `faults` rose, as for a name that is missing; `last` is then this name.
+    /// `NoMemory` where memory runs out, that for `last` included, which is taken first. With this
+    /// answer and with bytes, `faults` and `last` are what they were: a read of another file shows
+    /// by its name, if it fails, or leaves no trace.
     fn read(&mut self, alloc: Global, name: &[u8]) -> Result<Vec<u8>, FileFault>
         ensures bytes { IfOk result (λ bytes.
             IfSome (held self.old) (λ files. value_at files name.now ≡ Some bytes.items)) }
         ensures same { held self.new ≡ held self.old }
         ensures later { faults self.old ≤ faults self.new }
-        ensures failed { IsErrOf result FileFault.Failed → Rose (faults self.old) (faults self.new) }
+        ensures failed { IsErrOf result FileFault.Failed
+            → Rose (faults self.old) (faults self.new) }
         ensures named { IsErrOf result FileFault.Failed → last self.new ≡ Some name.now }
         ensures kept { OnOk result (last self.new ≡ last self.old) }
         ensures kept_without_memory { IsErrOf result FileFault.NoMemory
-            → last self.new ≡ last self.old };
+            → last self.new ≡ last self.old }
+        ensures uncounted { OnOk result (faults self.new ≡ faults self.old) }
+        ensures uncounted_without_memory { IsErrOf result FileFault.NoMemory
+            → faults self.new ≡ faults self.old };
 }

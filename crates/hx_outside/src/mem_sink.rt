@@ -1,14 +1,14 @@
 ghost use Rattle.std.specs.Prelude.{◌≡◌, ℕ, ◌<◌, ◌≤◌, ◌↔◌, [], Some, length, min, Contains, IfOk, IsErrOf};
 ghost use Rattle.std.specs.Io.KnownBytes.{WriteAppends};
 ghost use Rattle.hx_outside.specs.Count.{next_count, Rose};
-ghost use Rattle.hx_outside.specs.MemSink.{after_write};
+ghost use Rattle.hx_outside.specs.MemSink.{mem_sink_after_write};
 
 use crate::fault::SinkFault;
 use crate::sink::Sink;
 use std::alloc::Global;
 use std::marker::Model;
 
-/// A sink in memory, which fails at chosen calls. Contracts see its state as a `Tray`.
+/// A sink in memory, which takes pieces and fails at chosen calls, for tests of what writes.
 #[derive(Debug, Drop)]
 pub struct MemSink {
     written: Vec<u8>,
@@ -20,9 +20,9 @@ pub struct MemSink {
 
 impl Model for MemSink {
     ghost use Rattle.std.specs.Prelude.{◌<◌};
-    ghost use Rattle.hx_outside.specs.MemSink.{Tray};
+    ghost use Rattle.hx_outside.specs.MemSink.{MemSinkState};
 
-    ghost Value = { Tray };
+    ghost Value = { MemSinkState };
 
     ghost view = { λ sink. record {
       written = sink.written.items;
@@ -65,12 +65,14 @@ impl Sink for MemSink {
 
     ghost faults = { λ sink. sink.faults };
 
-    /// Takes as many bytes as `piece` allows. `Failed` exactly at the chosen writes.
+    /// Takes as many bytes as `piece` allows. `Failed` exactly at the chosen writes; `NoMemory`
+    /// where memory runs out at any other.
     fn write(&mut self, bytes: &[u8]) -> Result<usize, SinkFault>
         requires { 0 < length bytes.now }
         ensures some { IfOk result (λ count. 0 < count) }
         ensures bound { IfOk result (λ count. count ≤ length bytes.now) }
-        ensures bytes { WriteAppends (Some self.old.written) (Some self.new.written) result bytes.now }
+        ensures bytes { WriteAppends (Some self.old.written) (Some self.new.written)
+            result bytes.now }
         ensures later { self.old.faults ≤ self.new.faults }
         ensures failed { IsErrOf result SinkFault.Failed → Rose self.old.faults self.new.faults }
         ensures uncounted { IsErrOf result SinkFault.NoMemory → self.new.faults ≡ self.old.faults }
@@ -78,7 +80,7 @@ impl Sink for MemSink {
         ensures chosen { IsErrOf result SinkFault.Failed
             ↔ Contains self.old.fails (next_count self.old.calls) }
         ensures count { IfOk result (λ count. count ≡ min self.old.piece (length bytes.now)) }
-        ensures after { self.new ≡ after_write self.old bytes.now result }
+        ensures after { self.new ≡ mem_sink_after_write self.old bytes.now result }
     {
         self.calls = self.calls.saturating_add(1);
         if self.fails.contains(&self.calls) {

@@ -1,14 +1,14 @@
-ghost use Rattle.std.specs.Prelude.{◌≡◌, ℕ, ◌<◌, ◌≤◌, ◌↔◌, ◌++◌, Some, length, take, drop, min, Contains, IfOk, OnErr, IsErr};
+ghost use Rattle.std.specs.Prelude.{◌≡◌, ℕ, ◌<◌, ◌≤◌, ◌↔◌, ◌++◌, Some, length, take, drop, min, Contains, IfOk, OnOk, OnErr, IsErr};
 ghost use Rattle.std.specs.Io.{ReadsAtMost};
 ghost use Rattle.std.specs.Io.KnownBytes.{ReadConsumes};
 ghost use Rattle.hx_outside.specs.Count.{next_count, Rose};
-ghost use Rattle.hx_outside.specs.MemSource.{after_read};
+ghost use Rattle.hx_outside.specs.MemSource.{mem_source_after_read};
 
 use crate::fault::Failed;
 use crate::source::Source;
 use std::marker::Model;
 
-/// A source in memory, which fails at chosen calls. Contracts see its state as a `Feed`.
+/// A source in memory, which gives pieces and fails at chosen calls, for tests of what reads.
 #[derive(Debug, Drop)]
 pub struct MemSource {
     bytes: Vec<u8>,
@@ -21,9 +21,9 @@ pub struct MemSource {
 
 impl Model for MemSource {
     ghost use Rattle.std.specs.Prelude.{◌<◌, ◌≤◌, length, drop};
-    ghost use Rattle.hx_outside.specs.MemSource.{Feed};
+    ghost use Rattle.hx_outside.specs.MemSource.{MemSourceState};
 
-    ghost Value = { Feed };
+    ghost Value = { MemSourceState };
 
     ghost view = { λ source. record {
       left = drop source.at source.bytes.items;
@@ -41,8 +41,13 @@ impl MemSource {
     /// fails at the reads whose numbers, from 1, are in `fails`.
     pub fn new(bytes: Vec<u8>, piece: usize, fails: Vec<u64>) -> MemSource
         requires { 0 < piece }
-        ensures { result
-            ≡ record { left = bytes.items; piece = piece; fails = fails.items; calls = 0; faults = 0 } }
+        ensures { result ≡ record {
+          left = bytes.items;
+          piece = piece;
+          fails = fails.items;
+          calls = 0;
+          faults = 0;
+        } }
     {
         MemSource {
             bytes,
@@ -68,11 +73,12 @@ impl Source for MemSource {
         ensures bytes { ReadConsumes (Some self.old.left) (Some self.new.left) result buf.new }
         ensures later { self.old.faults ≤ self.new.faults }
         ensures failed { OnErr result (Rose self.old.faults self.new.faults) }
+        ensures uncounted { OnOk result (self.new.faults ≡ self.old.faults) }
 
         ensures chosen { IsErr result ↔ Contains self.old.fails (next_count self.old.calls) }
         ensures count { IfOk result (λ count.
             count ≡ min (length self.old.left) (min self.old.piece (length buf.old))) }
-        ensures after { self.new ≡ after_read self.old result }
+        ensures after { self.new ≡ mem_source_after_read self.old result }
     {
         self.calls = self.calls.saturating_add(1);
         if self.fails.contains(&self.calls) {

@@ -10,12 +10,12 @@ use std::alloc::Global;
 
 /// Bytes that come in pieces, until the end.
 ///
-/// A source has three meanings, which contracts speak of. `left` is the bytes not yet read, for a
-/// source that tells them; told bytes stay told. `faults` is a count that never falls and rises
-/// with each `Failed`, so that a failure in the midst of a longer call shows by the count before
-/// and after that call; one that stands at the last value of a u64 counts as risen. `log` is what
-/// each read so far gave, for a source that tells it, so that a longer call can say when it reads; a
-/// source may stop telling it, and never begins to.
+/// A source has three meanings, which contracts speak of. `left` is the bytes not yet read, where
+/// they are known; known bytes stay known. `faults` is a count that rises with each `Failed`,
+/// where it doesn't saturate, and stays with every other answer. So a failure deep inside a longer
+/// call shows by the count before that call and after it. `log` is what each read so far gave,
+/// where that is known, so that a longer call can say when it reads; a known log may become
+/// unknown, and an unknown one stays so.
 pub trait Source {
     ghost left: { Self → Option (List ℕ) };
 
@@ -33,22 +33,26 @@ pub trait Source {
         ensures bytes { ReadConsumes (left self.old) (left self.new) result buf.new }
         ensures later { faults self.old ≤ faults self.new }
         ensures failed { OnErr result (Rose (faults self.old) (faults self.new)) }
+        ensures uncounted { OnOk result (faults self.new ≡ faults self.old) }
         ensures log { Logs (log self.old) (log self.new) (bytes_read result buf.new) };
 }
 
 /// How many bytes `read_to_end` asks for at once.
 const PIECE: usize = 4096;
 
-/// All bytes that are left in `source`, where they are no more than `limit`.
+/// All bytes that are left in `source`, where they are no more than `limit`, in a vector of
+/// `alloc`.
 ///
-/// `TooLong` where more were left: `limit + 1` bytes were then taken, and never more. `Failed` only
-/// where the source's count of faults rose in this call, and `NoMemory` where memory runs out:
-/// some prefix of the bytes was then taken.
+/// `TooLong` where more were left: `limit + 1` bytes were then taken, and never more. `Failed`
+/// only where the source's count of faults rose in this call, which it does with no other answer,
+/// and `NoMemory` where memory runs out: some prefix of the bytes was then taken.
 pub fn read_to_end<S: Source>(
     alloc: Global,
     source: &mut S,
     limit: usize,
 ) -> Result<Vec<u8>, ReadFault>
+    // `whole` follows from `consumed` and `end`, and `longer` from `too_long`: they save a caller
+    // that knows what is left the lemmas on bytes that were consumed.
     ensures whole { IfOk result (λ bytes. IfSome (S.left source.old) (λ left. bytes.items ≡ left)) }
     ensures consumed { IfOk result (λ bytes.
         Consumes (S.left source.old) (S.left source.new) bytes.items) }
@@ -56,7 +60,8 @@ pub fn read_to_end<S: Source>(
     ensures within { IfOk result (λ bytes. vec_len bytes ≤ limit) }
 
     ensures too_long { IsErrOf result ReadFault.TooLong
-        → TakesPrefix (S.left source.old) (S.left source.new) (λ prefix. length prefix ≡ limit + 1) }
+        → TakesPrefix (S.left source.old) (S.left source.new)
+        (λ prefix. length prefix ≡ limit + 1) }
     ensures longer { IsErrOf result ReadFault.TooLong
         → IfSome (S.left source.old) (λ left. limit < length left) }
 
@@ -65,6 +70,8 @@ pub fn read_to_end<S: Source>(
     ensures later { S.faults source.old ≤ S.faults source.new }
     ensures failed { IsErrOf result ReadFault.Failed
         → Rose (S.faults source.old) (S.faults source.new) }
+    ensures uncounted { ¬ (IsErrOf result ReadFault.Failed)
+        → S.faults source.new ≡ S.faults source.old }
 {
     let mut out = Vec::new(alloc);
     let mut piece = [0u8; PIECE];

@@ -7,12 +7,12 @@ use crate::sink::Sink;
 use std::io::Write;
 use std::marker::Model;
 
-/// A sink over a writer of std. It tells the bytes that it took where the writer tells them: one in
-/// memory does, and one of the machine's files or streams does not.
+/// A sink over a writer of std. The bytes that it took are known where the writer's are: those of a
+/// writer in memory, and not those of the machine's files and streams.
 ///
-/// Each error of the writer is a fault, whatever its kind, and so is a write that takes nothing:
-/// nothing is tried again, a write that was interrupted included. It is never flushed, so a writer
-/// that keeps bytes back is to be flushed by whoever owns it.
+/// Each error of the writer is a fault, whatever its kind, and so is a write that takes nothing. No
+/// write is tried again, an interrupted one neither. It is never flushed, so a writer that keeps
+/// bytes back is to be flushed by whoever owns it.
 #[derive(Debug, Drop)]
 pub struct StdSink<W> {
     writer: W,
@@ -20,9 +20,9 @@ pub struct StdSink<W> {
 }
 
 impl<W> Model for StdSink<W> {
-    ghost use Rattle.hx_outside.specs.Guarded.{Guarded};
+    ghost use Rattle.hx_outside.specs.Adapter.{AdapterState};
 
-    ghost Value = { Guarded W };
+    ghost Value = { AdapterState W };
 
     ghost view = { λ sink. record { inner = sink.writer; faults = sink.faults } };
 }
@@ -41,18 +41,21 @@ impl<W: Write> Sink for StdSink<W> {
 
     ghost faults = { λ sink. sink.faults };
 
-    /// One write of the writer. `Failed` exactly where it answers an error or takes nothing; never
-    /// `NoMemory`.
+    /// One write of the writer. Never `NoMemory`. The count of faults rises by one with `Failed`,
+    /// and with no other answer. That `Failed` comes only where the writer answers an error or
+    /// takes nothing is tested, since no contract of std says when a writer fails.
     fn write(&mut self, bytes: &[u8]) -> Result<usize, SinkFault>
         requires { 0 < length bytes.now }
         ensures some { IfOk result (λ count. 0 < count) }
         ensures bound { IfOk result (λ count. count ≤ length bytes.now) }
-        ensures bytes { WriteAppends (W.contents self.old.inner) (W.contents self.new.inner) result bytes.now }
+        ensures bytes { WriteAppends (W.contents self.old.inner) (W.contents self.new.inner)
+            result bytes.now }
         ensures later { self.old.faults ≤ self.new.faults }
         ensures failed { IsErrOf result SinkFault.Failed → Rose self.old.faults self.new.faults }
         ensures uncounted { IsErrOf result SinkFault.NoMemory → self.new.faults ≡ self.old.faults }
 
-        ensures count { self.new.faults ≡ (if is_ok result then self.old.faults else next_count self.old.faults) }
+        ensures count { self.new.faults
+            ≡ (if is_ok result then self.old.faults else next_count self.old.faults) }
         ensures memory { ¬ (IsErrOf result SinkFault.NoMemory) }
     {
         match self.writer.write(bytes) {

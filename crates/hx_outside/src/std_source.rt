@@ -1,4 +1,4 @@
-ghost use Rattle.std.specs.Prelude.{◌≡◌, ℕ, ◌<◌, ◌≤◌, length, OnErr, is_ok, if◌then◌else◌};
+ghost use Rattle.std.specs.Prelude.{◌≡◌, ℕ, ◌<◌, ◌≤◌, length, OnOk, OnErr, is_ok, if◌then◌else◌};
 ghost use Rattle.std.specs.Io.{ReadsAtMost};
 ghost use Rattle.std.specs.Io.KnownBytes.{ReadConsumes};
 ghost use Rattle.hx_outside.specs.Count.{next_count, Rose};
@@ -8,11 +8,11 @@ use crate::source::Source;
 use std::io::Read;
 use std::marker::Model;
 
-/// A source over a reader of std. It tells the bytes that are left where the reader tells them: one
-/// in memory does, and one of the machine's files or streams does not.
+/// A source over a reader of std. The bytes that are left are known where the reader's are: those
+/// of a reader in memory, and not those of the machine's files and streams.
 ///
-/// Each error of the reader is a fault, whatever its kind: nothing is tried again, a read that was
-/// interrupted included.
+/// Each error of the reader is a fault, whatever its kind. No read is tried again, an interrupted
+/// one neither.
 #[derive(Debug, Drop)]
 pub struct StdSource<R> {
     reader: R,
@@ -20,9 +20,9 @@ pub struct StdSource<R> {
 }
 
 impl<R> Model for StdSource<R> {
-    ghost use Rattle.hx_outside.specs.Guarded.{Guarded};
+    ghost use Rattle.hx_outside.specs.Adapter.{AdapterState};
 
-    ghost Value = { Guarded R };
+    ghost Value = { AdapterState R };
 
     ghost view = { λ source. record { inner = source.reader; faults = source.faults } };
 }
@@ -41,15 +41,20 @@ impl<R: Read> Source for StdSource<R> {
 
     ghost faults = { λ source. source.faults };
 
-    /// One read of the reader. `Failed` exactly where it answers an error.
+    /// One read of the reader. The count of faults rises by one with `Failed`, and stays with
+    /// bytes. That `Failed` comes only where the reader answers an error is tested, since no
+    /// contract of std says when a reader fails.
     fn read(&mut self, buf: &mut [u8]) -> Result<usize, Failed>
         requires { 0 < length buf.old }
         ensures bound { ReadsAtMost result buf.new }
-        ensures bytes { ReadConsumes (R.remaining self.old.inner) (R.remaining self.new.inner) result buf.new }
+        ensures bytes { ReadConsumes (R.remaining self.old.inner) (R.remaining self.new.inner)
+            result buf.new }
         ensures later { self.old.faults ≤ self.new.faults }
         ensures failed { OnErr result (Rose self.old.faults self.new.faults) }
+        ensures uncounted { OnOk result (self.new.faults ≡ self.old.faults) }
 
-        ensures count { self.new.faults ≡ (if is_ok result then self.old.faults else next_count self.old.faults) }
+        ensures count { self.new.faults
+            ≡ (if is_ok result then self.old.faults else next_count self.old.faults) }
     {
         match self.reader.read(buf) {
             Ok(count) => Ok(count),

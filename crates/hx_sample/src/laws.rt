@@ -8,7 +8,8 @@ ghost use Rattle.hx_sample.specs.Vars.{var_of, with_var, without_var, after_requ
 
 use crate::sample::Value;
 use crate::vars::Vars;
-use hx_text::{Ip, VarName, printed_i64_reads_back, printed_ip_reads_back};
+use hx_text::laws::{printed_i64_reads_back, printed_ip_reads_back};
+use hx_text::{Ip, VarName};
 
 /// A number that is cast to a text is cast back to the same number.
 pub fn number_is_cast_back(n: i64)

@@ -6,3 +6,4 @@ pub mod RoundTripLemmas
 pub mod TextLemmas
 pub mod NetworkLemmas
 pub mod GrammarLemmas
+pub mod DottedEndLemmas

@@ -8,13 +8,16 @@ use Rattle.std.specs.Int.{w32, to_be_bytes}
 use Rattle.std.specs.Net.Addr.{octets_of}
 use Rattle.std.specs.Net.Text.{hex, ipv4_text, ipv6_text}
 use Rattle.std.specs.Prelude.{codes}
-use Rattle.hx_text.specs.Address.{groups_of, is_mapped, mapped}
+use Rattle.hx_text.specs.Printing.{groups_of, is_mapped}
+use Rattle.hx_text.specs.Mapping.{mapped_address}
 use Rattle.hx_text.proofs.PrintLemmas.{hex_one, hex_two, hex_three, hex_four, mapped_text, other_text}
 use Rattle.hx_text.proofs.RoundTripLemmas.{Below, below_none, below_more, groups_fit}
 
 -- ---- a dotted end
 
-mapped_groups : (four : ℕ) → four < 2 ^ 32 → groups_of (mapped four) ≡ 0 ∷ 0 ∷ 0 ∷ 0 ∷ 0 ∷ 0xffff ∷ (four / 2 ^ 16) ∷ (four % 2 ^ 16) ∷ []
+mapped_groups : (four : ℕ) → four < 2 ^ 32
+    → groups_of (mapped_address four) ≡ 0 ∷ 0 ∷ 0 ∷ 0 ∷ 0 ∷ 0xffff ∷ (four / 2 ^ 16)
+    ∷ (four % 2 ^ 16) ∷ []
 mapped_groups four fits =
     let a = 0xffff * 2 ^ 32 + four in
     let one : a / 2 ^ 112 % 2 ^ 16 ≡ 0 = omega arith in
@@ -27,7 +30,8 @@ mapped_groups four fits =
     let eight : a % 2 ^ 16 ≡ four % 2 ^ 16 = omega arith in
     rw (one, two, three, four', five, six, seven, eight) refl
 
-mapped_octets : (four : ℕ) → four < 2 ^ 32 → octets_of ((four / 2 ^ 16) ∷ (four % 2 ^ 16) ∷ []) ≡ to_be_bytes w32 four
+mapped_octets : (four : ℕ) → four < 2 ^ 32
+    → octets_of ((four / 2 ^ 16) ∷ (four % 2 ^ 16) ∷ []) ≡ to_be_bytes w32 four
 mapped_octets four fits =
     let one : four / 2 ^ 16 / 256 ≡ four / 16777216 % 256 = omega arith in
     let two : four / 2 ^ 16 % 256 ≡ four / 65536 % 256 = omega arith in
@@ -35,7 +39,9 @@ mapped_octets four fits =
     let last : four % 2 ^ 16 % 256 ≡ four % 256 = omega arith in
     rw (one, two, three, last) refl
 
-pub mapped_shown : (four : ℕ) → four < 2 ^ 32 → ipv6_text (groups_of (mapped four)) ≡ codes "::ffff:" ++ ipv4_text (to_be_bytes w32 four)
+pub mapped_shown : (four : ℕ) → four < 2 ^ 32
+    → ipv6_text (groups_of (mapped_address four)) ≡ codes "::ffff:" ++ ipv4_text
+    (to_be_bytes w32 four)
 mapped_shown four fits =
     ap ipv6_text (mapped_groups four fits)
     ∙ mapped_text (0 ∷ 0 ∷ 0 ∷ 0 ∷ 0 ∷ 0xffff ∷ (four / 2 ^ 16) ∷ (four % 2 ^ 16) ∷ []) refl
@@ -66,18 +72,25 @@ last_octets_fit address =
 
 prefix_no_capital : All IsNoCapital (codes "::ffff:")
 prefix_no_capital =
-    All-from_recursion IsNoCapital (codes "::ffff:") (refl, (refl, (refl, (refl, (refl, (refl, (refl, tt)))))))
+    All-from_recursion IsNoCapital (codes "::ffff:") (
+      refl,
+      (refl, (refl, (refl, (refl, (refl, (refl, tt)))))),
+    )
 
-no_capital_by : (address : ℕ) (is : Bool) → is_mapped (groups_of address) ≡ is → All IsNoCapital (ipv6_text (groups_of address))
+no_capital_by : (address : ℕ) (is : Bool) → is_mapped (groups_of address) ≡ is
+    → All IsNoCapital (ipv6_text (groups_of address))
 unfolding Below
 no_capital_by address true is =
     let octets = octets_of (drop 6 (groups_of address)) in
-    let end = All-weaker IsDigitOrDot IsNoCapital dotted_no_capital (ipv4_text octets) (All-ipv4_text octets (last_octets_fit address)) in
+    let end =
+    All-weaker IsDigitOrDot IsNoCapital dotted_no_capital (ipv4_text octets)
+    (All-ipv4_text octets (last_octets_fit address)) in
     subst (All IsNoCapital) (sym (mapped_text (groups_of address) is))
     (All-append IsNoCapital (codes "::ffff:") (ipv4_text octets) prefix_no_capital end)
 no_capital_by address false is =
     subst (All IsNoCapital) (sym (other_text (groups_of address) is))
-    (All-weaker IsHexOrColon IsNoCapital hex_no_capital _ (All-hex_groups_text (groups_of address) (groups_fit address)))
+    (All-weaker IsHexOrColon IsNoCapital hex_no_capital _
+    (All-hex_groups_text (groups_of address) (groups_fit address)))
 
 pub no_capital : (address : ℕ) → All IsNoCapital (ipv6_text (groups_of address))
 no_capital address = no_capital_by address (is_mapped (groups_of address)) refl
@@ -96,7 +109,8 @@ no_leading_zero group some fits = elim (cases_lt group 16) [
   | inr more ↦ elim (cases_lt group 256) [
     | inl two ↦ rw (hex_two group more two) (digit_other_than_0 (group / 16 % 16) (omega arith))
     | inr more ↦ elim (cases_lt group 4096) [
-      | inl three ↦ rw (hex_three group more three) (digit_other_than_0 (group / 256 % 16) (omega arith))
+      | inl three ↦ rw (hex_three group more three)
+          (digit_other_than_0 (group / 256 % 16) (omega arith))
       | inr four ↦ rw (hex_four group four) (digit_other_than_0 (group / 4096) (omega arith))
     ]
   ]

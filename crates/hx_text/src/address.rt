@@ -1,7 +1,9 @@
-ghost use Rattle.std.specs.Prelude.{ℕ, Some, ◌≡◌, [], ◌∷◌, ◌++◌, codes, option_map, option_and_then, IfSome, IfNone};
-ghost use Rattle.hx_text.specs.Address.{octet_of, four_octets, dotted_of, groups_number, plain_groups_of, last_cut_of, ending_in, dotted_end_of, colon_hex_of, IsIpText, ip_of};
+ghost use Rattle.std.specs.Prelude.{ℕ, Some, ◌≡◌, [], ◌∷◌, ◌++◌, codes, option_map, option_and_then, IfSome};
+ghost use Rattle.hx_base.specs.Bytes.{colon};
+ghost use Rattle.hx_text.specs.Address.{octet_of, four_octets, dotted_of, groups_number, plain_groups_of, address_ending_in, dotted_end_of, colon_hex_of, IsIpText, ip_of};
+ghost use Rattle.hx_text.specs.Cut.{last_cut_of};
 
-use crate::cut::{cut_at, cut_behind_last};
+use crate::cut::{cut_after_last, cut_at};
 use crate::numbers::read_number;
 use crate::printing::push_all;
 use arrayvec::ArrayVec;
@@ -37,8 +39,8 @@ fn read_four(p: &[u8], q: &[u8], r: &[u8], s: &[u8]) -> Option<u32>
     Some(u32::from_be_bytes([a, b, c, d]))
 }
 
-/// The IPv4 address that `text` writes in dotted decimal: four octets of one to three digits, each
-/// at most 255, with dots between them. None exactly where it is no such text.
+/// The IPv4 address of a text in dotted decimal, the first octet being the highest. An octet has up
+/// to three digits, and zeros may lead. None exactly for any other text.
 #[tactic(auto, using(crate::proofs::AddressLemmas::dotted_cases))]
 pub(crate) fn read_dotted(text: &[u8]) -> Option<u32>
     ensures { result ≡ dotted_of text.now }
@@ -66,12 +68,12 @@ fn number_of_groups(groups: [u16; 8]) -> u128
     u128::from(high) * 0x1_0000_0000_0000_0000 + u128::from(low)
 }
 
-fn ending_in(four: u32, groups: [u16; 8]) -> u128
-    ensures { result ≡ ending_in four groups }
+fn address_ending_in(ipv4: u32, groups: [u16; 8]) -> u128
+    ensures { result ≡ address_ending_in ipv4 groups }
 {
     let [a, b, c, d, e, f, _, _] = groups;
     let high = four_groups(a, b, c, d);
-    let low = (u64::from(e) * 0x1_0000 + u64::from(f)) * 0x1_0000_0000 + u64::from(four);
+    let low = (u64::from(e) * 0x1_0000 + u64::from(f)) * 0x1_0000_0000 + u64::from(ipv4);
     u128::from(high) * 0x1_0000_0000_0000_0000 + u128::from(low)
 }
 
@@ -84,29 +86,29 @@ fn read_plain_groups(text: &[u8]) -> Option<[u16; 8]>
     }
 }
 
-fn read_before_ipv4(front: &[u8], four: u32) -> Option<u128>
+fn read_before_ipv4(before: &[u8], ipv4: u32) -> Option<u128>
     ensures { result
-        ≡ option_map (ending_in four) (plain_groups_of (front.now ++ codes "0:0")) }
+        ≡ option_map (address_ending_in ipv4) (plain_groups_of (before.now ++ codes "0:0")) }
 {
     // No text of the grammar is longer than 49 bytes, and `0:0` has three.
-    if front.len() > 49 {
+    if before.len() > 49 {
         return None;
     }
     let mut text: ArrayVec<u8, 52> = ArrayVec::new();
-    push_all(&mut text, front);
+    push_all(&mut text, before);
     push_all(&mut text, b"0:0");
     match read_plain_groups(text.as_slice()) {
-        Some(groups) => Some(ending_in(four, groups)),
+        Some(groups) => Some(address_ending_in(ipv4, groups)),
         None => None,
     }
 }
 
 fn read_with_ipv4(text: &[u8]) -> Option<u128>
-    ensures { result ≡ option_and_then dotted_end_of (last_cut_of 58 text.now) }
+    ensures { result ≡ option_and_then dotted_end_of (last_cut_of colon text.now) }
 {
-    match cut_behind_last(b':', text) {
-        Some((front, end)) => match read_dotted(end) {
-            Some(four) => read_before_ipv4(front, four),
+    match cut_after_last(b':', text) {
+        Some((before, end)) => match read_dotted(end) {
+            Some(ipv4) => read_before_ipv4(before, ipv4),
             None => None,
         },
         None => None,
@@ -123,17 +125,17 @@ fn read_colon_hex(text: &[u8]) -> Option<u128>
     }
 }
 
-/// The address that `text` writes: an IPv4 address in dotted decimal, which is four octets of one to
-/// three digits, each at most 255, with dots between them; or an IPv6 address as RFC 4291 section 2.2
-/// writes it, which is eight groups of one to four hex digits with colons between them, where `::`
-/// may stand, once, for one or more zero groups, and an IPv4 address for the last two. None exactly
-/// where the text is anything else.
+/// The internet address that `text` writes, and nothing else: blanks, brackets, a port or a zone
+/// are no part of one. An IPv4 address is four decimal octets with dots between them, each of up
+/// to three digits, where zeros may lead (`010` is ten). An IPv6 address has one of the three
+/// forms of RFC 4291 section 2.2: groups of hex digits, groups with one `::`, and groups that end
+/// in an IPv4 address, whose octets may have leading zeros too. None exactly where the text is
+/// neither.
 #[tactic(auto, unfolding(crate::specs::Address::ip_of))]
 pub fn read_ip(text: &[u8]) -> Option<Ip>
     ensures value { result ≡ ip_of text.now }
-    ensures dotted { (a : ℕ) → dotted_of text.now ≡ Some a → result ≡ Some (Ip.V4 a) }
+    ensures unique { (ip : Ip) → IsIpText text.now ip → result ≡ Some ip }
     ensures spelled { IfSome result (IsIpText text.now) }
-    ensures refused { IfNone result ((ip : Ip) → ¬ IsIpText text.now ip) }
 {
     match read_colon_hex(text) {
         Some(a) => Some(Ip::V6(a)),

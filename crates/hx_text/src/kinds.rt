@@ -1,5 +1,5 @@
-/// The kinds of samples (HAProxy configuration manual 2.4, section 7.1). `Any` is the kind of a
-/// variable, which is known only when the variable is read.
+/// The types of samples (HAProxy configuration manual 2.4, section 7.1): boolean, integer, address,
+/// string, binary and method. `Any` is the type of a variable, which is known only when it is read.
 #[derive(Clone, Copy, Debug, PartialEq, Eq)]
 pub enum Kind {
     Bool,
@@ -29,7 +29,8 @@ pub enum By {
     Reg,
 }
 
-/// The kinds of values that a map gives (HAProxy configuration manual 2.4, section 7.3.1, `map`).
+/// The types of the values that a map gives (HAProxy configuration manual 2.4, section 7.3.1,
+/// `map`).
 #[derive(Clone, Copy, Debug, PartialEq, Eq)]
 pub enum Out {
     Str,

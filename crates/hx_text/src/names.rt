@@ -1,6 +1,7 @@
 use crate::octets::Octets;
 
-/// How long a variable lives and who shares it (HAProxy configuration manual 2.4, section 7.3.2, `var`).
+/// How long a variable lives and who shares it (HAProxy configuration manual 2.4, section 7.3.2,
+/// `var`).
 #[derive(Clone, Copy, Debug, PartialEq, Eq, PartialOrd, Ord)]
 pub enum Scope {
     Proc,

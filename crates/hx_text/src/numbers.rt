@@ -5,15 +5,17 @@ ghost use Rattle.hx_text.specs.Number.{number_up_to, int_of};
 use itoa::Buffer;
 use std::str;
 
-// `parse` takes a plus sign before the digits, and the texts here have none.
+/// `parse` takes this sign before the digits, and the texts here have none.
+const PLUS_SIGN: u8 = b'+';
+
 fn begins_with_plus(text: &[u8]) -> bool
-    ensures { IsTrue result ↔ (slice_index text.now 0 ≡ 43) }
+    ensures { IsTrue result ↔ (slice_index text.now 0 ≡ PLUS_SIGN) }
 {
-    matches!(text, [b'+', ..])
+    matches!(text, [PLUS_SIGN, ..])
 }
 
 fn parse_number(text: &str, most: u64) -> Option<u64>
-    requires { slice_index text.now 0 ≢ 43 }
+    requires { slice_index text.now 0 ≢ PLUS_SIGN }
     ensures value { result ≡ number_up_to most text.now }
     ensures within { IfSome result (λ n. n ≤ most) }
 {
@@ -23,11 +25,13 @@ fn parse_number(text: &str, most: u64) -> Option<u64>
     }
 }
 
-/// The number that `text` writes in decimal digits alone. None exactly where the text is anything
-/// else (a sign, a blank, no digit at all), or the number is above `most`. Zeros may lead.
+/// The number that `text` writes in decimal digits alone, where it is at most `most`. None
+/// exactly where the text is anything else (a sign, a blank, no digit at all), or the number is
+/// above `most`. Zeros may lead.
 #[tactic(auto, using(crate::proofs::NumberLemmas::no_number))]
 pub fn read_number(text: &[u8], most: u64) -> Option<u64>
     ensures value { result ≡ number_up_to most text.now }
+    // Follows from `value`. It saves callers that cast the number a lemma.
     ensures within { IfSome result (λ n. n ≤ most) }
 {
     if begins_with_plus(text) {
@@ -41,7 +45,7 @@ pub fn read_number(text: &[u8], most: u64) -> Option<u64>
 
 #[tactic(auto, using(crate::proofs::NumberLemmas::parsed_int))]
 fn parse_int(text: &str) -> Option<i64>
-    requires { slice_index text.now 0 ≢ 43 }
+    requires { slice_index text.now 0 ≢ PLUS_SIGN }
     ensures { result ≡ int_of text.now }
 {
     text.parse::<i64>().ok()
@@ -63,8 +67,8 @@ pub fn read_i64(text: &[u8]) -> Option<i64>
     }
 }
 
-/// Writes the shortest decimal text of `n` at the front of `out`, and answers its length. The rest
-/// of `out` stays as it was.
+/// Writes the shortest decimal text of `n` at the start of `out`, and answers its length in
+/// bytes. The rest of `out` stays as it was.
 pub fn print_i64(n: i64, out: &mut [u8; 20]) -> usize
     ensures text { out.new ≡ signed_decimal n ++ drop result out.old }
     ensures len { result ≡ length (signed_decimal n) }
@@ -75,8 +79,3 @@ pub fn print_i64(n: i64, out: &mut [u8; 20]) -> usize
     out[..len].copy_from_slice(text);
     len
 }
-
-/// What `print_i64` writes, `read_i64` reads as the same number.
-pub fn printed_i64_reads_back(n: i64)
-    ensures { int_of (signed_decimal n) ≡ Some n }
-{}

@@ -26,7 +26,7 @@ impl Model for Octets {
 }
 
 impl Octets {
-    /// The same bytes, owned. It fails only where memory runs out.
+    /// A copy of the bytes, in memory of `alloc`. `NoMemory` where memory runs out.
     pub fn copy(alloc: Global, bytes: &[u8]) -> Result<Octets, NoMemory>
         ensures { IfOk result (λ copied. copied ≡ bytes.now) }
     {
@@ -35,11 +35,19 @@ impl Octets {
         })
     }
 
-    /// The bytes of a vector, owned as they are: nothing is copied.
+    /// The bytes of a vector, which become these: nothing is copied, and no memory is taken.
     pub fn from_vec(bytes: Vec<u8>) -> Octets
         ensures { result ≡ bytes.items }
     {
         Octets { bytes }
+    }
+
+    /// The bytes as a vector, the way back from `from_vec`: no memory is taken.
+    pub fn into_vec(self) -> Vec<u8>
+        ensures { result.items ≡ self }
+    {
+        let Octets { bytes } = self;
+        bytes
     }
 
     /// The bytes, lent.

@@ -1,15 +1,16 @@
-ghost use Rattle.std.specs.Prelude.{◌≡◌, ◌≢◌, slice_index, ℕ, false, ◌+◌, ◌*◌, ◌/◌, ◌%◌, ◌^◌, ◌<◌, ◌≤◌, [], ◌∷◌, ◌++◌, length, take, drop, bytes_eq, Some, All, codes, decimal, flat_map};
-ghost use Rattle.std.specs.Char.{digit_char, is_ascii_uppercase};
+ghost use Rattle.std.specs.Prelude.{◌≡◌, ℕ, ◌+◌, ◌*◌, ◌/◌, ◌%◌, ◌^◌, ◌<◌, ◌≤◌, [], ◌∷◌, ◌++◌, length, take, drop, bytes_eq, codes, decimal, flat_map};
+ghost use Rattle.std.specs.Char.{digit_char};
 ghost use Rattle.std.specs.Int.{w32, to_be_bytes};
 ghost use Rattle.std.specs.Net.Text as Text;
-ghost use Rattle.hx_text.specs.Address.{groups_of, ip_of, ip_text, is_mapped, mapped, IsZeroRun, IsFirstLongestRun};
+ghost use Rattle.hx_text.specs.Address.{ip_text};
+ghost use Rattle.hx_text.specs.Printing.{groups_of, is_mapped};
 
 use crate::address::Ip;
 use arrayvec::ArrayVec;
 use itoa::Buffer;
 
-/// A text under way. The longest text of an address has 39 bytes: eight groups of four digits, and
-/// seven colons.
+/// A text that is being written. The longest text of an address has 39 bytes: eight groups of
+/// four digits, and seven colons.
 type Line = ArrayVec<u8, 39>;
 
 pub(crate) fn push_all<const N: usize>(line: &mut ArrayVec<u8, N>, bytes: &[u8])
@@ -123,18 +124,18 @@ fn push_compressed(line: &mut Line, groups: &[u16])
         push_groups(line, groups);
     } else {
         let (before, _) = groups.split_at(start);
-        let (_, behind) = groups.split_at(start + len);
+        let (_, after) = groups.split_at(start + len);
         push_groups(line, before);
         push_all(line, b"::");
-        push_groups(line, behind);
+        push_groups(line, after);
     }
 }
 
-fn group_at(address: u128, place: u32) -> u16
-    requires { place < 128 }
-    ensures { result ≡ address / 2 ^ place % 2 ^ 16 }
+fn group_at(address: u128, shift: u32) -> u16
+    requires { shift < 128 }
+    ensures { result ≡ address / 2 ^ shift % 2 ^ 16 }
 {
-    ((address >> place) % 0x1_0000) as u16
+    ((address >> shift) % 0x1_0000) as u16
 }
 
 fn groups(address: u128) -> [u16; 8]
@@ -156,8 +157,8 @@ fn groups(address: u128) -> [u16; 8]
 fn is_mapped(groups: &[u16; 8]) -> bool
     ensures { result ≡ is_mapped groups.now }
 {
-    let (front, _) = groups.split_at(6);
-    front == [0, 0, 0, 0, 0, 0xffff].as_slice()
+    let (prefix, _) = groups.split_at(6);
+    prefix == [0, 0, 0, 0, 0, 0xffff].as_slice()
 }
 
 fn push_ipv6(line: &mut Line, address: u128)
@@ -202,9 +203,9 @@ fn text_of(ip: Ip) -> Line
     line
 }
 
-/// Writes the text of `ip` at the front of `out`, and answers its length. The rest of `out` stays
-/// as it was. An IPv4 address is written in dotted decimal, and an IPv6 address as RFC 5952 section
-/// 4 has it, with the last 32 bits in dotted decimal for `::ffff:0:0/96` alone.
+/// Writes the text of `ip` at the start of `out`, and answers its length in bytes. The rest of
+/// `out` stays as it was. An IPv4 address is written in dotted decimal, and an IPv6 address as
+/// RFC 5952 section 4 has it, with the last 32 bits in dotted decimal for `::ffff:0:0/96` alone.
 pub fn print_ip(ip: Ip, out: &mut [u8; 39]) -> usize
     ensures text { out.new ≡ ip_text ip ++ drop result out.old }
     ensures len { result ≡ length (ip_text ip) }
@@ -215,43 +216,3 @@ pub fn print_ip(ip: Ip, out: &mut [u8; 39]) -> usize
     out[..len].copy_from_slice(text);
     len
 }
-
-fn printed_ipv4_reads_back(address: u32)
-    ensures { ip_of (ip_text (Ip.V4 address)) ≡ Some (Ip.V4 address) }
-{}
-
-fn printed_ipv6_reads_back(address: u128)
-    ensures { ip_of (ip_text (Ip.V6 address)) ≡ Some (Ip.V6 address) }
-{}
-
-/// What `print_ip` writes, `read_ip` reads as the same address.
-pub fn printed_ip_reads_back(ip: Ip)
-    ensures { ip_of (ip_text ip) ≡ Some ip }
-{
-    match ip {
-        Ip::V4(address) => printed_ipv4_reads_back(address),
-        Ip::V6(address) => printed_ipv6_reads_back(address),
-    }
-}
-
-/// The text of an IPv6 address outside `::ffff:0:0/96` is its groups with colons between them, where
-/// the longest run of zero groups, and the first of that length, is written `::` if it has two groups
-/// or more, and none if no run has (RFC 5952, section 4.2). The text of an address of
-/// `::ffff:0:0/96` is `::ffff:` and the text of the IPv4 address that its last 32 bits make (section
-/// 5). No group begins with a zero digit, except the group 0, which is `0` (section 4.1), and no
-/// text has a capital letter (section 4.3).
-pub fn printed_ipv6_is_canonical(address: u128)
-    ensures compressed { (run : ℕ × ℕ) → is_mapped (groups_of address) ≡ false
-        → IsFirstLongestRun (groups_of address) run → 2 ≤ run.1
-        → ip_text (Ip.V6 address) ≡ Text.groups_text (take run.0 (groups_of address))
-        ++ codes "::" ++ Text.groups_text (drop (run.0 + run.1) (groups_of address)) }
-    ensures plain { is_mapped (groups_of address) ≡ false
-        → ((start len : ℕ) → IsZeroRun (groups_of address) start len → len ≤ 1)
-        → ip_text (Ip.V6 address) ≡ Text.groups_text (groups_of address) }
-    ensures some { (run : ℕ × ℕ) × IsFirstLongestRun (groups_of address) run }
-    ensures mapped { (four : ℕ) → four < 2 ^ 32
-        → ip_text (Ip.V6 (mapped four)) ≡ codes "::ffff:" ++ ip_text (Ip.V4 four) }
-    ensures short { (group : ℕ) → 0 < group → group < 2 ^ 16 → slice_index (Text.hex group) 0 ≢ 48 }
-    ensures zero { Text.hex 0 ≡ codes "0" }
-    ensures lower { All (λ byte. is_ascii_uppercase byte ≡ false) (ip_text (Ip.V6 address)) }
-{}

@@ -1,6 +1,5 @@
 use Rattle.std.proofs.Common.{◌≡◌, drop}
-use Rattle.hx_base.specs.Pairs.{value_at}
-use Rattle.hx_base.specs.Pairs.{pairs_of}
+use Rattle.hx_base.specs.Pairs.{pairs_of, value_at}
 use Rattle.hx_outside.proofs.mem_files.find.Given as goal
 
 abbrev pub invariant-loop-file : goal.invariant-loop-file

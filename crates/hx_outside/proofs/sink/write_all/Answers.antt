@@ -8,6 +8,8 @@ pieces-preserved g c =
     let rest = c.pieces.rest.now in
     let n = c.in_ok-count.count in
     record {
-      appended = rw take_rest (more_appended _ _ _ _ rest n c.pieces.invariant.appended c.in_ok-count.ensures.bytes);
+      appended =
+          rw take_rest
+          (more_appended _ _ _ _ rest n c.pieces.invariant.appended c.in_ok-count.ensures.bytes);
       later = omega arith;
     }

@@ -1,4 +1,4 @@
-use Rattle.std.proofs.Common.{◌≤◌, ◌-◌, vec_len}
+use Rattle.std.proofs.Common.{◌≡◌, ◌≤◌, ◌-◌, vec_len}
 use Rattle.std.specs.Io.KnownBytes.{Consumes}
 use Rattle.hx_outside.proofs.source.read_to_end.Given as goal
 
@@ -6,7 +6,7 @@ abbrev pub invariant-pieces : goal.invariant-pieces
 invariant-pieces g l = record {
   consumed : Consumes (g.S.Source.left l.fn.source) (g.S.Source.left l.source) l.out.items;
   within : vec_len l.out ≤ l.limit;
-  later : g.S.Source.faults l.fn.source ≤ g.S.Source.faults l.source;
+  uncounted : g.S.Source.faults l.source ≡ g.S.Source.faults l.fn.source;
 }
 
 abbrev pub decreases-pieces : goal.decreases-pieces

@@ -1,7 +1,0 @@
-use Rattle.std.proofs.lemmas.Nat.{leading_le}
-use Rattle.hx_text.proofs.NetworkLemmas.{front_twice}
-use Rattle.hx_text.proofs.network.network_by_mask.Goals as goal
-
-pub returns-then-mask-mask_of_width-clause-kept : goal.returns-then-mask-mask_of_width-clause-kept
-returns-then-mask-mask_of_width-clause-kept c =
-    rw (c.front_of_v4.ensures, c.leading_ones-bits.ensures) (leading_le 32 _, front_twice 32 _ _)
