@@ -1,52 +1,53 @@
--- A call takes some of the text, and the calls of a text are its first call and those behind the comma.
+-- A call takes some of the text, and the calls of a text are its first call and those after the comma.
 use Rattle.std.proofs.Common.{◌≡◌, ◌≢◌, ℕ, zero, suc, ◌<◌, ◌≤◌, ◌==◌, ◌&&◌, not, Bool, true, false, if◌then◌else◌, List, [], ◌∷◌, length, take, drop, Option, Some, None, refl, sym, ap, ◌∙◌, subst, arith, length-drop}
 use Rattle.hx_words.specs.declared.fault.ArgFault.TheVariants.{AfterClose, BadEscape, NoMemory}
-use Rattle.hx_words.specs.declared.quoting.Mode.{Mode}
-use Rattle.hx_words.specs.declared.quoting.Mode.TheVariants.{Outside, Single, Double}
+use Rattle.hx_words.specs.TextItems.{QuoteState}
+use Rattle.hx_words.specs.TextItems.QuoteState.{Outside, Single, Double}
 use Rattle.hx_words.specs.Quoting.{escape_of}
-use Rattle.hx_words.specs.Reading.{Item}
+use Rattle.hx_words.specs.TextItems.{TextItem}
+use Rattle.hx_base.specs.Bytes.{is_given, comma, open_parenthesis}
 use Rattle.hx_words.specs.CallForm.{CallForm}
-use Rattle.hx_words.specs.Arguments.{ArgumentsEnd, argument_item, arguments_end, arguments_reading, arguments}
-use Rattle.hx_words.specs.Arguments.ArgumentsEnd.{Closed, Broken}
-use Rattle.hx_words.specs.Calls.{Step, is_stop, at_end, behind_call, closed, with_arguments, behind_name, name_len, step_of, following, steps_within, steps_of}
+use Rattle.hx_words.specs.Arguments.{ArgumentsEnd, argument_item, arguments_end, argument_items, arguments}
+use Rattle.hx_words.specs.Arguments.ArgumentsEnd.{AtParenthesis, AtFault}
+use Rattle.hx_words.specs.Calls.{Step, step_at_end, step_after_call, step_after_arguments, step_with_arguments, step_after_name, call_name_length, step_of, further_steps, steps_within, steps_of}
 use Rattle.hx_words.specs.Calls.Step.{Last, More, Faulty}
-use Rattle.hx_words.proofs.Endings.{StopsBy, stops-either, stops-part, ending-by}
+use Rattle.hx_words.proofs.EndingLemmas.{StopsBy, stops-either, stops-part, ending-by}
 
--- less than the text stands behind `)`, and want of memory is no fault of a text
+-- less than the text stands after `)`, and want of memory is no fault of a text
 abbrev pub Proper : ℕ → ArgumentsEnd → Type 0
-Proper n (Closed behind) = length behind < n
-Proper n (Broken fault) = fault ≢ NoMemory
+Proper n (AtParenthesis after) = length after < n
+Proper n (AtFault fault) = fault ≢ NoMemory
 
 proper-more : (n : ℕ) (e : ArgumentsEnd) → Proper n e → Proper (suc n) e
-proper-more n (Closed behind) h = omega arith
-proper-more n (Broken fault) h = h
+proper-more n (AtParenthesis after) h = omega arith
+proper-more n (AtFault fault) h = h
 
-proper-either : (n : ℕ) (b : Bool) (x y : Item ArgumentsEnd) → StopsBy (Proper n) x → StopsBy (Proper n) y → StopsBy (Proper n) (if b then x else y)
+proper-either : (n : ℕ) (b : Bool) (x y : TextItem ArgumentsEnd) → StopsBy (Proper n) x → StopsBy (Proper n) y → StopsBy (Proper n) (if b then x else y)
 proper-either n = stops-either (Proper n)
 
-proper-item : (mode : Mode) (b : ℕ) (bs : List ℕ) → StopsBy (Proper (suc (length bs))) (argument_item mode b bs)
+proper-item : (state : QuoteState) (b : ℕ) (bs : List ℕ) → StopsBy (Proper (suc (length bs))) (argument_item state b bs)
 unfolding argument_item
 proper-item Outside b bs =
-    let escape = stops-part (Proper (suc (length bs))) (Broken BadEscape) Outside (escape_of bs) (λ is. cc) in
+    let escape = stops-part (Proper (suc (length bs))) (AtFault BadEscape) Outside (escape_of bs) (λ is. cc) in
     let well : Unit {0} = tt in
     let less : length bs < suc (length bs) = omega arith in
     search (proper-either, escape, well, less) depth 9
 proper-item Single b bs = let well : Unit {0} = tt in search (proper-either, well) depth 9
 proper-item Double b bs =
-    let escape = stops-part (Proper (suc (length bs))) (Broken BadEscape) Double (escape_of bs) (λ is. cc) in
+    let escape = stops-part (Proper (suc (length bs))) (AtFault BadEscape) Double (escape_of bs) (λ is. cc) in
     let well : Unit {0} = tt in
     search (proper-either, escape, well) depth 9
 
-proper-end : (mode : Mode) → Proper 0 (arguments_end mode)
+proper-end : (state : QuoteState) → Proper 0 (arguments_end state)
 proper-end Outside = λ is. cc
 proper-end Single = λ is. cc
 proper-end Double = λ is. cc
 
-proper-ending : (bs : List ℕ) → Proper (length bs) (arguments_reading bs).ending
+proper-ending : (bs : List ℕ) → Proper (length bs) (argument_items bs).ending
 proper-ending bs = ending-by Proper argument_item arguments_end proper-more proper-item proper-end bs Outside 0
 
-pub closed_shorter : (bs behind : List ℕ) → (arguments_reading bs).ending ≡ Closed behind → length behind < length bs
-closed_shorter bs behind is = let proper = proper-ending bs in let P : ArgumentsEnd → Type 0 = Proper (length bs) in subst P is proper
+pub closed_shorter : (bs after : List ℕ) → (argument_items bs).ending ≡ AtParenthesis after → length after < length bs
+closed_shorter bs after is = let proper = proper-ending bs in let P : ArgumentsEnd → Type 0 = Proper (length bs) in subst P is proper
 
 -- what a step leaves of a text of this length is no longer, and shorter where another call follows
 abbrev pub StepProper : ℕ → Step → Type 0
@@ -63,45 +64,45 @@ step-either : (n : ℕ) (b : Bool) (x y : Step) → StepProper n x → StepPrope
 step-either n true x y p q = p
 step-either n false x y p q = q
 
-end-proper : (stop : Option ℕ) (call : CallForm) → StepProper 0 (at_end stop call)
+end-proper : (stop : Option ℕ) (call : CallForm) → StepProper 0 (step_at_end stop call)
 end-proper None call = omega arith
 end-proper (Some stop) call = λ is. cc
 
-call-proper : (stop : Option ℕ) (call : CallForm) (rest : List ℕ) → StepProper (length rest) (behind_call stop call rest)
+call-proper : (stop : Option ℕ) (call : CallForm) (rest : List ℕ) → StepProper (length rest) (step_after_call stop call rest)
 call-proper stop call [] = end-proper stop call
 call-proper stop call (b ∷ bs) =
-    step-either (length (b ∷ bs)) (is_stop stop b) (Last call bs) _ (omega arith)
-    (step-either (length (b ∷ bs)) (b == 44) (More call bs) (Faulty call.name AfterClose) (omega arith) (λ is. cc))
+    step-either (length (b ∷ bs)) (is_given stop b) (Last call bs) _ (omega arith)
+    (step-either (length (b ∷ bs)) (b == comma) (More call bs) (Faulty call.name AfterClose) (omega arith) (λ is. cc))
 
-closed-proper : (stop : Option ℕ) (name : List ℕ) (args : List (List ℕ)) (n : ℕ) (ending : ArgumentsEnd) → Proper n ending → StepProper n (closed stop name args ending)
-closed-proper stop name args n (Closed behind) h = step-longer (length behind) n (behind_call stop (record { name = name; args = args }) behind) (omega arith) (call-proper stop (record { name = name; args = args }) behind)
-closed-proper stop name args n (Broken fault) h = h
+step_after_arguments-proper : (stop : Option ℕ) (name : List ℕ) (args : List (List ℕ)) (n : ℕ) (ending : ArgumentsEnd) → Proper n ending → StepProper n (step_after_arguments stop name args ending)
+step_after_arguments-proper stop name args n (AtParenthesis after) h = step-longer (length after) n (step_after_call stop (record { name = name; args = args }) after) (omega arith) (call-proper stop (record { name = name; args = args }) after)
+step_after_arguments-proper stop name args n (AtFault fault) h = h
 
-name-proper : (stop : Option ℕ) (name rest : List ℕ) → StepProper (length rest) (behind_name stop name rest)
+name-proper : (stop : Option ℕ) (name rest : List ℕ) → StepProper (length rest) (step_after_name stop name rest)
 name-proper stop name [] = call-proper stop (record { name = name; args = [] }) []
 name-proper stop name (b ∷ bs) =
-    let reading = arguments_reading bs in
-    step-either (length (b ∷ bs)) (b == 40 && not (is_stop stop b)) (with_arguments stop name bs) (behind_call stop (record { name = name; args = [] }) (b ∷ bs))
-    (step-longer (length bs) (length (b ∷ bs)) (with_arguments stop name bs) (omega arith) (closed-proper stop name (arguments reading.items) (length bs) reading.ending (proper-ending bs)))
+    let reading = argument_items bs in
+    step-either (length (b ∷ bs)) (b == open_parenthesis && not (is_given stop b)) (step_with_arguments stop name bs) (step_after_call stop (record { name = name; args = [] }) (b ∷ bs))
+    (step-longer (length bs) (length (b ∷ bs)) (step_with_arguments stop name bs) (omega arith) (step_after_arguments-proper stop name (arguments reading.items) (length bs) reading.ending (proper-ending bs)))
     (call-proper stop (record { name = name; args = [] }) (b ∷ bs))
 
 pub step-proper : (stop : Option ℕ) (text : List ℕ) → StepProper (length text) (step_of stop text)
 unfolding step_of
 step-proper stop text =
-    let n = name_len stop text in
-    step-longer (length (drop n text)) (length text) (behind_name stop (take n text) (drop n text)) (omega (arith, length-drop n text)) (name-proper stop (take n text) (drop n text))
+    let n = call_name_length stop text in
+    step-longer (length (drop n text)) (length text) (step_after_name stop (take n text) (drop n text)) (omega (arith, length-drop n text)) (name-proper stop (take n text) (drop n text))
 
-none-follows : (f : List ℕ → List Step) (step : Step) → StepProper 0 step → following f step ≡ []
+none-follows : (f : List ℕ → List Step) (step : Step) → StepProper 0 step → further_steps f step ≡ []
 none-follows f (Last call rest) h = refl
 none-follows f (More call rest) h = absurd (omega arith)
 none-follows f (Faulty name fault) h = refl
 
-same-follows : (n : ℕ) (f g : List ℕ → List Step) (step : Step) → StepProper n step → ((rest : List ℕ) → length rest < n → f rest ≡ g rest) → following f step ≡ following g step
+same-follows : (n : ℕ) (f g : List ℕ → List Step) (step : Step) → StepProper n step → ((rest : List ℕ) → length rest < n → f rest ≡ g rest) → further_steps f step ≡ further_steps g step
 same-follows n f g (Last call rest) h same = refl
 same-follows n f g (More call rest) h same = same rest h
 same-follows n f g (Faulty name fault) h same = refl
 
--- no text has more calls behind its first than it has bytes
+-- no text has more calls after its first than it has bytes
 steps-enough : (m n : ℕ) (stop : Option ℕ) (text : List ℕ) → length text ≤ m → length text ≤ n → steps_within m stop text ≡ steps_within n stop text
 unfolding steps_within
 steps-enough zero zero stop text h k = refl
@@ -112,7 +113,7 @@ steps-enough (suc m) zero stop text h k =
 steps-enough (suc m) (suc n) stop text h k =
     ap (λ (more : List Step). step_of stop text ∷ more) (same-follows (length text) (λ rest. steps_within m stop rest) (λ rest. steps_within n stop rest) (step_of stop text) (step-proper stop text) (λ rest less. steps-enough m n stop rest (omega arith) (omega arith)))
 
-pub steps_repeat : (stop : Option ℕ) (text : List ℕ) → steps_of stop text ≡ step_of stop text ∷ following (steps_of stop) (step_of stop text)
+pub steps_repeat : (stop : Option ℕ) (text : List ℕ) → steps_of stop text ≡ step_of stop text ∷ further_steps (steps_of stop) (step_of stop text)
 unfolding steps_of steps_within
 steps_repeat stop text =
     steps-enough (length text) (suc (length text)) stop text (omega arith) (omega arith)

@@ -5,16 +5,15 @@ use Rattle.std.specs.Prelude.{option_map}
 use Rattle.std.specs.List.{prefix_len}
 use Rattle.std.specs.Char.{is_ascii_digit}
 use Rattle.hx_words.specs.declared.fault.WordFault.TheVariants.{BadEscape, BadVariable}
-use Rattle.hx_words.specs.declared.quoting.Mode.{Mode}
-use Rattle.hx_words.specs.declared.quoting.Mode.TheVariants.{Outside, Single, Double}
-use Rattle.hx_words.specs.Quoting.{escape_of, hex_escape, hex_value, of_digits}
-use Rattle.hx_words.specs.Variable.{Env, variable_of, named, plain_name, braced_name, name_length, begins_with, is_name_byte, env_value}
-use Rattle.hx_words.specs.Reading.{Item, part_or}
+use Rattle.hx_words.specs.TextItems.{QuoteState}
+use Rattle.hx_words.specs.TextItems.QuoteState.{Outside, Single, Double}
+use Rattle.hx_words.specs.Quoting.{escape_of, hex_escape, hex_value, hex_byte}
+use Rattle.hx_words.specs.Variable.{Env, variable_of, variable_name, plain_name, braced_name, variable_name_length, begins_with, is_name_byte, env_value}
+use Rattle.hx_words.specs.TextItems.{TextItem, following_count, part_or}
 use Rattle.hx_words.specs.Words.{LineEnd, word_item, double_escape}
-use Rattle.hx_words.specs.Words.LineEnd.{NoItem}
-use Rattle.hx_words.proofs.OneReading.{taken}
+use Rattle.hx_words.specs.Words.LineEnd.{WrongItem}
 
-either-item : (b : Bool) (x y : Item LineEnd) (m : ℕ) → taken x ≤ m → taken y ≤ m → taken (if b then x else y) ≤ m
+either-item : (b : Bool) (x y : TextItem LineEnd) (m : ℕ) → following_count x ≤ m → following_count y ≤ m → following_count (if b then x else y) ≤ m
 either-item true x y m p q = p
 either-item false x y m p q = q
 
@@ -27,7 +26,7 @@ either-found : (b : Bool) (x y : Option (ℕ × List ℕ)) (m : ℕ) → found_l
 either-found true x y m p q = p
 either-found false x y m p q = q
 
-digits-within : (high low : Option ℕ) (m : ℕ) → 3 ≤ m → found_len (of_digits high low) ≤ m
+digits-within : (high low : Option ℕ) (m : ℕ) → 3 ≤ m → found_len (hex_byte high low) ≤ m
 unfolding found_len
 digits-within (Some high) (Some low) m h = h
 digits-within (Some high) None m h = omega arith
@@ -47,42 +46,42 @@ escape-within (c ∷ cs) =
     let one : 1 ≤ suc (length cs) = omega arith in
     search (either-found, hex, one) depth 9
 
-part-within : {E : Type 0} (wrong : E) (mode : Mode) (part : Option (ℕ × List ℕ)) (m : ℕ) → found_len part ≤ m → taken (part_or wrong mode part) ≤ m
+part-within : {E : Type 0} (wrong : E) (state : QuoteState) (part : Option (ℕ × List ℕ)) (m : ℕ) → found_len part ≤ m → following_count (part_or wrong state part) ≤ m
 unfolding found_len
-part-within wrong mode None m h = h
-part-within wrong mode (Some part) m h = h
+part-within wrong state None m h = h
+part-within wrong state (Some part) m h = h
 
 either-number : (b : Bool) (x y m : ℕ) → x ≤ m → y ≤ m → (if b then x else y) ≤ m
 either-number true x y m p q = p
 either-number false x y m p q = q
 
-name-within : (bs : List ℕ) → name_length bs ≤ length bs
+name-within : (bs : List ℕ) → variable_name_length bs ≤ length bs
 name-within [] = omega arith
 name-within (c ∷ cs) = either-number (is_ascii_digit c) 0 (prefix_len is_name_byte (c ∷ cs)) (length (c ∷ cs)) (omega arith) (prefix_len-le-length is_name_byte (c ∷ cs))
 
 plain-within : (bs : List ℕ) → found_len (plain_name bs) ≤ length bs
 unfolding found_len
-plain-within bs = either-found (name_length bs == 0) None (Some (name_length bs, take (name_length bs) bs)) (length bs) (omega arith) (name-within bs)
+plain-within bs = either-found (variable_name_length bs == 0) None (Some (variable_name_length bs, take (variable_name_length bs) bs)) (length bs) (omega arith) (name-within bs)
 
 or-true : (b : Bool) → (b || true) ≡ true
 or-true true = refl
 or-true false = refl
 
-braced-tail : (bs tail : List ℕ) → drop (name_length bs) bs ≡ tail → found_len (if name_length bs == 0 || not (begins_with 125 tail) then None else Some (name_length bs + 2, take (name_length bs) bs)) ≤ 1 + length bs
+braced-tail : (bs tail : List ℕ) → drop (variable_name_length bs) bs ≡ tail → found_len (if variable_name_length bs == 0 || not (begins_with 125 tail) then None else Some (variable_name_length bs + 2, take (variable_name_length bs) bs)) ≤ 1 + length bs
 unfolding found_len
-braced-tail bs [] is = rw (or-true (name_length bs == 0)) (omega arith)
+braced-tail bs [] is = rw (or-true (variable_name_length bs == 0)) (omega arith)
 braced-tail bs (c ∷ tail) is =
-    let room : name_length bs + 2 ≤ 1 + length bs = omega (arith, length-drop (name_length bs) bs, ap length is, name-within bs) in
-    either-found _ None (Some (name_length bs + 2, take (name_length bs) bs)) (1 + length bs) (omega arith) room
+    let room : variable_name_length bs + 2 ≤ 1 + length bs = omega (arith, length-drop (variable_name_length bs) bs, ap length is, name-within bs) in
+    either-found _ None (Some (variable_name_length bs + 2, take (variable_name_length bs) bs)) (1 + length bs) (omega arith) room
 
 braced-within : (bs : List ℕ) → found_len (braced_name bs) ≤ 1 + length bs
 unfolding found_len
-braced-within bs = braced-tail bs (drop (name_length bs) bs) refl
+braced-within bs = braced-tail bs (drop (variable_name_length bs) bs) refl
 
-named-within : (bs : List ℕ) → found_len (named bs) ≤ length bs
+variable_name-within : (bs : List ℕ) → found_len (variable_name bs) ≤ length bs
 unfolding found_len
-named-within [] = omega arith
-named-within (c ∷ cs) =
+variable_name-within [] = omega arith
+variable_name-within (c ∷ cs) =
     let braced : found_len (braced_name cs) ≤ length (c ∷ cs) = omega (arith, braced-within cs) in
     either-found (c == 123) (braced_name cs) (plain_name (c ∷ cs)) (length (c ∷ cs)) braced (plain-within (c ∷ cs))
 
@@ -93,25 +92,25 @@ mapped-within env (Some found) m h = h
 
 variable-within : (env : Env) (bs : List ℕ) → found_len (variable_of env bs) ≤ length bs
 unfolding variable_of
-variable-within env bs = mapped-within env (named bs) (length bs) (named-within bs)
+variable-within env bs = mapped-within env (variable_name bs) (length bs) (variable_name-within bs)
 
-double-escape-within : (bs : List ℕ) → taken (double_escape bs) ≤ length bs
-double-escape-within [] = part-within (NoItem BadEscape) Double (escape_of []) 0 (escape-within [])
+double-escape-within : (bs : List ℕ) → following_count (double_escape bs) ≤ length bs
+double-escape-within [] = part-within (WrongItem BadEscape) Double (escape_of []) 0 (escape-within [])
 double-escape-within (b ∷ bs) =
-    let escape = part-within (NoItem BadEscape) Double (escape_of (b ∷ bs)) (length (b ∷ bs)) (escape-within (b ∷ bs)) in
+    let escape = part-within (WrongItem BadEscape) Double (escape_of (b ∷ bs)) (length (b ∷ bs)) (escape-within (b ∷ bs)) in
     let one : 1 ≤ length (b ∷ bs) = omega arith in
     search (either-item, escape, one)
 
-pub word-within : (env : Env) (mode : Mode) (b : ℕ) (bs : List ℕ) → taken (word_item env mode b bs) ≤ length bs
+pub word-within : (env : Env) (state : QuoteState) (b : ℕ) (bs : List ℕ) → following_count (word_item env state b bs) ≤ length bs
 unfolding word_item
 word-within env Outside b bs =
-    let escape = part-within (NoItem BadEscape) Outside (escape_of bs) (length bs) (escape-within bs) in
+    let escape = part-within (WrongItem BadEscape) Outside (escape_of bs) (length bs) (escape-within bs) in
     let none : 0 ≤ length bs = omega arith in
     let all : length bs ≤ length bs = omega arith in
     search (either-item, escape, none, all) depth 9
 word-within env Single b bs = search (rules, either-item)
 word-within env Double b bs =
-    let variable = part-within (NoItem BadVariable) Double (variable_of env bs) (length bs) (variable-within env bs) in
+    let variable = part-within (WrongItem BadVariable) Double (variable_of env bs) (length bs) (variable-within env bs) in
     let escape = double-escape-within bs in
     let none : 0 ≤ length bs = omega arith in
     search (either-item, variable, escape, none) depth 9
