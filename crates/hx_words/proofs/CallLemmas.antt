@@ -1,11 +1,11 @@
 -- The calls so far, with those of what is left, are the calls of the text.
-use Rattle.std.proofs.Common.{◌≡◌, ◌≢◌, ℕ, zero, suc, ◌-◌, ◌<◌, ◌≤◌, List, [], ◌∷◌, ◌++◌, length, Option, Result, Ok, Err, refl, sym, ap, ◌∙◌, append_assoc, subst, arith}
+use Rattle.std.proofs.Common.{◌≡◌, ◌≢◌, ℕ, zero, suc, ◌-◌, ◌<◌, ◌≤◌, List, [], ◌∷◌, ◌++◌, length, Option, Ok, Err, refl, sym, ap, ◌∙◌, append_assoc, subst, arith}
 use Rattle.hx_words.specs.declared.fault.ArgFault.{ArgFault}
 use Rattle.hx_words.specs.declared.fault.ArgFault.TheVariants.{NoMemory}
 use Rattle.hx_words.specs.CallForm.{CallForm}
 use Rattle.hx_words.specs.Calls.{Step, step_of, further_steps, steps_within, steps_of, longer_calls, calls_of_steps, CallsAndRest, call_list, calls_of}
 use Rattle.hx_words.specs.Calls.Step.{Last, More, Faulty}
-use Rattle.hx_words.proofs.StepLemmas.{StepProper, step-proper, steps_repeat}
+use Rattle.hx_words.proofs.StepLemmas.{IsProperStep, step-proper, steps_repeat}
 
 abbrev put_before : List CallForm → CallsAndRest → CallsAndRest
 put_before done (Ok read) = Ok (done ++ read.0, read.1)
@@ -28,11 +28,11 @@ pub continues_start : (stop : Option ℕ) (text : List ℕ) → Continues stop t
 continues_start stop text = record { within = omega arith; same = put-none (calls_of_steps (steps_of stop text)) }
 
 -- the calls of a text by its first step
-calls_of_steps-by : (stop : Option ℕ) (text : List ℕ) (step : Step) → step ≡ step_of stop text → calls_of_steps (steps_of stop text) ≡ calls_of_steps (step ∷ further_steps (steps_of stop) step)
+pub calls_of_steps-by : (stop : Option ℕ) (text : List ℕ) (step : Step) → step ≡ step_of stop text → calls_of_steps (steps_of stop text) ≡ calls_of_steps (step ∷ further_steps (steps_of stop) step)
 calls_of_steps-by stop text step is = ap calls_of_steps (steps_repeat stop text) ∙ ap (λ (s : Step). calls_of_steps (s ∷ further_steps (steps_of stop) s)) (sym is)
 
-left-of : (stop : Option ℕ) (text : List ℕ) (step : Step) → step ≡ step_of stop text → StepProper (length text) step
-left-of stop text step is = let P : Step → Type 0 = StepProper (length text) in subst P (sym is) (step-proper stop text)
+left-of : (stop : Option ℕ) (text : List ℕ) (step : Step) → step ≡ step_of stop text → IsProperStep (length text) step
+left-of stop text step is = let P : Step → Type 0 = IsProperStep (length text) in subst P (sym is) (step-proper stop text)
 
 pub continues_more : (stop : Option ℕ) (text rest after : List ℕ) (done : List CallForm) (call : CallForm) → Continues stop text rest done → More call after ≡ step_of stop rest → Continues stop text after (done ++ call ∷ [])
 continues_more stop text rest after done call continues is =
@@ -71,7 +71,7 @@ put-memory : (call : CallForm) (read : CallsAndRest) → read ≢ Err NoMemory �
 put-memory call (Ok read) well is = cc
 put-memory call (Err fault) well is = well cc
 
-first-memory : (n : ℕ) (step : Step) (more : List Step) → StepProper n step → calls_of_steps more ≢ Err NoMemory → calls_of_steps (step ∷ more) ≢ Err NoMemory
+first-memory : (n : ℕ) (step : Step) (more : List Step) → IsProperStep n step → calls_of_steps more ≢ Err NoMemory → calls_of_steps (step ∷ more) ≢ Err NoMemory
 first-memory n (Last call rest) more proper well is = cc
 first-memory n (More call rest) more proper well is = put-memory call (calls_of_steps more) well is
 first-memory n (Faulty name fault) more proper well is = proper cc

@@ -4,12 +4,15 @@ use Rattle.std.proofs.lemmas.List.Sums.{prefix_len-le-length}
 use Rattle.std.specs.Prelude.{option_map}
 use Rattle.std.specs.List.{prefix_len}
 use Rattle.std.specs.Char.{is_ascii_digit}
+use Rattle.hx_words.specs.declared.fault.ArgFault.TheVariants as arguments
 use Rattle.hx_words.specs.declared.fault.WordFault.TheVariants.{BadEscape, BadVariable}
 use Rattle.hx_words.specs.TextItems.{QuoteState}
 use Rattle.hx_words.specs.TextItems.QuoteState.{Outside, Single, Double}
 use Rattle.hx_words.specs.Quoting.{escape_of, hex_escape, hex_value, hex_byte}
 use Rattle.hx_words.specs.Variable.{Env, variable_of, variable_name, plain_name, braced_name, variable_name_length, begins_with, is_name_byte, env_value}
 use Rattle.hx_words.specs.TextItems.{TextItem, following_count, part_or}
+use Rattle.hx_words.specs.Arguments.{ArgumentsEnd, argument_item}
+use Rattle.hx_words.specs.Arguments.ArgumentsEnd.{AtFault}
 use Rattle.hx_words.specs.Words.{LineEnd, word_item, double_escape}
 use Rattle.hx_words.specs.Words.LineEnd.{WrongItem}
 
@@ -114,3 +117,21 @@ word-within env Double b bs =
     let escape = double-escape-within bs in
     let none : 0 ≤ length bs = omega arith in
     search (either-item, variable, escape, none) depth 9
+
+either-argument : (b : Bool) (x y : TextItem ArgumentsEnd) (m : ℕ) → following_count x ≤ m
+    → following_count y ≤ m → following_count (if b then x else y) ≤ m
+either-argument true x y m p q = p
+either-argument false x y m p q = q
+
+pub argument-within : (state : QuoteState) (b : ℕ) (bs : List ℕ)
+    → following_count (argument_item state b bs) ≤ length bs
+unfolding argument_item
+argument-within Outside b bs =
+    let escape = part-within (AtFault arguments.BadEscape) Outside (escape_of bs) (length bs) (escape-within bs) in
+    let none : 0 ≤ length bs = omega arith in
+    search (either-argument, escape, none) depth 9
+argument-within Single b bs = search (rules, either-argument)
+argument-within Double b bs =
+    let escape = part-within (AtFault arguments.BadEscape) Double (escape_of bs) (length bs) (escape-within bs) in
+    let none : 0 ≤ length bs = omega arith in
+    search (either-argument, escape, none) depth 9

@@ -4,6 +4,10 @@ pub mod EndingLemmas
 pub mod ItemLengthLemmas
 pub mod LineLemmas
 pub mod OneCutLemmas
+pub mod OneSpellingLemmas
+pub mod PartLemmas
+pub mod SpelledCallLemmas
+pub mod SpellingLemmas
 pub mod StepLemmas
 pub mod TextItemLemmas
 pub mod WordLemmas

@@ -42,36 +42,36 @@ words_are_runs env line words is =
     at-end reading.items reading.ending words (few-number (length (beginning_words reading)) few.0) few.1
 
 -- what ends a reading that has no item, or the text, is no want of memory
-abbrev Fair : LineEnd → Type 0
-Fair EndOutside = Unit {0}
-Fair EndInside = Unit {0}
-Fair (WrongItem fault) = fault ≢ NoMemory
+abbrev IsFairEnd : LineEnd → Type 0
+IsFairEnd EndOutside = Unit {0}
+IsFairEnd EndInside = Unit {0}
+IsFairEnd (WrongItem fault) = fault ≢ NoMemory
 
-fair-either : (b : Bool) (x y : TextItem LineEnd) → StopsBy Fair x → StopsBy Fair y → StopsBy Fair (if b then x else y)
-fair-either = stops-either Fair
+fair-either : (b : Bool) (x y : TextItem LineEnd) → StopsBy IsFairEnd x → StopsBy IsFairEnd y → StopsBy IsFairEnd (if b then x else y)
+fair-either = stops-either IsFairEnd
 
-fair-item : (env : Env) (state : QuoteState) (b : ℕ) (bs : List ℕ) → StopsBy Fair (word_item env state b bs)
+fair-item : (env : Env) (state : QuoteState) (b : ℕ) (bs : List ℕ) → StopsBy IsFairEnd (word_item env state b bs)
 unfolding word_item
 fair-item env Outside b bs =
-    let escape = stops-part Fair (WrongItem BadEscape) Outside (escape_of bs) (λ is. cc) in
+    let escape = stops-part IsFairEnd (WrongItem BadEscape) Outside (escape_of bs) (λ is. cc) in
     let well : Unit {0} = tt in
     search (fair-either, escape, well) depth 9
 fair-item env Single b bs = let well : Unit {0} = tt in search (fair-either, well) depth 9
 fair-item env Double b bs =
-    let escape = stops-part Fair (WrongItem BadEscape) Double (escape_of bs) (λ is. cc) in
-    let variable = stops-part Fair (WrongItem BadVariable) Double (variable_of env bs) (λ is. cc) in
+    let escape = stops-part IsFairEnd (WrongItem BadEscape) Double (escape_of bs) (λ is. cc) in
+    let variable = stops-part IsFairEnd (WrongItem BadVariable) Double (variable_of env bs) (λ is. cc) in
     let well : Unit {0} = tt in
     search (fair-either, escape, variable, well) depth 9
 
-fair-end : (state : QuoteState) → Fair (line_end state)
+fair-end : (state : QuoteState) → IsFairEnd (line_end state)
 fair-end Outside = tt
 fair-end Single = tt
 fair-end Double = tt
 
-fair-reading : (env : Env) (line : List ℕ) → Fair (line_items env line).ending
-fair-reading env line = ending-by (λ n. Fair) (word_item env) line_end (λ n e fair. fair) (fair-item env) fair-end line Outside 0
+fair-reading : (env : Env) (line : List ℕ) → IsFairEnd (line_items env line).ending
+fair-reading env line = ending-by (λ n. IsFairEnd) (word_item env) line_end (λ n e fair. fair) (fair-item env) fair-end line Outside 0
 
-fair-result : (many : Bool) (ending : LineEnd) (words : List (List ℕ)) → Fair ending → (if many then Err TooManyWords else result_at_end ending words) ≡ Err NoMemory → ⊥
+fair-result : (many : Bool) (ending : LineEnd) (words : List (List ℕ)) → IsFairEnd ending → (if many then Err TooManyWords else result_at_end ending words) ≡ Err NoMemory → ⊥
 fair-result true ending words fair is = cc
 fair-result false EndOutside words fair is = cc
 fair-result false EndInside words fair is = cc

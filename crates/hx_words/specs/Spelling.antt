@@ -8,8 +8,7 @@ use Rattle.hx_words.specs.TextItems.QuoteState.{Outside}
 use Rattle.hx_words.specs.TextItems.TextItem.{Part}
 use Rattle.hx_words.specs.Arguments.{argument_item}
 use Rattle.hx_words.specs.CallForm.{CallForm, CallList}
-use Rattle.hx_words.specs.Calls.{Step, ends_name}
-use Rattle.hx_words.specs.Calls.Step.{Last, More, Faulty}
+use Rattle.hx_words.specs.Calls.{ends_name}
 
 -- A byte and those after it that belong to it, as a plain byte, a quote or an escape: what the table of
 -- items takes for this part, whatever follows.
@@ -20,11 +19,11 @@ IsPart state b bs value after =
 -- One or more arguments with commas between, of which the first is under way in this state: its parts
 -- follow one another, and their values make it up.
 pub data SpellsArguments : QuoteState → List (List ℕ) → List ℕ → Type 0 where
-  NoMore : SpellsArguments Outside ([] ∷ []) []
-  Comma : (args : List (List ℕ)) (text : List ℕ)
+  LastArgument : SpellsArguments Outside ([] ∷ []) []
+  NextArgument : (args : List (List ℕ)) (text : List ℕ)
       → SpellsArguments Outside args text
       → SpellsArguments Outside ([] ∷ args) (comma ∷ text)
-  FirstPart : (state after : QuoteState) (b : ℕ) (bs value arg : List ℕ) (args : List (List ℕ))
+  PartOfArgument : (state after : QuoteState) (b : ℕ) (bs value arg : List ℕ) (args : List (List ℕ))
       (text : List ℕ)
       → IsPart state b bs value after
       → SpellsArguments after (arg ∷ args) text
@@ -69,13 +68,14 @@ pub record BeginsWithCalls (stop : Option ℕ) (text : List ℕ) (list : CallLis
   pub spelled : SpellsCalls stop list.calls prefix
   pub to_end : stop ≡ None → rest ≡ []
 
--- The same of the first call: what a step says of the text that it is a step of. Nothing is said where
--- a call is faulty.
-abbrev pub IsFirstCall : Option ℕ → List ℕ → Step → Type 0
-IsFirstCall stop text (Last call rest) =
+-- The text begins with this last call: the stop byte follows it, if there is one, and then the rest.
+abbrev pub BeginsWithLast : Option ℕ → List ℕ → CallForm → List ℕ → Type 0
+BeginsWithLast stop text call rest =
     (prefix : List ℕ) × SpellsCall stop call prefix
     × (text ≡ prefix ++ (option_to_list stop ++ rest)) × (stop ≡ None → rest ≡ [])
-IsFirstCall stop text (More call rest) =
+
+-- The text begins with this call: a comma follows it, which isn't the stop byte, and then the rest.
+abbrev pub BeginsWithCall : Option ℕ → List ℕ → CallForm → List ℕ → Type 0
+BeginsWithCall stop text call rest =
     (prefix : List ℕ) × SpellsCall stop call prefix
     × (text ≡ prefix ++ comma ∷ rest) × (is_given stop comma ≡ false)
-IsFirstCall stop text (Faulty name fault) = Unit {0}

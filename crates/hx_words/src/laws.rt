@@ -1,8 +1,10 @@
 //! What the definitions amount to: laws, each the contract of a function that does nothing when it
 //! runs.
-ghost use Rattle.std.specs.Prelude.{◌≡◌, ◌≢◌, ◌<◌, ◌≤◌, ◌∷◌, List, ℕ, length};
+ghost use Rattle.std.specs.Prelude.{◌≡◌, ◌≢◌, ◌<◌, ◌≤◌, ◌∷◌, ◌↔◌, List, ℕ, length};
 ghost use Rattle.hx_words.specs.Calls.{step_of, steps_of, further_steps, calls_of};
-ghost use Rattle.hx_words.specs.Calls.Step.{Faulty};
+ghost use Rattle.hx_words.specs.Calls.Step.{Last, More, Faulty};
+ghost use Rattle.hx_words.specs.CallForm.{CallForm, CallList};
+ghost use Rattle.hx_words.specs.Spelling.{BeginsWithCalls, BeginsWithLast, BeginsWithCall};
 ghost use Rattle.hx_words.specs.TextItems.{TextItems};
 ghost use Rattle.hx_base.specs.Pairs.{pairs_of};
 ghost use Rattle.hx_words.specs.Words.{LineEnd, ReadsLine, line_items, beginning_words, result_at_end, runs, words_of};
@@ -32,13 +34,22 @@ pub fn line_law(env: &[(Vec<u8>, Vec<u8>)], line: &[u8])
     ensures never { words_of (pairs_of env.now) line.now ≢ Err WordFault.NoMemory }
 {}
 
-/// What the calls of a text are.
+/// What the calls of a text are: those that spell it.
 ///
-/// A text is read by its first call, and after a comma again by the first call of what follows.
+/// A text has these calls, of which so many bytes were read, exactly where a prefix of that length is
+/// spelled by them (`SpellsCalls`). So one text has one list of calls, and a text that is refused
+/// begins with none. The same holds of the first call of a text. After a comma the rest is read as a
+/// text of its own.
 #[tactic(auto, using(crate::proofs::StepLemmas::steps_repeat, crate::proofs::CallLemmas::step_has_memory, crate::proofs::CallLemmas::calls_have_memory))]
 pub fn call_law(text: &[u8], stop: Option<u8>)
+    ensures calls { (list : CallList) → calls_of stop text.now ≡ Ok list
+        ↔ BeginsWithCalls stop text.now list }
+    ensures last { (call : CallForm) (rest : List ℕ) → step_of stop text.now ≡ Last call rest
+        ↔ BeginsWithLast stop text.now call rest }
+    ensures more { (call : CallForm) (rest : List ℕ) → step_of stop text.now ≡ More call rest
+        ↔ BeginsWithCall stop text.now call rest }
     ensures repeats { steps_of stop text.now
         ≡ step_of stop text.now ∷ further_steps (steps_of stop) (step_of stop text.now) }
-    ensures first_never { (name : List ℕ) → step_of stop text.now ≢ Faulty name ArgFault.NoMemory }
     ensures never { calls_of stop text.now ≢ Err ArgFault.NoMemory }
+    ensures never_first { (name : List ℕ) → step_of stop text.now ≢ Faulty name ArgFault.NoMemory }
 {}
