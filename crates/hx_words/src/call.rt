@@ -49,7 +49,7 @@ impl Call {
         self.args.len()
     }
 
-    /// The argument at place `i`, counted from 0; `None` exactly where `i` isn't below `len`.
+    /// The argument at position `i`; `None` exactly where `i` isn't below `len`.
     pub fn arg(&self, i: usize) -> Option<&[u8]>
         ensures { option_copied result ≡ slice_get self.now.args i }
     {
@@ -58,13 +58,13 @@ impl Call {
     }
 }
 
-/// What the front of a text of calls is.
+/// What a text of calls begins with.
 #[derive(Debug, Drop)]
 pub enum CallStep<'a> {
-    /// The last call, and what stands behind the stop byte, nothing where the text ends.
+    /// The last call, and what follows the stop byte, nothing where the text ends.
     Last { call: Call, rest: &'a [u8] },
-    /// A call with a comma behind it, and what stands behind the comma.
+    /// A call with a comma after it, and what follows the comma.
     More { call: Call, rest: &'a [u8] },
-    /// The name of a call, and what is wrong behind the name.
+    /// The name of a call, and what is wrong after the name.
     Faulty { name: Octets, fault: ArgFault },
 }

@@ -34,7 +34,7 @@ impl Calls {
         self.calls.len()
     }
 
-    /// The call at place `i`, counted from 0; `None` exactly where `i` isn't below `len`.
+    /// The call at position `i`; `None` exactly where `i` isn't below `len`.
     pub fn call(&self, i: usize) -> Option<&Call>
         ensures { option_copied result ≡ slice_get self.now.calls i }
     {

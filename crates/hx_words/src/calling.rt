@@ -1,4 +1,4 @@
-ghost use Rattle.std.specs.Prelude.{◌≡◌, ◌≢◌, ◌<◌, ◌≤◌, length, IfOk, IfErr};
+ghost use Rattle.std.specs.Prelude.{◌≡◌, ◌≢◌, ◌≤◌, length, IfOk, IfErr};
 ghost use Rattle.hx_words.specs.Calls.{calls_of};
 
 use crate::call::CallStep;
@@ -7,30 +7,31 @@ use crate::fault::ArgFault;
 use crate::stepping::next_call;
 use std::alloc::Global;
 
-/// The calls of a text, up to its end, or past the first stop byte outside parentheses, which then has to be there.
+/// The calls that a text spells, as `req.hdr(host),lower`.
 ///
-/// They are what `next_call` gives, repeated behind each comma until it gives the last call or a fault. So the fault
-/// is that of the first call that has one. `NoMemory` says nothing of the text.
-#[tactic(auto, using(crate::proofs::CallProgress::continues_start, crate::proofs::CallProgress::continues_more, crate::proofs::CallProgress::calls_last, crate::proofs::CallProgress::last_within, crate::proofs::CallProgress::calls_faulty, crate::proofs::CallProgress::calls_have_memory))]
+/// With a stop byte the text has to hold one outside parentheses: the first is where the calls end,
+/// and what follows it isn't read. Without one the whole text is read.
+///
+/// Another text is refused for the first call, from the left, with which something is wrong, by the
+/// fault that `next_call` gives for it. `NoMemory` says nothing of the text.
+#[tactic(auto, using(crate::proofs::CallLemmas::continues_start, crate::proofs::CallLemmas::continues_more, crate::proofs::CallLemmas::calls_last, crate::proofs::CallLemmas::last_within, crate::proofs::CallLemmas::calls_faulty))]
 pub fn calls(alloc: Global, text: &[u8], stop: Option<u8>) -> Result<Calls, ArgFault>
     ensures calls { IfOk result (λ calls. calls_of stop text.now ≡ Ok calls) }
-    ensures some { IfOk result (λ calls. 0 < length calls.calls) }
     ensures within { IfOk result (λ calls. calls.used ≤ length text.now) }
     ensures fault { IfErr result
         (λ fault. fault ≢ ArgFault.NoMemory → calls_of stop text.now ≡ Err fault) }
-    ensures never { calls_of stop text.now ≢ Err ArgFault.NoMemory }
 {
     let mut calls = Vec::new(alloc);
     let mut rest = text;
     'calls: loop {
         match next_call(alloc, rest, stop)? {
-            CallStep::More { call, rest: behind } => {
+            CallStep::More { call, rest: after } => {
                 calls.push(call)?;
-                rest = behind;
+                rest = after;
             }
-            CallStep::Last { call, rest: behind } => {
+            CallStep::Last { call, rest: after } => {
                 calls.push(call)?;
-                return Ok(Calls::new(calls, text.len() - behind.len()));
+                return Ok(Calls::new(calls, text.len() - after.len()));
             }
             CallStep::Faulty { name: _, fault } => return Err(fault),
         }

@@ -11,7 +11,7 @@ pub enum WordFault {
     /// The line ends inside a quote.
     #[error("the line ends inside a quote")]
     OpenQuote,
-    /// `\x` stands outside single quotes without two hex digits behind it.
+    /// `\x` stands outside single quotes without two hex digits after it.
     #[error("two hex digits are missing behind \\x")]
     BadEscape,
     /// `$` stands in double quotes and neither `NAME` nor `{NAME}` follows it.
@@ -26,7 +26,7 @@ pub enum WordFault {
 }
 
 impl WordFault {
-    /// The number of a line's fault, from 1 to 4. Want of memory is no fault of a line, and has none.
+    /// The number of a line's fault, from 1 to 4. Out of memory is no fault of a line, and has none.
     pub fn code(self) -> Option<u8>
         ensures { result ≡ word_fault_code self }
     {
@@ -76,13 +76,13 @@ impl From<NoMemory> for WordFault {
 /// Why a text of calls has no calls.
 #[derive(Clone, Copy, Debug, PartialEq, Eq, Error)]
 pub enum ArgFault {
-    /// The text ends outside quotes, either inside the parentheses of a call or without the stop byte.
+    /// `)` is missing, or the stop byte is: the text ends before it, and not inside a quote.
     #[error("the text ends where a call isn't closed")]
     Unclosed,
     /// Neither a comma nor the stop byte follows the parentheses of a call.
     #[error("a comma is missing behind the parentheses of a call")]
     AfterClose,
-    /// `\x` stands in an argument outside single quotes without two hex digits behind it.
+    /// `\x` stands in an argument outside single quotes without two hex digits after it.
     #[error("two hex digits are missing behind \\x in an argument")]
     BadEscape,
     /// The text ends inside a quote.
@@ -94,7 +94,8 @@ pub enum ArgFault {
 }
 
 impl ArgFault {
-    /// The number of a text's fault, from 5 to 8. Want of memory is no fault of a text, and has none.
+    /// The number of a text's fault, from 5 to 8. Out of memory is no fault of a text, and has
+    /// none.
     pub fn code(self) -> Option<u8>
         ensures { result ≡ arg_fault_code self }
     {

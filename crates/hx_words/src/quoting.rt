@@ -1,5 +1,6 @@
 ghost use Rattle.std.specs.Prelude.{◌≡◌, ◌∷◌, ◌++◌, [], ◌+◌, ◌≤◌, length, drop, MatchOption, IfSome, OnOk};
-ghost use Rattle.hx_words.specs.Quoting.{escape_of, hex_escape, hex_value, part_seen, value_bytes};
+ghost use Rattle.hx_words.specs.Quoting.{escape_of, hex_escape, hex_value};
+ghost use Rattle.hx_words.specs.TokenView.{bytes_of, escape_view};
 
 use hx_text::{NoMemory, Octets};
 
@@ -13,36 +14,36 @@ pub(crate) enum Mode {
 
 /// The bytes that a part of a text stands for.
 #[derive(Clone, Copy)]
-pub(crate) enum Value<'a> {
+pub(crate) enum PartValue<'a> {
     Nothing,
     One(u8),
     Two(u8, u8),
     Lent(&'a [u8]),
 }
 
-impl Value<'_> {
+impl PartValue<'_> {
     /// Appends the bytes to what is there.
     pub(crate) fn append_to(&self, bytes: &mut Octets) -> Result<(), NoMemory>
-        ensures { OnOk result (bytes.new ≡ bytes.old ++ value_bytes self.now) }
+        ensures { OnOk result (bytes.new ≡ bytes.old ++ bytes_of self.now) }
     {
         match self {
-            Value::Nothing => Ok(()),
-            Value::One(first) => bytes.push_all(&[*first]),
-            Value::Two(first, second) => bytes.push_all(&[*first, *second]),
-            Value::Lent(lent) => bytes.push_all(lent),
+            PartValue::Nothing => Ok(()),
+            PartValue::One(first) => bytes.push_all(&[*first]),
+            PartValue::Two(first, second) => bytes.push_all(&[*first, *second]),
+            PartValue::Lent(lent) => bytes.push_all(lent),
         }
     }
 }
 
-/// The first byte, and the bytes behind it.
+/// The first byte, and the bytes after it.
 pub(crate) fn first(bytes: &[u8]) -> Option<(u8, &[u8])>
     ensures { MatchOption result (bytes.now ≡ []) (λ pair. bytes.now ≡ pair.0 ∷ pair.1.now) }
 {
-    let (byte, behind) = bytes.split_first()?;
-    Some((*byte, behind))
+    let (byte, after) = bytes.split_first()?;
+    Some((*byte, after))
 }
 
-/// What stands behind the first `count` bytes.
+/// What follows the first `count` bytes.
 pub(crate) fn skip(bytes: &[u8], count: usize) -> &[u8]
     requires { count ≤ length bytes.now }
     ensures { result.now ≡ drop count bytes.now }
@@ -50,35 +51,35 @@ pub(crate) fn skip(bytes: &[u8], count: usize) -> &[u8]
     &bytes[count..]
 }
 
-/// Reads the bytes behind a backslash that stands outside single quotes: how many of them belong to it, and what
-/// it stands for. `None` is `\x` without two hex digits.
+/// Reads the bytes after a backslash that stands outside single quotes: how many of them belong to
+/// it, and what it stands for. `None` is `\x` without two hex digits.
 #[tactic(auto, unfolding(crate::specs::Quoting::escape_of))]
-pub(crate) fn read_escape<'a>(after: &[u8]) -> Option<(usize, Value<'a>)>
-    ensures value { part_seen result ≡ escape_of after.now }
+pub(crate) fn read_escape<'a>(after: &[u8]) -> Option<(usize, PartValue<'a>)>
+    ensures value { escape_view result ≡ escape_of after.now }
     ensures within { IfSome result (λ part. part.0 ≤ length after.now) }
 {
-    let Some((byte, behind)) = first(after) else {
-        return Some((0, Value::One(b'\\')));
+    let Some((byte, rest)) = first(after) else {
+        return Some((0, PartValue::One(b'\\')));
     };
     match byte {
-        b' ' | b'#' | b'\\' | b'\'' | b'"' => Some((1, Value::One(byte))),
-        b'n' => Some((1, Value::One(b'\n'))),
-        b'r' => Some((1, Value::One(b'\r'))),
-        b't' => Some((1, Value::One(b'\t'))),
-        b'x' => read_hex(behind),
-        _ => Some((1, Value::Two(b'\\', byte))),
+        b' ' | b'#' | b'\\' | b'\'' | b'"' => Some((1, PartValue::One(byte))),
+        b'n' => Some((1, PartValue::One(b'\n'))),
+        b'r' => Some((1, PartValue::One(b'\r'))),
+        b't' => Some((1, PartValue::One(b'\t'))),
+        b'x' => read_hex(rest),
+        _ => Some((1, PartValue::Two(b'\\', byte))),
     }
 }
 
-/// Reads the bytes behind `\x`.
-fn read_hex<'a>(after: &[u8]) -> Option<(usize, Value<'a>)>
-    ensures value { part_seen result ≡ hex_escape after.now }
+/// Reads the bytes after `\x`.
+fn read_hex<'a>(after: &[u8]) -> Option<(usize, PartValue<'a>)>
+    ensures value { escape_view result ≡ hex_escape after.now }
     ensures within { IfSome result (λ part. part.0 ≤ 1 + length after.now) }
 {
-    let (high, behind) = first(after)?;
-    let (low, _) = first(behind)?;
+    let (high, rest) = first(after)?;
+    let (low, _) = first(rest)?;
     match (hex_digit(high), hex_digit(low)) {
-        (Some(high), Some(low)) => Some((3, Value::One(16 * high + low))),
+        (Some(high), Some(low)) => Some((3, PartValue::One(16 * high + low))),
         _ => None,
     }
 }

@@ -1,49 +1,55 @@
-ghost use Rattle.std.specs.Prelude.{◌≡◌, ◌≢◌, ◌≤◌, length, IfOk, IfErr};
+ghost use Rattle.std.specs.Prelude.{◌≡◌, ◌≢◌, length, IfOk, IfErr};
 ghost use Rattle.hx_base.specs.Pairs.{pairs_of};
 ghost use Rattle.hx_words.specs.Words.{words_of};
 
 use crate::fault::WordFault;
-use crate::gathering::Gathering;
+use crate::parts::PartsSoFar;
 use crate::quoting::{Mode, first, skip};
 use crate::token::{Token, item_at};
 use crate::words::Words;
 use std::alloc::Global;
 
-/// The words of a line, by the HAProxy configuration manual 2.4, section 2.2. The line has no line feed at its
-/// end, and `env` has names with their values, of which the first pair of a name counts.
+/// The words of a line of configuration (HAProxy configuration manual 2.4, section 2.2).
 ///
-/// Outside quotes blanks part words and `#` begins a comment; `"` and `'` quote, and `$NAME` and `${NAME}` in
-/// double quotes are the value of a variable, nothing where there is none.
+/// `line` comes without its line feed. `env` has the environment as pairs of a name and a value, and
+/// the first pair of a name counts.
 ///
-/// The fault is the one at the first place that has one: `TooManyWords` where word 257 begins, `BadEscape` at
-/// `\x` without two hex digits, `BadVariable` at a `$` in double quotes that no name follows, and `OpenQuote` at
-/// the line's end inside a quote. At one place `TooManyWords` comes first. `NoMemory` says nothing of the line.
-#[tactic(auto, using(crate::proofs::Progress::goes_start, crate::proofs::Progress::goes_gap, crate::proofs::Progress::goes_part, crate::proofs::Progress::ends_many, crate::proofs::Progress::ends_many_wrong, crate::proofs::Progress::ends_wrong, crate::proofs::Progress::ends_open, crate::proofs::Progress::ends_well))]
+/// Blanks (space, tab) outside quotes separate words, and `#` outside quotes begins a comment. In double
+/// quotes `$NAME` and `${NAME}` stand for the value of a variable, which is empty where `env` doesn't
+/// have it.
+///
+/// The line is refused for what is wrong first from the left:
+/// - `TooManyWords`: a 257th word begins; also where something else is wrong at the very same byte;
+/// - `BadEscape`: `\x` without two hex digits, outside single quotes;
+/// - `BadVariable`: no name follows a `$` in double quotes;
+/// - `OpenQuote`: the line ends inside a quote.
+///
+/// `NoMemory` says nothing of the line.
+#[tactic(auto, using(crate::proofs::WordLemmas::goes_start, crate::proofs::WordLemmas::goes_gap, crate::proofs::WordLemmas::goes_part, crate::proofs::WordLemmas::ends_many, crate::proofs::WordLemmas::ends_many_wrong, crate::proofs::WordLemmas::ends_wrong, crate::proofs::WordLemmas::ends_open, crate::proofs::WordLemmas::ends_well))]
 pub fn split(alloc: Global, env: &[(Vec<u8>, Vec<u8>)], line: &[u8]) -> Result<Words, WordFault>
     ensures words { IfOk result (λ words. words_of (pairs_of env.now) line.now ≡ Ok words) }
-    ensures few { IfOk result (λ words. length words ≤ 256) }
     ensures fault { IfErr result
         (λ fault. fault ≢ WordFault.NoMemory → words_of (pairs_of env.now) line.now ≡ Err fault) }
 {
-    let mut gathered = Gathering::new(alloc);
+    let mut parts = PartsSoFar::new(alloc);
     let mut mode = Mode::Outside;
     let mut rest = line;
     'items: while let Some((byte, after)) = first(rest) {
         match item_at(env, mode, byte, after) {
-            Token::Gap(behind) => {
-                gathered.end_word()?;
-                rest = skip(after, behind);
+            Token::Gap(count) => {
+                parts.end_word()?;
+                rest = skip(after, count);
             }
-            Token::Part(behind, value, next) => {
-                if gathered.is_full() {
+            Token::Part(count, value, next) => {
+                if parts.is_full() {
                     return Err(WordFault::TooManyWords);
                 }
-                gathered.append(alloc, &value)?;
+                parts.append(alloc, &value)?;
                 mode = next;
-                rest = skip(after, behind);
+                rest = skip(after, count);
             }
             Token::Wrong(fault) => {
-                if gathered.is_full() {
+                if parts.is_full() {
                     return Err(WordFault::TooManyWords);
                 }
                 return Err(fault);
@@ -51,7 +57,7 @@ pub fn split(alloc: Global, env: &[(Vec<u8>, Vec<u8>)], line: &[u8]) -> Result<W
         }
     }
     match mode {
-        Mode::Outside => Ok(Words::from_vec(gathered.finish()?)),
+        Mode::Outside => Ok(Words::from_vec(parts.finish()?)),
         Mode::Single | Mode::Double => Err(WordFault::OpenQuote),
     }
 }

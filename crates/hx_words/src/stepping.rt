@@ -1,7 +1,8 @@
-ghost use Rattle.std.specs.Prelude.{◌≡◌, ◌≢◌, ◌≤◌, ◌==◌, ◌∷◌, List, ℕ, ◌&&◌, not, IfOk, length, take};
-ghost use Rattle.hx_words.specs.Calls.{step_of, steps_of, following, behind_call, with_arguments, behind_name, name_len, is_stop, ends_name};
+ghost use Rattle.std.specs.Prelude.{◌≡◌, ◌≤◌, ◌==◌, ◌&&◌, not, IfOk, length, take};
+ghost use Rattle.hx_base.specs.Bytes.{is_given, open_parenthesis};
+ghost use Rattle.hx_words.specs.Calls.{step_of, step_after_call, step_with_arguments, step_after_name, call_name_length, ends_name};
 ghost use Rattle.hx_words.specs.Calls.Step.{Faulty};
-ghost use Rattle.hx_words.specs.CallStep.{step_seen, Shortens};
+ghost use Rattle.hx_words.specs.StepView.{step_view, Shortens};
 
 use crate::argument::read_arguments;
 use crate::call::{Call, CallStep};
@@ -10,36 +11,38 @@ use crate::quoting::{first, skip};
 use hx_text::{NoMemory, Octets};
 use std::alloc::Global;
 
-/// The first call of a text of calls, which `calls` repeats behind each comma.
+/// The first call of a text of calls, for a caller that judges each call before the next is read:
+/// `calls` does this again after each comma.
 ///
-/// Its name ends before `(`, a comma, the stop byte or the text's end. Behind `(` arguments stand between commas up
-/// to `)`, none in `()`; quotes and backslashes are those of a line's words, without variables. Then a comma, the
-/// stop byte or the text's end follows, the last only where there is no stop byte.
+/// The name, which may be empty, ends before `(`, a comma, the stop byte or the text's end. `(` opens
+/// arguments with commas between, up to `)`; `()` has none. They are quoted as the words of a line are
+/// (HAProxy configuration manual 2.4, section 2.2), without variables. A comma, the stop byte or, where
+/// there is no stop byte, the text's end has to follow the call.
 ///
-/// A fault behind the name is answered with the name, so that the caller may judge the name before it: `Unclosed`
-/// where the text ends outside quotes in the parentheses or before the stop byte, `AfterClose` where anything else
-/// follows the parentheses, `BadEscape` at `\x` without two hex digits, and `OpenQuote` where the text ends inside
-/// a quote, whichever comes first. It is never `NoMemory`.
-#[tactic(auto, unfolding(crate::specs::Calls::step_of), using(crate::proofs::StepLaws::steps_repeat, crate::proofs::CallProgress::step_has_memory))]
+/// What is wrong after the name is answered together with the name, so that the caller may judge the
+/// name first. It is the first of these from the left, and never `NoMemory`:
+/// - `BadEscape`: `\x` without two hex digits in an argument, outside single quotes;
+/// - `OpenQuote`: the text ends inside a quote;
+/// - `Unclosed`: the text ends, not inside a quote, before `)` or before the stop byte;
+/// - `AfterClose`: something else follows `)`.
+#[tactic(auto, unfolding(crate::specs::Calls::step_of))]
 pub fn next_call(alloc: Global, text: &[u8], stop: Option<u8>) -> Result<CallStep<'_>, NoMemory>
-    ensures step { IfOk result (λ step. step_seen step ≡ step_of stop text.now) }
+    ensures step { IfOk result (λ step. step_view step ≡ step_of stop text.now) }
     ensures shorter { IfOk result (λ step. Shortens (length text.now) step) }
-    ensures repeats { steps_of stop text.now ≡ step_of stop text.now ∷ following (steps_of stop) (step_of stop text.now) }
-    ensures never { (name : List ℕ) → step_of stop text.now ≢ Faulty name ArgFault.NoMemory }
 {
-    let len = name_length(text, stop);
-    let name = Octets::copy(alloc, front(text, len))?;
-    behind_name(alloc, name, skip(text, len), stop)
+    let len = call_name_len(text, stop);
+    let name = Octets::copy(alloc, prefix(text, len))?;
+    after_name(alloc, name, skip(text, len), stop)
 }
 
 /// A call whose name stands before `rest`.
-fn behind_name(
+fn after_name(
     alloc: Global,
     name: Octets,
     rest: &[u8],
     stop: Option<u8>,
 ) -> Result<CallStep<'_>, NoMemory>
-    ensures step { IfOk result (λ step. step_seen step ≡ behind_name stop name rest.now) }
+    ensures step { IfOk result (λ step. step_view step ≡ step_after_name stop name rest.now) }
     ensures shorter { IfOk result (λ step. Shortens (length rest.now) step) }
 {
     if let Some((byte, after)) = first(rest)
@@ -47,7 +50,7 @@ fn behind_name(
     {
         return with_arguments(alloc, name, after, stop);
     }
-    Ok(behind_call(Call::new(name, Vec::new(alloc)), rest, stop))
+    Ok(after_call(Call::new(name, Vec::new(alloc)), rest, stop))
 }
 
 /// A call whose name and `(` stand before `after`.
@@ -57,19 +60,19 @@ fn with_arguments(
     after: &[u8],
     stop: Option<u8>,
 ) -> Result<CallStep<'_>, NoMemory>
-    ensures step { IfOk result (λ step. step_seen step ≡ with_arguments stop name after.now) }
+    ensures step { IfOk result (λ step. step_view step ≡ step_with_arguments stop name after.now) }
     ensures shorter { IfOk result (λ step. Shortens (length after.now) step) }
 {
     match read_arguments(alloc, after) {
-        Ok(read) => Ok(behind_call(Call::new(name, read.args), read.behind, stop)),
+        Ok(read) => Ok(after_call(Call::new(name, read.args), read.rest, stop)),
         Err(ArgFault::NoMemory) => Err(NoMemory),
         Err(fault) => Ok(CallStep::Faulty { name, fault }),
     }
 }
 
-/// A whole call with `rest` behind it.
-fn behind_call(call: Call, rest: &[u8], stop: Option<u8>) -> CallStep<'_>
-    ensures step { step_seen result ≡ behind_call stop call rest.now }
+/// A whole call that `rest` follows.
+fn after_call(call: Call, rest: &[u8], stop: Option<u8>) -> CallStep<'_>
+    ensures step { step_view result ≡ step_after_call stop call rest.now }
     ensures shorter { Shortens (length rest.now) result }
 {
     match first(rest) {
@@ -90,7 +93,7 @@ fn behind_call(call: Call, rest: &[u8], stop: Option<u8>) -> CallStep<'_>
 }
 
 fn faulty<'a>(call: Call, fault: ArgFault) -> CallStep<'a>
-    ensures step { step_seen result ≡ Faulty call.name fault }
+    ensures step { step_view result ≡ Faulty call.name fault }
     ensures shorter { Shortens 0 result }
 {
     CallStep::Faulty {
@@ -100,7 +103,7 @@ fn faulty<'a>(call: Call, fault: ArgFault) -> CallStep<'a>
 }
 
 /// The first `count` bytes.
-fn front(bytes: &[u8], count: usize) -> &[u8]
+fn prefix(bytes: &[u8], count: usize) -> &[u8]
     requires { count ≤ length bytes.now }
     ensures { result.now ≡ take count bytes.now }
 {
@@ -108,8 +111,8 @@ fn front(bytes: &[u8], count: usize) -> &[u8]
 }
 
 /// How long the name is that a text begins with.
-fn name_length(text: &[u8], stop: Option<u8>) -> usize
-    ensures len { result ≡ name_len stop text.now }
+fn call_name_len(text: &[u8], stop: Option<u8>) -> usize
+    ensures len { result ≡ call_name_length stop text.now }
     ensures within { result ≤ length text.now }
 {
     text.iter().take_while(|b| goes_on(**b, stop)).count()
@@ -124,14 +127,14 @@ fn goes_on(byte: u8, stop: Option<u8>) -> bool
 
 /// Whether the byte begins arguments.
 fn opens(byte: u8, stop: Option<u8>) -> bool
-    ensures { result ≡ (byte == 40 && not (is_stop stop byte)) }
+    ensures { result ≡ (byte == open_parenthesis && not (is_given stop byte)) }
 {
     byte == b'(' && !stops(byte, stop)
 }
 
 /// Whether the byte is the stop byte.
 fn stops(byte: u8, stop: Option<u8>) -> bool
-    ensures { result ≡ is_stop stop byte }
+    ensures { result ≡ is_given stop byte }
 {
     match stop {
         None => false,

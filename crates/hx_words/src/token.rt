@@ -1,20 +1,20 @@
-ghost use Rattle.std.specs.Prelude.{◌≡◌, length};
+ghost use Rattle.std.specs.Prelude.{◌≡◌, ◌≤◌, length};
 ghost use Rattle.hx_words.specs.Quoting.{escape_of};
-ghost use Rattle.hx_words.specs.Reading.{part_or, single_item};
-ghost use Rattle.hx_words.specs.Token.{item_of, TakesWithin};
+ghost use Rattle.hx_words.specs.TextItems.{following_count, part_or, single_item};
+ghost use Rattle.hx_words.specs.TokenView.{word_item_of, state_of};
 ghost use Rattle.hx_base.specs.Pairs.{pairs_of};
 ghost use Rattle.hx_words.specs.Words.{word_item, outside_item, double_item, double_escape};
-ghost use Rattle.hx_words.specs.Words.LineEnd.{NoItem};
+ghost use Rattle.hx_words.specs.Words.LineEnd.{WrongItem};
 
 use crate::fault::WordFault;
-use crate::quoting::{Mode, Value, read_escape};
+use crate::quoting::{Mode, PartValue, read_escape};
 use crate::variable::{starts_with, variable};
 
-/// The item at the front of a line, with how many of the bytes behind its first belong to it.
+/// The item that a text begins with, with how many of the bytes after its first belong to it.
 #[derive(Clone, Copy)]
 pub(crate) enum Token<'a> {
     Gap(usize),
-    Part(usize, Value<'a>, Mode),
+    Part(usize, PartValue<'a>, Mode),
     Wrong(WordFault),
 }
 
@@ -26,8 +26,9 @@ pub(crate) fn item_at<'a>(
     byte: u8,
     after: &[u8],
 ) -> Token<'a>
-    ensures item { item_of result ≡ word_item (pairs_of env.now) mode byte after.now }
-    ensures within { TakesWithin (length after.now) result }
+    ensures item { word_item_of result
+        ≡ word_item (pairs_of env.now) (state_of mode) byte after.now }
+    ensures within { following_count (word_item_of result) ≤ length after.now }
 {
     match mode {
         Mode::Outside => outside(byte, after),
@@ -37,62 +38,63 @@ pub(crate) fn item_at<'a>(
 }
 
 fn outside<'a>(byte: u8, after: &[u8]) -> Token<'a>
-    ensures item { item_of result ≡ outside_item byte after.now }
-    ensures within { TakesWithin (length after.now) result }
+    ensures item { word_item_of result ≡ outside_item byte after.now }
+    ensures within { following_count (word_item_of result) ≤ length after.now }
 {
     match byte {
         b' ' | b'\t' => Token::Gap(0),
         b'#' => Token::Gap(after.len()),
-        b'"' => Token::Part(0, Value::Nothing, Mode::Double),
-        b'\'' => Token::Part(0, Value::Nothing, Mode::Single),
+        b'"' => Token::Part(0, PartValue::Nothing, Mode::Double),
+        b'\'' => Token::Part(0, PartValue::Nothing, Mode::Single),
         b'\\' => plain_escape(Mode::Outside, after),
-        _ => Token::Part(0, Value::One(byte), Mode::Outside),
+        _ => Token::Part(0, PartValue::One(byte), Mode::Outside),
     }
 }
 
 fn double<'a>(env: &'a [(Vec<u8>, Vec<u8>)], byte: u8, after: &[u8]) -> Token<'a>
-    ensures item { item_of result ≡ double_item (pairs_of env.now) byte after.now }
-    ensures within { TakesWithin (length after.now) result }
+    ensures item { word_item_of result ≡ double_item (pairs_of env.now) byte after.now }
+    ensures within { following_count (word_item_of result) ≤ length after.now }
 {
     match byte {
-        b'"' => Token::Part(0, Value::Nothing, Mode::Outside),
+        b'"' => Token::Part(0, PartValue::Nothing, Mode::Outside),
         b'$' => match variable(env, after) {
             None => Token::Wrong(WordFault::BadVariable),
-            Some((behind, value)) => Token::Part(behind, Value::Lent(value), Mode::Double),
+            Some((count, value)) => Token::Part(count, PartValue::Lent(value), Mode::Double),
         },
         b'\\' => dollar_escape(after),
-        _ => Token::Part(0, Value::One(byte), Mode::Double),
+        _ => Token::Part(0, PartValue::One(byte), Mode::Double),
     }
 }
 
 fn single<'a>(byte: u8) -> Token<'a>
-    ensures item { item_of result ≡ single_item byte }
-    ensures within { TakesWithin 0 result }
+    ensures item { word_item_of result ≡ single_item byte }
+    ensures within { following_count (word_item_of result) ≡ 0 }
 {
     match byte {
-        b'\'' => Token::Part(0, Value::Nothing, Mode::Outside),
-        _ => Token::Part(0, Value::One(byte), Mode::Single),
+        b'\'' => Token::Part(0, PartValue::Nothing, Mode::Outside),
+        _ => Token::Part(0, PartValue::One(byte), Mode::Single),
     }
 }
 
 /// A backslash in double quotes.
 fn dollar_escape<'a>(after: &[u8]) -> Token<'a>
-    ensures item { item_of result ≡ double_escape after.now }
-    ensures within { TakesWithin (length after.now) result }
+    ensures item { word_item_of result ≡ double_escape after.now }
+    ensures within { following_count (word_item_of result) ≤ length after.now }
 {
     if starts_with(after, b'$') {
-        return Token::Part(1, Value::One(b'$'), Mode::Double);
+        return Token::Part(1, PartValue::One(b'$'), Mode::Double);
     }
     plain_escape(Mode::Double, after)
 }
 
 /// A backslash outside quotes, and one in double quotes before any byte but `$`.
 fn plain_escape<'a>(mode: Mode, after: &[u8]) -> Token<'a>
-    ensures item { item_of result ≡ part_or (NoItem WordFault.BadEscape) mode (escape_of after.now) }
-    ensures within { TakesWithin (length after.now) result }
+    ensures item { word_item_of result
+        ≡ part_or (WrongItem WordFault.BadEscape) (state_of mode) (escape_of after.now) }
+    ensures within { following_count (word_item_of result) ≤ length after.now }
 {
     match read_escape(after) {
         None => Token::Wrong(WordFault::BadEscape),
-        Some((behind, value)) => Token::Part(behind, value, mode),
+        Some((count, value)) => Token::Part(count, value, mode),
     }
 }

@@ -1,17 +1,18 @@
 ghost use Rattle.std.specs.Prelude.{◌≡◌, ◌+◌, ◌≤◌, IsTrue, take, length, option_map, IfSome};
 ghost use Rattle.hx_base.specs.Pairs.{pairs_of};
-ghost use Rattle.hx_words.specs.Variable.{env_value, variable_of, name_length, begins_with, is_name_byte, plain_name, braced_name, named};
+ghost use Rattle.hx_words.specs.Variable.{env_value, variable_of, variable_name, variable_name_length, begins_with, is_name_byte, plain_name, braced_name};
 ghost use Rattle.std.specs.List.{prefix_len};
 
 use crate::quoting::first;
 
-/// Reads the bytes behind a `$` in double quotes: how many of them name a variable, and its value.
+/// Reads the bytes after a `$` in double quotes: how many of them name a variable, and its value.
 #[tactic(auto, unfolding(crate::specs::Variable::variable_of))]
 pub(crate) fn variable<'a>(env: &'a [(Vec<u8>, Vec<u8>)], after: &[u8]) -> Option<(usize, &'a [u8])>
-    ensures value { option_map (λ found. (found.0, found.1.now)) result ≡ variable_of (pairs_of env.now) after.now }
+    ensures value { option_map (λ found. (found.0, found.1.now)) result
+        ≡ variable_of (pairs_of env.now) after.now }
     ensures within { IfSome result (λ found. found.0 ≤ length after.now) }
 {
-    let (taken, name) = name_behind(after)?;
+    let (taken, name) = name_after_dollar(after)?;
     Some((taken, lookup(env, name)))
 }
 
@@ -28,13 +29,13 @@ fn lookup<'a>(env: &'a [(Vec<u8>, Vec<u8>)], name: &[u8]) -> &'a [u8]
 }
 
 /// The name that `$` is followed by, and how many bytes spell it, braces included.
-fn name_behind(after: &[u8]) -> Option<(usize, &[u8])>
-    ensures value { option_map (λ found. (found.0, found.1.now)) result ≡ named after.now }
+fn name_after_dollar(after: &[u8]) -> Option<(usize, &[u8])>
+    ensures value { option_map (λ found. (found.0, found.1.now)) result ≡ variable_name after.now }
     ensures within { IfSome result (λ found. found.0 ≤ length after.now) }
 {
-    let (byte, behind) = first(after)?;
+    let (byte, rest) = first(after)?;
     if byte == b'{' {
-        braced(behind)
+        braced(rest)
     } else {
         plain(after)
     }
@@ -44,7 +45,7 @@ fn plain(bytes: &[u8]) -> Option<(usize, &[u8])>
     ensures value { option_map (λ found. (found.0, found.1.now)) result ≡ plain_name bytes.now }
     ensures within { IfSome result (λ found. found.0 ≤ length bytes.now) }
 {
-    let len = name_len(bytes);
+    let len = variable_name_len(bytes);
     if len == 0 {
         return None;
     }
@@ -55,7 +56,7 @@ fn braced(bytes: &[u8]) -> Option<(usize, &[u8])>
     ensures value { option_map (λ found. (found.0, found.1.now)) result ≡ braced_name bytes.now }
     ensures within { IfSome result (λ found. found.0 ≤ 1 + length bytes.now) }
 {
-    let len = name_len(bytes);
+    let len = variable_name_len(bytes);
     if len == 0 || !starts_with(&bytes[len..], b'}') {
         return None;
     }
@@ -63,8 +64,8 @@ fn braced(bytes: &[u8]) -> Option<(usize, &[u8])>
 }
 
 /// How long the name is that the bytes begin with, 0 where they begin with none.
-fn name_len(bytes: &[u8]) -> usize
-    ensures value { result ≡ name_length bytes.now }
+fn variable_name_len(bytes: &[u8]) -> usize
+    ensures value { result ≡ variable_name_length bytes.now }
     ensures within { result ≤ length bytes.now }
 {
     match first(bytes) {

@@ -38,7 +38,7 @@ impl Words {
         self.words.is_empty()
     }
 
-    /// The word at place `i`, counted from 0; `None` exactly where `i` isn't below `len`.
+    /// The word at position `i`; `None` exactly where `i` isn't below `len`.
     pub fn word(&self, i: usize) -> Option<&[u8]>
         ensures { option_copied result ≡ slice_get self.now i }
     {

@@ -1,5 +1,5 @@
 use Rattle.std.proofs.Common.{length}
-use Rattle.hx_words.proofs.CallProgress.{Continues}
+use Rattle.hx_words.proofs.CallLemmas.{Continues}
 use Rattle.hx_words.proofs.calling.calls.Given as goal
 
 abbrev pub invariant-calls : goal.invariant-calls

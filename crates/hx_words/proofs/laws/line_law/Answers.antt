@@ -1,5 +1,5 @@
 use Rattle.hx_base.specs.Pairs.{pairs_of}
-use Rattle.hx_words.proofs.LineLaws.{words_are_runs}
+use Rattle.hx_words.proofs.LineLemmas.{words_are_runs}
 use Rattle.hx_words.proofs.laws.line_law.Goals as goal
 
 pub returns-clause-words : goal.returns-clause-words

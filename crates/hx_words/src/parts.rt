@@ -1,26 +1,27 @@
 ghost use Rattle.std.specs.Prelude.{◌≡◌, ◌++◌, ◌∷◌, [], ◌≤◌, ◌↔◌, length, IsTrue, IsNone, OnOk, IfOk, unwrap_or, option_to_list};
-ghost use Rattle.hx_words.specs.Quoting.{value_bytes};
+ghost use Rattle.hx_words.specs.TokenView.{bytes_of};
 
-use crate::quoting::Value;
+use crate::quoting::PartValue;
 use hx_text::{NoMemory, Octets};
 use std::alloc::Global;
 
 /// The most words that a line may have.
 const MOST_WORDS: usize = 256;
 
-/// The words of a line so far: those that have ended, and the one under way.
+/// The words of a line, or the arguments of a call, so far: those that have ended, and the one under
+/// way.
 #[derive(Drop)]
-pub(crate) struct Gathering {
+pub(crate) struct PartsSoFar {
     done: Vec<Octets>,
     word: Option<Octets>,
 }
 
-impl Gathering {
-    pub(crate) fn new(alloc: Global) -> Gathering
+impl PartsSoFar {
+    pub(crate) fn new(alloc: Global) -> PartsSoFar
         ensures done { result.done.items ≡ [] }
         ensures word { result.word ≡ None }
     {
-        Gathering {
+        PartsSoFar {
             done: Vec::new(alloc),
             word: None,
         }
@@ -34,9 +35,10 @@ impl Gathering {
     }
 
     /// Appends to the word under way, or begins one.
-    pub(crate) fn append(&mut self, alloc: Global, value: &Value) -> Result<(), NoMemory>
+    pub(crate) fn append(&mut self, alloc: Global, value: &PartValue) -> Result<(), NoMemory>
         ensures done { OnOk result (self.new.done.items ≡ self.old.done.items) }
-        ensures word { OnOk result (self.new.word ≡ Some (unwrap_or self.old.word [] ++ value_bytes value.now)) }
+        ensures word { OnOk result
+            (self.new.word ≡ Some (unwrap_or self.old.word [] ++ bytes_of value.now)) }
     {
         let mut word = match self.word.take() {
             Some(word) => word,
@@ -49,7 +51,8 @@ impl Gathering {
 
     /// Ends the word under way, if there is one.
     pub(crate) fn end_word(&mut self) -> Result<(), NoMemory>
-        ensures done { OnOk result (self.new.done.items ≡ self.old.done.items ++ option_to_list self.old.word) }
+        ensures done { OnOk result
+            (self.new.done.items ≡ self.old.done.items ++ option_to_list self.old.word) }
         ensures word { OnOk result (self.new.word ≡ None) }
     {
         if let Some(word) = self.word.take() {
@@ -58,9 +61,10 @@ impl Gathering {
         Ok(())
     }
 
-    /// Ends the part under way, which is empty where none is, and begins another.
+    /// Ends the part under way, an empty one where there is none, and begins another.
     pub(crate) fn separate(&mut self, alloc: Global) -> Result<(), NoMemory>
-        ensures done { OnOk result (self.new.done.items ≡ self.old.done.items ++ unwrap_or self.old.word [] ∷ []) }
+        ensures done { OnOk result
+            (self.new.done.items ≡ self.old.done.items ++ unwrap_or self.old.word [] ∷ []) }
         ensures word { OnOk result (self.new.word ≡ Some []) }
     {
         let empty = Octets::from_vec(Vec::new(alloc));
@@ -73,13 +77,13 @@ impl Gathering {
         Ok(())
     }
 
-    /// What was gathered, the part under way at its end.
+    /// All parts, the one under way last.
     pub(crate) fn finish(self) -> Result<Vec<Octets>, NoMemory>
         ensures { IfOk result (λ all. all.items ≡ self.done.items ++ option_to_list self.word) }
     {
-        let mut gathered = self;
-        gathered.end_word()?;
-        let Gathering { done, word: _ } = gathered;
+        let mut parts = self;
+        parts.end_word()?;
+        let PartsSoFar { done, word: _ } = parts;
         Ok(done)
     }
 }

@@ -1,4 +1,4 @@
--- A step of the code, as the definitions have it.
+-- The public `CallStep` as the definitions have it.
 use Rattle.std.specs.Prelude.{ℕ, ◌<◌, ◌≤◌, length}
 use Rattle.hx_words.specs.declared.call.CallStep.{CallStep}
 use Rattle.hx_words.specs.declared.call.CallStep.TheVariants as code
@@ -6,12 +6,13 @@ use Rattle.hx_words.specs.Calls.{Step}
 use Rattle.hx_words.specs.Calls.Step.{Last, More, Faulty}
 
 -- what a step says
-abbrev pub step_seen : CallStep → Step
-step_seen (code.Last call rest) = Last call rest.now
-step_seen (code.More call rest) = More call rest.now
-step_seen (code.Faulty name fault) = Faulty name fault
+abbrev pub step_view : CallStep → Step
+step_view (code.Last call rest) = Last call rest.now
+step_view (code.More call rest) = More call rest.now
+step_view (code.Faulty name fault) = Faulty name fault
 
--- what a step leaves unread of a text of this length is no longer, and shorter where another call follows
+-- what a step leaves unread of a text of this length is no longer, and shorter where another call
+-- follows
 abbrev pub Shortens : ℕ → CallStep → Type 0
 Shortens len (code.Last call rest) = length rest.now ≤ len
 Shortens len (code.More call rest) = length rest.now < len
