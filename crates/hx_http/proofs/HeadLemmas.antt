@@ -68,21 +68,21 @@ head_is_one h passes =
 begins_where_reads : (bytes : List ℕ) (h : RequestHead) (rest : List ℕ) → ReadsRequest bytes h rest → begins_with_head bytes h ≡ true
 begins_where_reads bytes h rest reads =
     let n = length (print_request h) in
-    let front = ap (λ (xs : List ℕ). take n xs) reads.1 ∙ take_at (print_request h) rest n refl in
-    and_from (is_request_head h) _ (head_passes h reads.0) ((bytes_eq-Decides (take n bytes) (print_request h)).1 front)
+    let prefix = ap (λ (xs : List ℕ). take n xs) reads.1 ∙ take_at (print_request h) rest n refl in
+    and_from (is_request_head h) _ (head_passes h reads.0) ((bytes_eq-Decides (take n bytes) (print_request h)).1 prefix)
 
 reads_where_begins : (bytes : List ℕ) (h : RequestHead) → begins_with_head bytes h ≡ true → ReadsRequest bytes h (drop (length (print_request h)) bytes)
 reads_where_begins bytes h starts =
     let n = length (print_request h) in
     let both = and_parts (is_request_head h) _ starts in
-    let front = (bytes_eq-Decides (take n bytes) (print_request h)).0 both.1 in
-    (head_is_one h both.0, sym (take-append-drop n bytes) ∙ ap (λ (xs : List ℕ). xs ++ drop n bytes) front)
+    let prefix = (bytes_eq-Decides (take n bytes) (print_request h)).0 both.1 in
+    (head_is_one h both.0, sym (take-append-drop n bytes) ∙ ap (λ (xs : List ℕ). xs ++ drop n bytes) prefix)
 
 -- ---- the laws
 
-judged_is : (bytes : List ℕ) (h : RequestHead) → ((k : RequestHead) (rest : List ℕ) → ReadsRequest bytes k rest → h ≡ k)
+head_by_parts_is : (bytes : List ℕ) (h : RequestHead) → ((k : RequestHead) (rest : List ℕ) → ReadsRequest bytes k rest → h ≡ k)
     → IsHead bytes (head_by_parts bytes h)
-judged_is bytes h only =
+head_by_parts_is bytes h only =
     cond_both (begins_with_head bytes h) _ none (IsHead bytes)
     (λ starts.
     let reads = reads_where_begins bytes h starts in
@@ -95,7 +95,7 @@ judged_is bytes h only =
 pub head_is : GivesHeads head_of
 unfolding head_of
 head_is bytes =
-    judged_is bytes (possible_head bytes)
+    head_by_parts_is bytes (possible_head bytes)
     (λ k rest reads. ap possible_head reads.1 ∙ read_back k rest reads.0)
 
 one_head : (bytes : List ℕ) (a b : Head) → IsHead bytes a → IsHead bytes b → a ≡ b

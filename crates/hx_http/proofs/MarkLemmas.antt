@@ -24,14 +24,14 @@ occurs_where_starts text mark at within starts =
     }
 
 -- the occurrence that comes first is the one that `after_mark` takes
-after_place : (mark text : List ℕ) (at : ℕ) → at < length text
+after_position : (mark text : List ℕ) (at : ℕ) → at < length text
     → ((k : ℕ) → k < at → starts_with nat_eq (drop k text) mark ≡ false) → starts_with nat_eq (drop at text) mark ≡ true
     → after_mark mark text ≡ Some (drop (length mark) (drop at text))
-after_place mark [] at within before here = absurd (omega arith)
-after_place mark (b ∷ text) zero within before here = cond-true _ _ _ here
-after_place mark (b ∷ text) (suc at) within before here =
+after_position mark [] at within before here = absurd (omega arith)
+after_position mark (b ∷ text) zero within before here = cond-true _ _ _ here
+after_position mark (b ∷ text) (suc at) within before here =
     cond-false _ _ _ (before 0 (omega arith))
-    ∙ after_place mark text at (omega arith) (λ k below. before (suc k) (omega arith)) here
+    ∙ after_position mark text at (omega arith) (λ k below. before (suc k) (omega arith)) here
 
 after_nowhere : (mark text : List ℕ) → ((k : ℕ) → k < length text → starts_with nat_eq (drop k text) mark ≡ false)
     → after_mark mark text ≡ None
@@ -43,7 +43,7 @@ pub after_mark_at : (mark text : List ℕ) (at : ℕ) → 0 < length mark → Fi
     → after_mark mark text ≡ Some (drop (at + length mark) text)
 after_mark_at mark text at some found =
     let fits = found.1.fits in
-    after_place mark text at (omega arith)
+    after_position mark text at (omega arith)
     (λ k below. false_from_ne_true _ (λ starts. found.0.before k (omega arith) below (occurs_where_starts text mark k (omega arith) starts)))
     (starts_where_occurs text mark at found.1)
     ∙ ap Some (drop-drop (length mark) at text)

@@ -52,24 +52,24 @@ plain_by_test text passes =
 
 -- ---- cutting at a byte
 
-cut_place : (p : ℕ → Bool) (word : List ℕ) (stop : ℕ) (rest : List ℕ) → All (λ b. p b ≡ false) word → p stop ≡ true
+cut_position : (p : ℕ → Bool) (word : List ℕ) (stop : ℕ) (rest : List ℕ) → All (λ b. p b ≡ false) word → p stop ≡ true
     → position_or_len p (word ++ stop ∷ rest) ≡ length word
-cut_place p [] stop rest none here = cond-false (not (p stop)) _ 0 (not_from_true (p stop) here)
-cut_place p (b ∷ word) stop rest none here =
+cut_position p [] stop rest none here = cond-false (not (p stop)) _ 0 (not_from_true (p stop) here)
+cut_position p (b ∷ word) stop rest none here =
     let first = All-head (λ x. p x ≡ false) b word none in
-    let more = cut_place p word stop rest (All-tail (λ x. p x ≡ false) b word none) here in
+    let more = cut_position p word stop rest (All-tail (λ x. p x ≡ false) b word none) here in
     cond-true (not (p b)) _ 0 (not_from_false (p b) first) ∙ omega (arith, more)
 
 before_cut : (p : ℕ → Bool) (word : List ℕ) (stop : ℕ) (rest : List ℕ) → All (λ b. p b ≡ false) word → p stop ≡ true
     → before_first p (word ++ stop ∷ rest) ≡ word
 before_cut p word stop rest none here =
-    ap (λ n. take n (word ++ stop ∷ rest)) (cut_place p word stop rest none here)
+    ap (λ n. take n (word ++ stop ∷ rest)) (cut_position p word stop rest none here)
     ∙ take_at word (stop ∷ rest) (length word) refl
 
 after_cut : (p : ℕ → Bool) (word : List ℕ) (stop : ℕ) (rest : List ℕ) → All (λ b. p b ≡ false) word → p stop ≡ true
     → after_first p (word ++ stop ∷ rest) ≡ rest
 after_cut p word stop rest none here =
-    ap (λ n. drop (n + 1) (word ++ stop ∷ rest)) (cut_place p word stop rest none here)
+    ap (λ n. drop (n + 1) (word ++ stop ∷ rest)) (cut_position p word stop rest none here)
     ∙ sym (drop-drop 1 (length word) (word ++ stop ∷ rest))
     ∙ ap (λ (xs : List ℕ). drop 1 xs) (drop_at word (stop ∷ rest) (length word) refl)
 

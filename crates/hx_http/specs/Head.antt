@@ -25,7 +25,9 @@ abbrev pub IsHead : List ℕ → Head → Type 0
 IsHead bytes (message m n) =
     (h : RequestHead) × ReadsRequest bytes h (drop n bytes) × (n ≡ length (print_request h))
     × (length h.fields ≤ header_limit) × (m ≡ parts h)
-IsHead bytes many = (h : RequestHead) × (rest : List ℕ) × ReadsRequest bytes h rest × (header_limit < length h.fields)
+IsHead bytes many =
+    (h : RequestHead) × (rest : List ℕ) × ReadsRequest bytes h rest
+    × (header_limit < length h.fields)
 IsHead bytes none = HasNoRequest bytes
 
 -- The text begins with a head, whatever the number of its header lines.
@@ -47,13 +49,16 @@ is_request_head h =
 
 -- Whether the parts are of their kinds, and the bytes begin with the head when it is printed.
 abbrev pub begins_with_head : List ℕ → RequestHead → Bool
-begins_with_head bytes h = is_request_head h && bytes_eq (take (length (print_request h)) bytes) (print_request h)
+begins_with_head bytes h =
+    is_request_head h && bytes_eq (take (length (print_request h)) bytes) (print_request h)
 
 -- What the bytes begin with, where no other parts can be those of a head.
 abbrev pub head_by_parts : List ℕ → RequestHead → Head
 head_by_parts bytes h =
-    if begins_with_head bytes h then (if nat_le (length h.fields) header_limit then message (parts h) (length (print_request h)) else many)
-    else none
+    if begins_with_head bytes h then (
+    if nat_le (length h.fields) header_limit then message (parts h) (length (print_request h))
+    else many
+    ) else none
 
 -- The function: what the bytes begin with. `IsHead bytes (head_of bytes)` holds, and `IsHead bytes
 -- head` holds for no other head.

@@ -1,5 +1,5 @@
--- For callers: the parts of a head, what a request's bytes begin with, and the path and the query of
--- a target.
+-- For callers: the parts of a head, what a request's bytes begin with, and the path and the query
+-- of a target.
 pub mod Parts
 pub mod Head
 pub mod Target

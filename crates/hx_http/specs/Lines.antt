@@ -23,7 +23,8 @@ is_lf_alone lf = true
 -- the line's end.
 abbrev pub longer_line : ℕ → Line → Line
 longer_line b line =
-    if b == carriage_return && (is_empty line && is_lf_alone line.end) then record { text = []; end = crlf }
+    if b == carriage_return && (is_empty line && is_lf_alone line.end)
+    then record { text = []; end = crlf }
     else record { text = b ∷ line.text; end = line.end }
 
 -- The lines with one byte more before the first.
@@ -35,12 +36,15 @@ longer_lines b (line ∷ lines) = longer_line b line ∷ lines
 -- after the last line feed is no line.
 abbrev pub head_lines : List ℕ → List Line
 head_lines [] = []
-head_lines (b ∷ bytes) = if b == line_feed then record { text = []; end = lf } ∷ head_lines bytes else longer_lines b (head_lines bytes)
+head_lines (b ∷ bytes) =
+    if b == line_feed then record { text = []; end = lf } ∷ head_lines bytes
+    else longer_lines b (head_lines bytes)
 
 -- The ends of the empty lines that come first.
 abbrev pub leading_empty_ends : List Line → List LineEnd
 leading_empty_ends [] = []
-leading_empty_ends (line ∷ lines) = if is_empty line then line.end ∷ leading_empty_ends lines else []
+leading_empty_ends (line ∷ lines) =
+    if is_empty line then line.end ∷ leading_empty_ends lines else []
 
 -- The lines without the empty ones that come first.
 abbrev pub lines_after_empty : List Line → List Line
@@ -58,7 +62,8 @@ field_of line = record {
 -- The lines up to the first empty one, read as header lines.
 abbrev pub fields_before_empty : List Line → List Field
 fields_before_empty [] = []
-fields_before_empty (line ∷ lines) = if is_empty line then [] else field_of line ∷ fields_before_empty lines
+fields_before_empty (line ∷ lines) =
+    if is_empty line then [] else field_of line ∷ fields_before_empty lines
 
 -- The end of the first empty line.
 abbrev pub first_empty_end : List Line → LineEnd
@@ -79,7 +84,15 @@ minor_of version = if bytes_eq version (print_version 0) then 0 else 1
 -- The lines after the empty ones, read as a head: a request line of three words (RFC 9112,
 -- section 3), and header lines up to an empty line (section 5).
 abbrev pub head_of_lines : List LineEnd → List Line → RequestHead
-head_of_lines blank [] = record { blank = blank; method = []; target = []; minor = 0; line_end = lf; fields = []; last = lf }
+head_of_lines blank [] = record {
+  blank = blank;
+  method = [];
+  target = [];
+  minor = 0;
+  line_end = lf;
+  fields = [];
+  last = lf;
+}
 head_of_lines blank (line ∷ lines) = record {
   blank = blank;
   method = first_word line.text;
@@ -93,4 +106,6 @@ head_of_lines blank (line ∷ lines) = record {
 -- The one head that could begin the bytes. Any bytes give one: they begin with it only where its
 -- parts are of their kinds and it prints as the bytes.
 abbrev pub possible_head : List ℕ → RequestHead
-possible_head bytes = let lines = head_lines bytes in head_of_lines (leading_empty_ends lines) (lines_after_empty lines)
+possible_head bytes =
+    let lines = head_lines bytes in
+    head_of_lines (leading_empty_ends lines) (lines_after_empty lines)

@@ -25,14 +25,16 @@ from_slash text = option_map (λ cut. slash ∷ cut.1) (cut_of slash text)
 abbrev pub after_mark : List ℕ → List ℕ → Option (List ℕ)
 after_mark mark [] = None
 after_mark mark (b ∷ text) =
-    if starts_with nat_eq (b ∷ text) mark then Some (drop (length mark) (b ∷ text)) else after_mark mark text
+    if starts_with nat_eq (b ∷ text) mark then Some (drop (length mark) (b ∷ text))
+    else after_mark mark text
 
 -- The path in what stands before the query: all of it where it begins with `/` (RFC 9112, section
 -- 3.2.1); of an absolute URI, the part from the first `/` after the `://` on (section 3.2.2), which
 -- is absent where the URI ends with its authority; and absent in any other target, such as `*`.
 abbrev pub path_before_query : List ℕ → Option (List ℕ)
 path_before_query text =
-    if starts_with nat_eq text (codes "/") then Some text else option_and_then from_slash (after_mark (codes "://") text)
+    if starts_with nat_eq text (codes "/") then Some text
+    else option_and_then from_slash (after_mark (codes "://") text)
 
 -- The path of a target, which ends before the first `?`.
 abbrev pub path_of : List ℕ → Option (List ℕ)

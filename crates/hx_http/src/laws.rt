@@ -24,6 +24,7 @@ pub fn query_of_a_target(target: &[u8])
 pub fn path_of_a_target(target: &[u8])
     ensures parts { (path : List ℕ) → path_of target.now ≡ Some path
         → (prefix : List ℕ) × HasPath target.now prefix path (query_of target.now) }
-    ensures only { (prefix path : List ℕ) (query : Option (List ℕ)) → HasPath target.now prefix path query
+    ensures only { (prefix path : List ℕ) (query : Option (List ℕ))
+        → HasPath target.now prefix path query
         → (path_of target.now ≡ Some path) × (query_of target.now ≡ query) }
 {}

@@ -70,7 +70,8 @@ impl Message {
     /// there are no more than `i` lines. The name is as the line writes it, and the value has no
     /// spaces and tabs at its ends (RFC 9112, section 5).
     pub fn header(&self, i: usize) -> Option<(&[u8], &[u8])>
-        ensures line { IfSome result (λ line. slice_get self.now.headers i ≡ Some (line.0.now, line.1.now)) }
+        ensures line { IfSome result (λ line.
+            slice_get self.now.headers i ≡ Some (line.0.now, line.1.now)) }
         ensures past { IsNone result ↔ (length self.now.headers ≤ i) }
     {
         let bytes = self.bytes.as_slice();

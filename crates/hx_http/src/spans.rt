@@ -20,7 +20,8 @@ pub(crate) struct HeadSpans {
 
 /// The spans of the head that `bytes` begin with. Memory is taken for the header lines alone.
 pub(crate) fn read_spans(alloc: Global, bytes: &[u8]) -> Result<HeadSpans, HeadFault>
-    ensures found { IfOk result (λ spans. IsHead bytes.now (message (parts_at bytes.now spans) spans.head.len)) }
+    ensures found { IfOk result (λ spans.
+        IsHead bytes.now (message (parts_at bytes.now spans) spans.head.len)) }
     ensures not_a_head { IsErrOf result HeadFault.NotAHead → IsHead bytes.now none }
     ensures too_many { IsErrOf result HeadFault.TooManyHeaders → IsHead bytes.now many }
     ensures spans { IfOk result (λ spans. AreWithin spans.head.len spans) }
@@ -62,7 +63,8 @@ fn has_head(alloc: Global, bytes: &[u8]) -> Result<bool, AllocError>
 /// Whether `bytes` begin with a head, and `None` where that can't be told with slots for `room`
 /// header lines.
 fn has_head_within(alloc: Global, bytes: &[u8], room: usize) -> Result<Option<bool>, AllocError>
-    ensures known { IfOk result (λ answer. IfSome answer (λ found. IsTrue found ↔ HasHead bytes.now)) }
+    ensures known { IfOk result (λ answer.
+        IfSome answer (λ found. IsTrue found ↔ HasHead bytes.now)) }
     ensures unknown { IfOk result (λ answer. IfNone answer (3 * room < length bytes.now)) }
 {
     let mut slots = vec![in alloc; EMPTY_HEADER_SPAN; room]?;
