@@ -1,6 +1,7 @@
 -- A text, cut at the first byte that passes a test.
 use Rattle.std.proofs.Common.{◌≡◌, ℕ, ◌+◌, ◌<◌, Bool, true, false, ◌||◌, ◌==◌, List, [], ◌∷◌, ◌++◌, Option, Some, None, map, filter, length, get_or, take, drop, refl, sym, ap, subst, ◌∙◌, arith, inl, inr}
 use Rattle.std.specs.Prelude.{unwrap_or}
+use Rattle.std.specs.Option.{option_map_or}
 use Rattle.std.specs.List.{slice_split, list_any, before_first, after_first, position_or_len}
 use Rattle.std.proofs.lemmas.Bool.{cases_Bool, cases_lt, true≢false, eqb-true}
 use Rattle.std.proofs.lemmas.List.{drop_all, get_or-take, length-take}
@@ -9,10 +10,10 @@ use Rattle.std.proofs.lemmas.List.Folds.{list_any_at, list_any_none}
 use Rattle.std.proofs.lemmas.List.Splits.{slice_split_first, slice_split_none}
 use Rattle.std.proofs.lemmas.List.Sums.{position_or_len_is, fails_before_first, passes_at_first, split_at_first}
 use Rattle.memchr.specs.Find.{IsFirstByte, is_byte2, is_byte3}
-use Rattle.hx_lists.specs.NamedValues.{is_named, named_value, named_values, named_values_left, pieces_left, begins_params, separates_params}
+use Rattle.hx_lists.specs.NamedValues.{is_named, named_value, named_values, begins_params, separates_params}
 
 module _ (test : ℕ → Bool) (text : List ℕ) where
-  -- what a search for the byte answers, as a place
+  -- what a search for the byte answers, as a position
   position-at : (k : ℕ) → IsFirstByte test text (Some k) → position_or_len test text ≡ k
   position-at k h =
       position_or_len_is test text k 0 (omega (arith, h.0.high))
@@ -35,9 +36,6 @@ module _ (test : ℕ → Bool) (text : List ℕ) where
   pub after_first-none : IsFirstByte test text None → after_first test text ≡ []
   after_first-none h = ap (λ n. drop (n + 1) text) (position-none h) ∙ drop_all (length text + 1) text (omega arith)
 
-  pub list_any-at : (k : ℕ) → IsFirstByte test text (Some k) → list_any test text ≡ true
-  list_any-at k h = list_any_at test text k 0 h.0.high h.1
-
   pub list_any-none : IsFirstByte test text None → list_any test text ≡ false
   list_any-none h = list_any_none test text (All-from_get_or (λ x. test x ≡ false) text 0 (none-passes h))
 
@@ -50,50 +48,16 @@ module _ (test : ℕ → Bool) (text : List ℕ) where
   pub slice_split-none : IsFirstByte test text None → slice_split test text ≡ text ∷ []
   slice_split-none h = slice_split_none test text (All-from_get_or (λ x. test x ≡ false) text 0 (none-passes h))
 
-module _ (separates : ℕ → Bool) where
-  named_values_left-split : (rest : Option (List ℕ)) → named_values_left separates rest ≡ map named_value (filter is_named (pieces_left separates rest))
-  named_values_left-split None = refl
-  named_values_left-split (Some text) = refl
-
-  -- a first piece that names a value gives it
-  pub named_values-gives : (text piece : List ℕ) (rest : Option (List ℕ)) → slice_split separates text ≡ piece ∷ pieces_left separates rest → is_named piece ≡ true → named_values separates text ≡ named_value piece ∷ named_values_left separates rest
-  named_values-gives text piece rest e named =
-      ap (λ pieces. map named_value (filter is_named pieces)) e
-      ∙ rw named (ap (λ later. named_value piece ∷ later) (sym (named_values_left-split rest)))
-
-  -- one that names none is passed over
-  pub named_values-skips : (text piece : List ℕ) (rest : Option (List ℕ)) → slice_split separates text ≡ piece ∷ pieces_left separates rest → is_named piece ≡ false → named_values separates text ≡ named_values_left separates rest
-  named_values-skips text piece rest e unnamed =
-      ap (λ pieces. map named_value (filter is_named pieces)) e ∙ rw unnamed (sym (named_values_left-split rest))
-
-twice : (a b : Bool) → (a || b || a) ≡ (a || b || false)
-twice true b = refl
-twice false true = refl
-twice false false = refl
-
-thrice : (a : Bool) → (a || a || a) ≡ a
-thrice true = refl
-thrice false = refl
-
 again : (a : Bool) → (a || a) ≡ (a || false)
 again true = refl
 again false = refl
-
--- three equal separators are one
-pub is_byte3-same : (a : ℕ) → is_byte3 a a a ≡ (λ b. b == a)
-is_byte3-same a = λ i b. thrice (b == a) i
 
 -- the bytes that begin parameters, where `?` stands in for a delimiter that is not given
 pub is_byte2-begins : (delim : Option ℕ) → is_byte2 63 (unwrap_or delim 63) ≡ begins_params delim
 is_byte2-begins None = λ i b. again (b == 63) i
 is_byte2-begins (Some d) = refl
 
--- the bytes that separate parameters, where `&` stands in for a delimiter that is not given
-pub is_byte3-separates : (delim : Option ℕ) → is_byte3 38 59 (unwrap_or delim 38) ≡ separates_params delim
-is_byte3-separates None = λ i b. twice (b == 38) (b == 59) i
-is_byte3-separates (Some d) = refl
-
--- what stands before the first byte that passes holds none
+-- what stands before the first byte that passes has none
 pub before_first-lacks : (test : ℕ → Bool) (text : List ℕ) → list_any test (before_first test text) ≡ false
 before_first-lacks test text =
     let at = position_or_len test text in
@@ -102,9 +66,10 @@ before_first-lacks test text =
     let short : k < at = omega (arith, length-take at text) in
     subst (λ x. test x ≡ false) (sym (get_or-take at text k 0 short)) (fails_before_first test text k 0 short)))
 
--- a text that holds a byte is what stands before the first such byte, the byte, and what stands behind it
+-- a text that has a byte is what stands before the first such byte, the byte, and what stands after
+-- it
 pub around_first : (byte : ℕ) (text : List ℕ) → list_any (λ b. b == byte) text ≡ true → before_first (λ b. b == byte) text ++ byte ∷ after_first (λ b. b == byte) text ≡ text
-around_first byte text holds =
+around_first byte text has =
     let test = λ (b : ℕ). b == byte in
     let at = position_or_len test text in
     elim (cases_lt at (length text)) [
@@ -113,5 +78,5 @@ around_first byte text holds =
           ap (λ b. before_first test text ++ b ∷ after_first test text) (sym is) ∙ sym (split_at_first test text 0 within)
       | inr past ↦
           let lacks = list_any_none test text (All-from_get_or (λ x. test x ≡ false) text 0 (λ k lt. fails_before_first test text k 0 (omega arith))) in
-          absurd (true≢false (sym holds ∙ lacks))
+          absurd (true≢false (sym has ∙ lacks))
     ]

@@ -5,12 +5,13 @@ use Rattle.std.proofs.lemmas.Bool.{cases_Bool, cases_lt}
 use Rattle.std.proofs.lemmas.List.{append-nil, length-append, reverse-append, take_at, drop_at, drop_all, drop-drop, take-append-drop, length-take, length-drop, length-reverse, get_or-take, get_or-drop, get_or-reverse}
 use Rattle.std.proofs.lemmas.List.Elements.{recursion_from_All, All-from_recursion}
 use Rattle.std.proofs.lemmas.List.Sums.{prefix_len_is, prefix_len_passes, prefix_len_stops, suffix_len-le-length, suffix_len-take_no}
-use Rattle.hx_lists.specs.Blanks.{is_blank, trim_blanks}
+use Rattle.hx_base.specs.Bytes.{is_blank}
+use Rattle.hx_lists.specs.Blanks.{trim_blanks}
 use Rattle.hx_lists.specs.Laws.{IsTrimmed}
 
 module _ (p : ℕ → Bool) where
-  front_passes : (xs : List ℕ) → AllByRecursion (λ x. p x ≡ true) (take (prefix_len p xs) xs)
-  front_passes xs =
+  prefix_passes : (xs : List ℕ) → AllByRecursion (λ x. p x ≡ true) (take (prefix_len p xs) xs)
+  prefix_passes xs =
       let here = prefix_len p xs in
       recursion_from_All (λ x. p x ≡ true) (take here xs)
       (λ k d lt.
@@ -26,12 +27,12 @@ module _ (p : ℕ → Bool) where
       let back = length xs - 1 - (at + k) in
       let counted : back < suffix_len p xs = omega (arith, suffix_len-le-length p xs) in
       let inside : back < length xs = omega arith in
-      let place : length xs - 1 - back ≡ at + k = omega arith in
-      let read = get_or-drop at xs k d ∙ ap (λ i. get_or xs i d) (sym place) ∙ sym (get_or-reverse xs back d inside) in
+      let same : length xs - 1 - back ≡ at + k = omega arith in
+      let read = get_or-drop at xs k d ∙ ap (λ i. get_or xs i d) (sym same) ∙ sym (get_or-reverse xs back d inside) in
       subst (λ x. p x ≡ true) (sym read) (prefix_len_passes p (reverse xs) back d counted))
 
-  front_stops : (xs : List ℕ) (m : ℕ) → prefix_len p (take m (drop (prefix_len p xs) xs)) ≡ 0
-  front_stops xs m =
+  prefix_stops : (xs : List ℕ) (m : ℕ) → prefix_len p (take m (drop (prefix_len p xs) xs)) ≡ 0
+  prefix_stops xs m =
       let n = prefix_len p xs in
       prefix_len_is p (take m (drop n xs)) 0 0 (omega arith) (λ k lt. absurd (omega arith))
       (λ some.
@@ -47,8 +48,8 @@ module _ (p : ℕ → Bool) where
         | inl some ↦
             let short : suffix_len p xs < length (reverse xs) = omega (arith, length-reverse xs) in
             let within : suffix_len p xs < length xs = omega arith in
-            let place : length xs - 1 - suffix_len p xs ≡ at - 1 = omega arith in
-            let read = get_or-reverse xs (suffix_len p xs) 0 within ∙ ap (λ i. get_or xs i 0) place in
+            let same : length xs - 1 - suffix_len p xs ≡ at - 1 = omega arith in
+            let read = get_or-reverse xs (suffix_len p xs) 0 within ∙ ap (λ i. get_or xs i 0) same in
             suffix_len-take_no p xs at 0 some (omega arith) (subst (λ x. p x ≡ false) read (prefix_len_stops p (reverse xs) 0 short))
         | inr none ↦
             let zero : at ≡ 0 = omega arith in ap (λ n. suffix_len p (take n xs)) zero
@@ -57,15 +58,15 @@ module _ (p : ℕ → Bool) where
 pub IsTrimmed-trim_blanks : (bytes : List ℕ) → IsTrimmed bytes (trim_blanks bytes)
 IsTrimmed-trim_blanks bytes =
     let n = prefix_len is_blank bytes in
-    let front = drop n bytes in
-    let at = length front - suffix_len is_blank front in record {
+    let tail = drop n bytes in
+    let at = length tail - suffix_len is_blank tail in record {
       before = take n bytes;
-      behind = drop at front;
-      whole = ap (λ rest. take n bytes ++ rest) (take-append-drop at front) ∙ take-append-drop n bytes;
-      blank_before = front_passes is_blank bytes;
-      blank_behind = end_passes is_blank front;
-      bare_front = front_stops is_blank bytes at;
-      bare_end = end_stops is_blank front;
+      after = drop at tail;
+      whole = ap (λ rest. take n bytes ++ rest) (take-append-drop at tail) ∙ take-append-drop n bytes;
+      blank_before = prefix_passes is_blank bytes;
+      blank_after = end_passes is_blank tail;
+      no_blank_first = prefix_stops is_blank bytes at;
+      no_blank_last = end_stops is_blank tail;
     }
 
 module _ (p : ℕ → Bool) where
@@ -99,29 +100,29 @@ drop-before : (xs ys : List ℕ) (n : ℕ) → drop (length xs + n) (xs ++ ys) �
 drop-before xs ys n =
     sym (drop-drop n (length xs) (xs ++ ys)) ∙ ap (drop n) (drop_at xs ys (length xs) refl)
 
-front_of : (before rest : List ℕ) → AllByRecursion (λ b. is_blank b ≡ true) before → drop (prefix_len is_blank (before ++ rest)) (before ++ rest) ≡ drop (prefix_len is_blank rest) rest
-front_of before rest h =
+tail_of : (before rest : List ℕ) → AllByRecursion (λ b. is_blank b ≡ true) before → drop (prefix_len is_blank (before ++ rest)) (before ++ rest) ≡ drop (prefix_len is_blank rest) rest
+tail_of before rest h =
     ap (λ n. drop n (before ++ rest)) (prefix_len-append is_blank before rest h) ∙ drop-before before rest (prefix_len is_blank rest)
 
 trim_end : List ℕ → List ℕ
-trim_end front = take (length front - suffix_len is_blank front) front
+trim_end tail = take (length tail - suffix_len is_blank tail) tail
 
-trimmed-between : (trimmed behind : List ℕ) → AllByRecursion (λ b. is_blank b ≡ true) behind → prefix_len is_blank trimmed ≡ 0 → suffix_len is_blank trimmed ≡ 0 → trim_end (drop (prefix_len is_blank (trimmed ++ behind)) (trimmed ++ behind)) ≡ trimmed
+trimmed-between : (trimmed after : List ℕ) → AllByRecursion (λ b. is_blank b ≡ true) after → prefix_len is_blank trimmed ≡ 0 → suffix_len is_blank trimmed ≡ 0 → trim_end (drop (prefix_len is_blank (trimmed ++ after)) (trimmed ++ after)) ≡ trimmed
 unfolding trim_end
-trimmed-between [] behind h front end =
-    let none = prefix_len-append is_blank behind [] h in
-    let long : length behind ≤ prefix_len is_blank behind = omega (arith, ap (prefix_len is_blank) (append-nil behind)) in
-    ap (λ rest. take (length rest - suffix_len is_blank rest) rest) (drop_all (prefix_len is_blank behind) behind long)
-trimmed-between (x ∷ xs) behind h front end =
-    let whole = (x ∷ xs) ++ behind in
-    let kept = suffix_len-append is_blank (x ∷ xs) behind h in
-    let size : length (x ∷ xs) ≡ length whole - suffix_len is_blank whole = omega (arith, length-append (x ∷ xs) behind) in
-    ap (λ n. trim_end (drop n whole)) (prefix_len-bare is_blank x xs (xs ++ behind) front)
-    ∙ take_at (x ∷ xs) behind (length whole - suffix_len is_blank whole) size
+trimmed-between [] after h tail end =
+    let none = prefix_len-append is_blank after [] h in
+    let long : length after ≤ prefix_len is_blank after = omega (arith, ap (prefix_len is_blank) (append-nil after)) in
+    ap (λ rest. take (length rest - suffix_len is_blank rest) rest) (drop_all (prefix_len is_blank after) after long)
+trimmed-between (x ∷ xs) after h tail end =
+    let whole = (x ∷ xs) ++ after in
+    let kept = suffix_len-append is_blank (x ∷ xs) after h in
+    let size : length (x ∷ xs) ≡ length whole - suffix_len is_blank whole = omega (arith, length-append (x ∷ xs) after) in
+    ap (λ n. trim_end (drop n whole)) (prefix_len-bare is_blank x xs (xs ++ after) tail)
+    ∙ take_at (x ∷ xs) after (length whole - suffix_len is_blank whole) size
 
 pub IsTrimmed-only : (bytes trimmed : List ℕ) → IsTrimmed bytes trimmed → trimmed ≡ trim_blanks bytes
 unfolding trim_end
 IsTrimmed-only bytes trimmed h =
-    sym (trimmed-between trimmed h.behind h.blank_behind h.bare_front h.bare_end)
-    ∙ ap trim_end (sym (front_of h.before (trimmed ++ h.behind) h.blank_before))
+    sym (trimmed-between trimmed h.after h.blank_after h.no_blank_first h.no_blank_last)
+    ∙ ap trim_end (sym (tail_of h.before (trimmed ++ h.after) h.blank_before))
     ∙ ap trim_blanks h.whole

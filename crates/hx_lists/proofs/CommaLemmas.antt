@@ -3,17 +3,17 @@ use Rattle.std.proofs.Common.{◌≡◌, ◌≢◌, ℕ, true, false, ◌||◌, 
 use Rattle.std.specs.Bool.{⊤}
 use Rattle.std.specs.List.{AllByRecursion, join_with_byte, list_any, onto_first}
 use Rattle.std.proofs.lemmas.Bool.{cases_Bool, false≢true}
-use Rattle.hx_lists.specs.HeaderValues.{Quoting, Outside, Quoted, Escaped, quoting_after, placed, is_outside, is_cut, pieces_from, hdr_pieces}
-use Rattle.hx_lists.specs.HeaderScan.{onto_front}
-use Rattle.hx_lists.specs.Laws.{AllButLast, holds_cut, ends_outside, IsCutAtCommas}
-use Rattle.hx_lists.proofs.Pieces.{pieces_from-kept, pieces_at-zero}
-use Rattle.hx_lists.proofs.SplitLaws.{neither, onto_first-onto_front}
+use Rattle.hx_lists.specs.HeaderValues.{Quoting, Outside, Quoted, Escaped, quoting_after, bytes_with_quoting, is_outside, is_cut, pieces_from, hdr_pieces}
+use Rattle.hx_lists.specs.HeaderValues.{pieces_with_prefix}
+use Rattle.hx_lists.specs.Laws.{AllButLast, has_cut, ends_outside, IsCutAtCommas}
+use Rattle.hx_lists.proofs.PieceLemmas.{pieces_from-kept, pieces_at-zero}
+use Rattle.hx_lists.proofs.SplitLemmas.{neither, onto_first-pieces_with_prefix}
 
--- no piece holds a comma outside quoted strings, where the first begins at `quoting`
+-- no piece has a comma outside quoted strings, where the first begins at `quoting`
 abbrev UncutFrom : Quoting → List (List ℕ) → Type 0
 UncutFrom q [] = ⊥
 UncutFrom q (piece ∷ pieces) =
-    (list_any is_cut (placed q piece) ≡ false) × AllByRecursion (λ later. holds_cut later ≡ false) pieces
+    (list_any is_cut (bytes_with_quoting q piece) ≡ false) × AllByRecursion (λ later. has_cut later ≡ false) pieces
 
 -- each piece but the last ends outside quoted strings, where the first begins at `quoting`
 abbrev ClosedFrom : Quoting → List (List ℕ) → Type 0
@@ -37,12 +37,12 @@ after_kept : (q : Quoting) (b : ℕ) (pieces : List (List ℕ)) (bytes : List �
 after_kept q b [] bytes kept h = absurd h.uncut
 after_kept q b (piece ∷ []) bytes kept h = record {
   joined = ap (λ later. b ∷ later) h.joined;
-  uncut = (ap (λ cut. cut || list_any is_cut (placed (quoting_after q b) piece)) kept ∙ h.uncut.0, h.uncut.1);
+  uncut = (ap (λ cut. cut || list_any is_cut (bytes_with_quoting (quoting_after q b) piece)) kept ∙ h.uncut.0, h.uncut.1);
   closed = tt;
 }
 after_kept q b (piece ∷ next ∷ pieces) bytes kept h = record {
   joined = ap (λ later. b ∷ later) h.joined;
-  uncut = (ap (λ cut. cut || list_any is_cut (placed (quoting_after q b) piece)) kept ∙ h.uncut.0, h.uncut.1);
+  uncut = (ap (λ cut. cut || list_any is_cut (bytes_with_quoting (quoting_after q b) piece)) kept ∙ h.uncut.0, h.uncut.1);
   closed = h.closed;
 }
 
@@ -65,7 +65,7 @@ is_some : (pieces : List (List ℕ)) → UncutFrom Outside pieces → pieces ≢
 is_some [] h = absurd h
 is_some (piece ∷ pieces) h = λ e. cc
 
-all_uncut : (pieces : List (List ℕ)) → UncutFrom Outside pieces → AllByRecursion (λ piece. holds_cut piece ≡ false) pieces
+all_uncut : (pieces : List (List ℕ)) → UncutFrom Outside pieces → AllByRecursion (λ piece. has_cut piece ≡ false) pieces
 all_uncut [] h = absurd h
 all_uncut (piece ∷ pieces) h = h
 
@@ -83,21 +83,21 @@ IsCutAtCommas-hdr_pieces line =
       closed = all_closed (hdr_pieces line) facts.closed;
     }
 
--- what holds no cut goes to the first piece
-pieces_from-onto : (q : Quoting) (piece rest : List ℕ) → list_any is_cut (placed q piece) ≡ false → pieces_from q (piece ++ rest) ≡ onto_front piece (pieces_from (fold quoting_after q piece) rest)
+-- what has no cut goes to the first piece
+pieces_from-onto : (q : Quoting) (piece rest : List ℕ) → list_any is_cut (bytes_with_quoting q piece) ≡ false → pieces_from q (piece ++ rest) ≡ pieces_with_prefix piece (pieces_from (fold quoting_after q piece) rest)
 pieces_from-onto q [] rest h = sym (pieces_at-zero q rest)
 pieces_from-onto q (b ∷ bs) rest h =
-    let parts = neither (is_cut (q, b)) (list_any is_cut (placed (quoting_after q b) bs)) h in
+    let parts = neither (is_cut (q, b)) (list_any is_cut (bytes_with_quoting (quoting_after q b) bs)) h in
     pieces_from-kept q b (bs ++ rest) parts.0
     ∙ ap (onto_first b) (pieces_from-onto (quoting_after q b) bs rest parts.1)
-    ∙ onto_first-onto_front b bs (pieces_from (fold quoting_after (quoting_after q b) bs) rest)
+    ∙ onto_first-pieces_with_prefix b bs (pieces_from (fold quoting_after (quoting_after q b) bs) rest)
 
 outside : (q : Quoting) → is_outside q ≡ true → q ≡ Outside
 outside Outside h = refl
 outside Quoted h = absurd (false≢true h)
 outside Escaped h = absurd (false≢true h)
 
-hdr_pieces-joined : (pieces : List (List ℕ)) → pieces ≢ [] → AllByRecursion (λ piece. holds_cut piece ≡ false) pieces → AllButLast (λ piece. ends_outside piece ≡ true) pieces → hdr_pieces (join_with_byte 44 pieces) ≡ pieces
+hdr_pieces-joined : (pieces : List (List ℕ)) → pieces ≢ [] → AllByRecursion (λ piece. has_cut piece ≡ false) pieces → AllButLast (λ piece. ends_outside piece ≡ true) pieces → hdr_pieces (join_with_byte 44 pieces) ≡ pieces
 hdr_pieces-joined [] some uncut closed = absurd (some refl)
 hdr_pieces-joined (piece ∷ []) some uncut closed =
     ap hdr_pieces (sym (append-nil piece)) ∙ pieces_from-onto Outside piece [] uncut.0 ∙ ap (λ p. p ∷ []) (append-nil piece)
@@ -105,7 +105,7 @@ hdr_pieces-joined (piece ∷ next ∷ pieces) some uncut closed =
     let later = hdr_pieces-joined (next ∷ pieces) (λ e. cc) uncut.1 closed.1 in
     let rest = join_with_byte 44 (next ∷ pieces) in
     pieces_from-onto Outside piece (44 ∷ rest) uncut.0
-    ∙ ap (λ q. onto_front piece (pieces_from q (44 ∷ rest))) (outside (fold quoting_after Outside piece) closed.0)
+    ∙ ap (λ q. pieces_with_prefix piece (pieces_from q (44 ∷ rest))) (outside (fold quoting_after Outside piece) closed.0)
     ∙ ap₂ ◌∷◌ (append-nil piece) later
 
 pub IsCutAtCommas-only : (pieces : List (List ℕ)) (line : List ℕ) → IsCutAtCommas pieces line → pieces ≡ hdr_pieces line

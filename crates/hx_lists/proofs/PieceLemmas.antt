@@ -4,8 +4,9 @@ use Rattle.std.specs.List.{slice_split, onto_first}
 use Rattle.std.proofs.lemmas.Bool.{cases_Bool, cases_lt, ne_eqb}
 use Rattle.std.proofs.lemmas.List.{drop_more, drop_all, take_all, take_more}
 use Rattle.std.proofs.lemmas.List.Splits.{slice_split-cons_yes, slice_split-cons_no}
-use Rattle.hx_lists.specs.HeaderValues.{Quoting, Outside, Quoted, Escaped, quoting_after, placed, is_cut, pieces_from, hdr_pieces}
-use Rattle.hx_lists.specs.HeaderScan.{onto_front, pieces_at}
+use Rattle.hx_lists.specs.HeaderValues.{Quoting, Outside, Quoted, Escaped, quoting_after, bytes_with_quoting, is_cut, pieces_from, hdr_pieces}
+use Rattle.hx_lists.specs.HeaderValues.{pieces_with_prefix}
+use Rattle.hx_lists.specs.HeaderScan.{pieces_at}
 
 map-onto_first : {A B : Type 0} (f : A → B) (x : A) (parts : List (List A)) → map (map f) (onto_first x parts) ≡ onto_first (f x) (map (map f) parts)
 map-onto_first f x [] = refl
@@ -13,20 +14,20 @@ map-onto_first f x (part ∷ parts) = refl
 
 pub pieces_from-cut : (q : Quoting) (b : ℕ) (bs : List ℕ) → is_cut (q, b) ≡ true → pieces_from q (b ∷ bs) ≡ [] ∷ pieces_from (quoting_after q b) bs
 pieces_from-cut q b bs e =
-    ap (map (map (λ byte. byte.1))) (slice_split-cons_yes is_cut (q, b) (placed (quoting_after q b) bs) e)
+    ap (map (map (λ byte. byte.1))) (slice_split-cons_yes is_cut (q, b) (bytes_with_quoting (quoting_after q b) bs) e)
 
 pub pieces_from-kept : (q : Quoting) (b : ℕ) (bs : List ℕ) → is_cut (q, b) ≡ false → pieces_from q (b ∷ bs) ≡ onto_first b (pieces_from (quoting_after q b) bs)
 pieces_from-kept q b bs e =
-    ap (map (map (λ byte. byte.1))) (slice_split-cons_no is_cut (q, b) (placed (quoting_after q b) bs) e)
-    ∙ map-onto_first (λ byte. byte.1) (q, b) (slice_split is_cut (placed (quoting_after q b) bs))
+    ap (map (map (λ byte. byte.1))) (slice_split-cons_no is_cut (q, b) (bytes_with_quoting (quoting_after q b) bs) e)
+    ∙ map-onto_first (λ byte. byte.1) (q, b) (slice_split is_cut (bytes_with_quoting (quoting_after q b) bs))
 
-onto_front-onto_first : (xs : List ℕ) (b : ℕ) (pieces : List (List ℕ)) → onto_front xs (onto_first b pieces) ≡ onto_front (xs ++ b ∷ []) pieces
-onto_front-onto_first xs b [] = refl
-onto_front-onto_first xs b (piece ∷ pieces) = ap (λ first. first ∷ pieces) (sym (append_assoc xs (b ∷ []) piece))
+pieces_with_prefix-onto_first : (xs : List ℕ) (b : ℕ) (pieces : List (List ℕ)) → pieces_with_prefix xs (onto_first b pieces) ≡ pieces_with_prefix (xs ++ b ∷ []) pieces
+pieces_with_prefix-onto_first xs b [] = refl
+pieces_with_prefix-onto_first xs b (piece ∷ pieces) = ap (λ first. first ∷ pieces) (sym (append_assoc xs (b ∷ []) piece))
 
-onto_front-nil : (b : ℕ) (pieces : List (List ℕ)) → onto_front [] (onto_first b pieces) ≡ onto_first b pieces
-onto_front-nil b [] = refl
-onto_front-nil b (piece ∷ pieces) = refl
+pieces_with_prefix-nil : (b : ℕ) (pieces : List (List ℕ)) → pieces_with_prefix [] (onto_first b pieces) ≡ onto_first b pieces
+pieces_with_prefix-nil b [] = refl
+pieces_with_prefix-nil b (piece ∷ pieces) = refl
 
 -- nothing put before the pieces changes nothing
 pub pieces_at-zero : (q : Quoting) (line : List ℕ) → pieces_at q line 0 ≡ pieces_from q line
@@ -34,7 +35,7 @@ pieces_at-zero q [] = refl
 pieces_at-zero q (b ∷ bs) =
     elim (cases_Bool (is_cut (q, b))) [
       | inl cut ↦ rw (pieces_from-cut q b bs cut)
-      | inr kept ↦ rw (pieces_from-kept q b bs kept) (onto_front-nil b (pieces_from (quoting_after q b) bs))
+      | inr kept ↦ rw (pieces_from-kept q b bs kept) (pieces_with_prefix-nil b (pieces_from (quoting_after q b) bs))
     ]
 
 -- a byte at which no piece ends goes to the first piece
@@ -42,16 +43,16 @@ pieces_at-kept : (q : Quoting) (line : List ℕ) (i : ℕ) → i < length line �
 pieces_at-kept q line i lt e =
     let b = get_or line i 0 in
     let after = pieces_from (quoting_after q b) (drop (i + 1) line) in
-    ap (λ rest. onto_front (take i line) (pieces_from q rest)) (drop_more line i 0 lt)
-    ∙ ap (onto_front (take i line)) (pieces_from-kept q b (drop (i + 1) line) e)
-    ∙ onto_front-onto_first (take i line) b after
-    ∙ ap (λ front. onto_front front after) (sym (take_more line i 0 lt))
+    ap (λ rest. pieces_with_prefix (take i line) (pieces_from q rest)) (drop_more line i 0 lt)
+    ∙ ap (pieces_with_prefix (take i line)) (pieces_from-kept q b (drop (i + 1) line) e)
+    ∙ pieces_with_prefix-onto_first (take i line) b after
+    ∙ ap (λ prefix. pieces_with_prefix prefix after) (sym (take_more line i 0 lt))
 
 -- a comma outside quoted strings ends the first piece
 pub pieces_at-comma : (line : List ℕ) (i : ℕ) → i < length line → get_or line i 0 ≡ 44 → pieces_at Outside line i ≡ take i line ∷ hdr_pieces (drop (i + 1) line)
 pieces_at-comma line i lt e =
-    ap (λ rest. onto_front (take i line) (pieces_from Outside rest)) (drop_more line i 0 lt ∙ ap (λ b. b ∷ drop (i + 1) line) e)
-    ∙ ap (λ front. front ∷ hdr_pieces (drop (i + 1) line)) (append-nil (take i line))
+    ap (λ rest. pieces_with_prefix (take i line) (pieces_from Outside rest)) (drop_more line i 0 lt ∙ ap (λ b. b ∷ drop (i + 1) line) e)
+    ∙ ap (λ first. first ∷ hdr_pieces (drop (i + 1) line)) (append-nil (take i line))
 
 pub pieces_at-opens : (line : List ℕ) (i : ℕ) → i < length line → get_or line i 0 ≡ 34 → pieces_at Outside line i ≡ pieces_at Quoted line (i + 1)
 pieces_at-opens line i lt e = pieces_at-kept Outside line i lt (ap (λ b. is_cut (Outside, b)) e) ∙ ap (λ b. pieces_at (quoting_after Outside b) line (i + 1)) e
@@ -69,8 +70,8 @@ pieces_at-within line i lt quote slash = pieces_at-kept Quoted line i lt refl �
 -- past the line's end no byte is left to cut at
 pub pieces_at-end : (q : Quoting) (line : List ℕ) (i : ℕ) → length line ≤ i → pieces_at q line i ≡ line ∷ []
 pieces_at-end q line i le =
-    ap (λ rest. onto_front (take i line) (pieces_from q rest)) (drop_all i line le)
-    ∙ ap (λ front. front ∷ []) (append-nil (take i line) ∙ take_all i line le)
+    ap (λ rest. pieces_with_prefix (take i line) (pieces_from q rest)) (drop_all i line le)
+    ∙ ap (λ first. first ∷ []) (append-nil (take i line) ∙ take_all i line le)
 
 pub pieces_at-pair : (line : List ℕ) (i : ℕ) → i < length line → get_or line i 0 ≡ 92 → pieces_at Quoted line i ≡ pieces_at Quoted line (i + 2)
 pieces_at-pair line i lt e =

@@ -1,7 +1,7 @@
 use Rattle.std.proofs.Common.{length, ◌-◌, ◌+◌, ◌≡◌, ◌≤◌}
 use Rattle.hx_lists.specs.HeaderValues.{Quoted}
 use Rattle.hx_lists.specs.HeaderScan.{pieces_at}
-use Rattle.hx_lists.proofs.header.behind_string.Given as goal
+use Rattle.hx_lists.proofs.header.string_end.Given as goal
 
 abbrev pub invariant-loop-at : goal.invariant-loop-at
 invariant-loop-at l =
