@@ -1,17 +1,18 @@
 -- The parts of a target, by its path and its query.
-use Rattle.std.proofs.Common.{◌≡◌, ℕ, ◌+◌, Bool, true, false, nat_eq, if◌then◌else◌, ◌==◌, List, [], ◌∷◌, ◌++◌, Option, Some, None, codes, length, drop, refl, sym, ap, subst, ◌∙◌, inl, inr, ◌⊎◌, arith, append_assoc, append-nil, length-append}
+use Rattle.std.proofs.Common.{◌≡◌, ℕ, ◌+◌, ◌<◌, ◌≤◌, Bool, true, false, nat_eq, if◌then◌else◌, ◌==◌, List, [], ◌∷◌, ◌++◌, Option, Some, None, codes, length, drop, refl, sym, ap, subst, ◌∙◌, inl, inr, ◌⊎◌, arith, append_assoc, append-nil, length-append}
 use Rattle.std.specs.Prelude.{option_map, option_and_then}
 use Rattle.std.specs.List.{starts_with, list_any}
 use Rattle.std.proofs.lemmas.Bool.{cases_Bool, cond-true, cond-false}
-use Rattle.std.proofs.lemmas.List.{drop_at}
+use Rattle.std.proofs.lemmas.List.{drop_at, get_or_append_left}
+use Rattle.std.proofs.lemmas.List.Folds.{list_any-append}
 use Rattle.std.proofs.lemmas.Bool.Decides.{Decides-eqb}
 use Rattle.std.proofs.lemmas.Slice.Eq.{starts_is}
-use Rattle.memchr.specs.Find.{FindsNeedle}
+use Rattle.memchr.specs.Find.{FindsNeedle, OccursAt}
 use Rattle.std.proofs.lemmas.Option.{none-some, same_Some, option_and_then_some}
 use Rattle.hx_base.specs.Bytes.{question_mark, slash}
 use Rattle.hx_text.specs.Address.{cut_of}
 use Rattle.hx_http.specs.Target.{before_query, query_of, query_text, from_slash, after_mark, path_before_query, path_of, HasPath, EndsWithAuthority}
-use Rattle.hx_http.proofs.CutLemmas.{IsCut, IsCut-cut_of, lacks-cut_of, cut_of-first, cut_of-lacking}
+use Rattle.hx_http.proofs.CutLemmas.{IsCut, neither, IsCut-cut_of, lacks-cut_of, cut_of-first, cut_of-lacking}
 use Rattle.hx_http.proofs.MarkLemmas.{after_mark_at, IsAfterFirst, IsAfterFirst-after_mark}
 
 -- ---- the query
@@ -167,3 +168,64 @@ path_only target prefix path query h =
       ap path_of same ∙ ap path_before_query cut.0 ∙ path_at prefix path h.slash_first h.before,
       ap query_of same ∙ cut.1,
     )
+
+-- ---- another path
+
+occurs_in_prefix : (prefix a b mark : List ℕ) (k : ℕ) → k + length mark ≤ length prefix
+    → OccursAt (prefix ++ a) mark k → OccursAt (prefix ++ b) mark k
+occurs_in_prefix prefix a b mark k within occurs = record {
+  fits = omega (arith, length-append prefix b);
+  reads = λ j below.
+      get_or_append_left prefix b 0 (k + j) (omega arith)
+      ∙ sym (get_or_append_left prefix a 0 (k + j) (omega arith)) ∙ occurs.reads j below;
+}
+
+starts_in_prefix : (prefix a b : List ℕ) → 0 < length prefix
+    → starts_with nat_eq (prefix ++ a) (codes "/") ≡ starts_with nat_eq (prefix ++ b) (codes "/")
+starts_in_prefix [] a b some = absurd (omega arith)
+starts_in_prefix (x ∷ xs) a b some = refl
+
+authority_stays : (prefix old path : List ℕ) → EndsWithAuthority prefix old → EndsWithAuthority prefix path
+authority_stays prefix old path h =
+    let at = length h.scheme in
+    let long : at + 3 ≤ length prefix
+    = omega (
+      arith,
+      ap length h.whole ∙ length-append h.scheme (codes "://" ++ h.authority),
+      length-append (codes "://") h.authority,
+    ) in
+    let first = h.first.0 in
+    record {
+      scheme = h.scheme;
+      authority = h.authority;
+      whole = h.whole;
+      first = (
+        record {
+          low = first.low;
+          high = omega (arith, length-append prefix path);
+          before = λ k from below occurs.
+              first.before k from below (occurs_in_prefix prefix path old (codes "://") k (omega arith) occurs);
+        },
+        occurs_in_prefix prefix old path (codes "://") at (omega arith) h.first.1,
+      );
+      no_slash = h.no_slash;
+      no_origin_form = starts_in_prefix prefix path old (omega arith) ∙ h.no_origin_form;
+    }
+
+before_stays : (prefix old path : List ℕ) → (prefix ≡ []) ⊎ EndsWithAuthority prefix old
+    → (prefix ≡ []) ⊎ EndsWithAuthority prefix path
+before_stays prefix old path (inl none) = inl none
+before_stays prefix old path (inr h) = inr (authority_stays prefix old path h)
+
+pub another_path : (target path prefix old : List ℕ) (query : Option (List ℕ)) → HasPath target prefix old query
+    → starts_with nat_eq path (codes "/") ≡ true → list_any (λ b. b == question_mark) path ≡ false
+    → HasPath (prefix ++ (path ++ query_text query)) prefix path query
+another_path target path prefix old query h starts none =
+    let test = λ (b : ℕ). b == question_mark in
+    let parts = neither (list_any test prefix) (list_any test old) (sym (list_any-append test prefix old) ∙ h.no_mark) in
+    record {
+      whole = refl;
+      no_mark = list_any-append test prefix path ∙ rw (parts.0, none) refl;
+      slash_first = starts;
+      before = before_stays prefix old path h.before;
+    }

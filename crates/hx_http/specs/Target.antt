@@ -57,8 +57,7 @@ pub record EndsWithAuthority (prefix path : List ℕ) : Type 0 where
   pub no_slash : list_any (λ b. b == slash) authority ≡ false
   pub no_origin_form : starts_with nat_eq (prefix ++ path) (codes "/") ≡ false
 
--- The parts of a target that has a path: what stands before the path, the path, and its query. A
--- target whose path is another one has the same prefix and query around it.
+-- The parts of a target that has a path: what stands before the path, the path, and its query.
 pub record HasPath (target prefix path : List ℕ) (query : Option (List ℕ)) : Type 0 where
   pub whole : target ≡ prefix ++ (path ++ query_text query)
   pub no_mark : list_any (λ b. b == question_mark) (prefix ++ path) ≡ false
