@@ -2,7 +2,7 @@
 use Rattle.std.proofs.Common.{◌≡◌, ℕ, ◌+◌, ◌<◌, ◌≤◌, Bool, true, false, nat_eq, if◌then◌else◌, ◌==◌, List, [], ◌∷◌, ◌++◌, Option, Some, None, codes, length, drop, refl, sym, ap, subst, ◌∙◌, inl, inr, ◌⊎◌, arith, append_assoc, append-nil, length-append}
 use Rattle.std.specs.Prelude.{option_map, option_and_then}
 use Rattle.std.specs.List.{starts_with, list_any}
-use Rattle.std.proofs.lemmas.Bool.{cases_Bool, cond-true, cond-false}
+use Rattle.std.proofs.lemmas.Bool.{cond-true, cond-false}
 use Rattle.std.proofs.lemmas.List.{drop_at, get_or_append_left}
 use Rattle.std.proofs.lemmas.List.Folds.{list_any-append}
 use Rattle.std.proofs.lemmas.Bool.Decides.{Decides-eqb}
@@ -12,8 +12,8 @@ use Rattle.std.proofs.lemmas.Option.{none-some, same_Some, option_and_then_some}
 use Rattle.hx_base.specs.Bytes.{question_mark, slash}
 use Rattle.hx_text.specs.Address.{cut_of}
 use Rattle.hx_http.specs.Target.{before_query, query_of, query_text, from_slash, after_mark, path_before_query, path_of, HasPath, EndsWithAuthority}
-use Rattle.hx_http.proofs.CutLemmas.{IsCut, neither, IsCut-cut_of, lacks-cut_of, cut_of-first, cut_of-lacking}
-use Rattle.hx_http.proofs.MarkLemmas.{after_mark_at, IsAfterFirst, IsAfterFirst-after_mark}
+use Rattle.hx_http.proofs.CutLemmas.{neither, IsCut-cut_of, lacks-cut_of, cut_of-first, cut_of-lacking}
+use Rattle.hx_http.proofs.MarkLemmas.{after_mark_at, IsAfterFirst-after_mark}
 
 -- ---- the query
 

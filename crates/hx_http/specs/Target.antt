@@ -1,6 +1,6 @@
 -- The path and the query of a request's target, as HAProxy's samples `path` and `query` have them
 -- (configuration manual 2.4, section 7.3.6).
-use Rattle.std.specs.Prelude.{◌≡◌, ◌⊎◌, ℕ, Bool, true, false, List, [], ◌∷◌, ◌++◌, Option, None, Some, if◌then◌else◌, ◌==◌, nat_eq, length, drop, codes, option_map, option_and_then}
+use Rattle.std.specs.Prelude.{◌≡◌, ◌⊎◌, ℕ, true, false, List, [], ◌∷◌, ◌++◌, Option, None, Some, if◌then◌else◌, ◌==◌, nat_eq, length, drop, codes, option_map, option_and_then}
 use Rattle.std.specs.Option.{option_map_or}
 use Rattle.std.specs.List.{starts_with, list_any}
 use Rattle.memchr.specs.Find.{FindsNeedle}

@@ -19,7 +19,8 @@ pub fn read_head(alloc: Global, bytes: &[u8]) -> Result<(Message, usize), HeadFa
     ensures not_a_head { IsErrOf result HeadFault.NotAHead → head_of bytes.now ≡ none }
     ensures too_many { IsErrOf result HeadFault.TooManyHeaders → head_of bytes.now ≡ many }
 
-    // What this says of a message: its head lies in the bytes, and its header lines keep the limit.
+    // Both follow from `found` by the law `one_head`, and save callers that law where they need a
+    // bound.
     ensures within { IfOk result (λ read. read.1 ≤ length bytes.now) }
     ensures few { IfOk result (λ read. length read.0.headers ≤ header_limit) }
 {

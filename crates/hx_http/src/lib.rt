@@ -1,11 +1,11 @@
 //! The head of an HTTP request: its reader, and the message that it gives.
 //!
 //! ```
-//! let text = b"GET /p?q HTTP/1.1\r\nHost: h\r\n\r\n";
-//! let (message, len) = read_head(alloc, text)?;
-//! assert_eq!(len, text.len());
-//! assert_eq!(message.path(), Some(b"/p".as_slice()));
-//! assert_eq!(message.header(0), Some((b"Host".as_slice(), b"h".as_slice())));
+//! let (message, len) = read_head(alloc, b"GET /p?q HTTP/1.1\r\nHost: h\r\n\r\nbody")?;
+//! assert_eq!(rt; len, 30);
+//! assert!(rt; message.path() == Some(b"/p"));
+//! assert!(rt; message.query() == Some(b"q"));
+//! assert!(rt; message.header(0) == Some((b"Host", b"h")));
 //! ```
 //!
 //! `specs/Head.antt` says what the bytes of a request begin with, as the function `head_of`, and

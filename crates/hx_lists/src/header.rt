@@ -27,6 +27,7 @@ impl<'a> Model for HdrValues<'a> {
 #[tactic(auto, using(crate::proofs::LengthLemmas::lengths))]
 pub fn hdr_values<'a>(line: &'a [u8]) -> HdrValues<'a>
     ensures list { result ≡ hdr_values line.now }
+    // What `count` asks for.
     ensures short { length result ≤ length line.now + 1 }
 {
     HdrValues { rest: Some(line) }

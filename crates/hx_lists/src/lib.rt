@@ -3,11 +3,10 @@
 //! takes no memory, and goes over the line once.
 //!
 //! ```
-//! assert!(hdr_values(b"a, \"b,c\"").nth(1) == Some(b"\"b,c\"".as_slice()));
-//! assert!(cookies(b"id=1; lang=en").count() == 2);
-//! for (name, value) in params(b"/search?q=x&page=2", None) {
-//!     println!(rt; "{:?} is {:?}", name, value)?;
-//! }
+//! assert!(rt; hdr_values(b"a, \"b,c\"").nth(1) == Some(b"\"b,c\""));
+//! assert!(rt; cookies(b"id=1; lang=en").next() == Some((b"id", b"1")));
+//! assert!(rt; cookies(b"id=1; lang=en").count() == 2);
+//! assert!(rt; params(b"/search?q=x&page=2", None).last() == Some((b"page", b"2")));
 //! ```
 #![tactic(auto)]
 
@@ -30,6 +29,7 @@ pub use named::{Cookies, Params};
 #[tactic(auto, using(crate::proofs::LengthLemmas::lengths))]
 pub fn cookies<'a>(line: &'a [u8]) -> Cookies<'a>
     ensures list { result ≡ cookies line.now }
+    // What `count` asks for.
     ensures short { length result ≤ length line.now + 1 }
 {
     Cookies::of_line(line)
@@ -43,6 +43,7 @@ pub fn cookies<'a>(line: &'a [u8]) -> Cookies<'a>
 #[tactic(auto, using(crate::proofs::LengthLemmas::lengths))]
 pub fn params<'a>(target: &'a [u8], delim: Option<u8>) -> Params<'a>
     ensures list { result ≡ params target.now delim }
+    // What `count` asks for.
     ensures short { length result ≤ length target.now + 1 }
 {
     Params::of_target(target, delim)

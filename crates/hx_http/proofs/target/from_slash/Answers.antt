@@ -1,4 +1,4 @@
-use Rattle.std.proofs.Common.{◌≡◌, ◌+◌, List, ℕ, Some, ◌∷◌, length, drop, sym, ap, ◌∙◌, refl, arith, length-append}
+use Rattle.std.proofs.Common.{List, ℕ, Some, ◌∷◌, length, drop, sym, ap, ◌∙◌, refl, arith, length-append}
 use Rattle.std.specs.Prelude.{option_map}
 use Rattle.std.proofs.lemmas.List.{drop_at}
 use Rattle.hx_base.specs.Bytes.{slash}
