@@ -1,9 +1,8 @@
-pub mod Cuts
-pub mod Ends
-pub mod LastLemmas
-pub mod Lengths
-pub mod Pieces
-pub mod PiecesLaws
-pub mod QuotedLaws
-pub mod SplitLaws
-pub mod TrimLaws
+pub mod CommaLemmas
+pub mod CutLemmas
+pub mod EndLemmas
+pub mod LengthLemmas
+pub mod PieceLemmas
+pub mod QuotedLemmas
+pub mod SplitLemmas
+pub mod TrimLemmas

@@ -1,17 +1,9 @@
--- Words of the search for the end of a header line's first piece.
-use Rattle.std.specs.Prelude.{ℕ, List, [], ◌∷◌, ◌++◌, take, drop, Option, None, Some}
-use Rattle.hx_lists.specs.HeaderValues.{Quoting, hdr_pieces, pieces_from}
+-- A view of the code, for private contracts: the search for the end of a header line's first piece.
+use Rattle.std.specs.Prelude.{ℕ, List, take, drop}
+use Rattle.hx_lists.specs.HeaderValues.{Quoting, pieces_from, pieces_with_prefix}
 
--- the pieces, with bytes put before the first
-abbrev pub onto_front : List ℕ → List (List ℕ) → List (List ℕ)
-onto_front bytes [] = bytes ∷ []
-onto_front bytes (piece ∷ pieces) = (bytes ++ piece) ∷ pieces
-
--- the pieces of a line whose bytes before place `at` all belong to the first, where those from `at` on begin at `quoting`
+-- the pieces of a line whose bytes before `position` all belong to the first, where those from
+-- there on begin at `quoting`
 abbrev pub pieces_at : Quoting → List ℕ → ℕ → List (List ℕ)
-pieces_at quoting line at = onto_front (take at line) (pieces_from quoting (drop at line))
-
--- the pieces of what follows a comma, where there is one
-abbrev pub hdr_pieces_left : Option (List ℕ) → List (List ℕ)
-hdr_pieces_left None = []
-hdr_pieces_left (Some line) = hdr_pieces line
+pieces_at quoting line position =
+    pieces_with_prefix (take position line) (pieces_from quoting (drop position line))

@@ -1,7 +1,8 @@
 -- The values of a header line: what stands between the commas outside its quoted strings (HAProxy
 -- configuration manual 2.4 section 7.3.6, RFC 9110 sections 5.6.1 and 5.6.4).
-use Rattle.std.specs.Prelude.{ℕ, Bool, true, false, ◌&&◌, ◌==◌, List, [], map, Option, None, Some, if◌then◌else◌}
+use Rattle.std.specs.Prelude.{ℕ, Bool, true, false, ◌&&◌, ◌==◌, List, [], ◌∷◌, ◌++◌, map, if◌then◌else◌}
 use Rattle.std.specs.List.{scan, slice_split}
+use Rattle.hx_base.specs.Bytes.{backslash, comma, double_quote}
 use Rattle.hx_lists.specs.Blanks.{trim_blanks}
 
 -- where in a line a byte stands
@@ -9,14 +10,15 @@ pub data Quoting : Type 0 where
   Outside : Quoting
   -- within a quoted string
   Quoted : Quoting
-  -- behind a backslash within a quoted string
+  -- after a backslash within a quoted string
   Escaped : Quoting
 
--- What a byte makes of it: `"` (34) begins and ends a quoted string, and within one a backslash (92) makes a
--- pair with the byte behind it, which ends nothing.
+-- What a byte makes of it: `"` begins and ends a quoted string, and within one a backslash makes a
+-- pair with the byte after it, which ends nothing.
 abbrev pub quoting_after : Quoting → ℕ → Quoting
-quoting_after Outside b = if b == 34 then Quoted else Outside
-quoting_after Quoted b = if b == 92 then Escaped else (if b == 34 then Outside else Quoted)
+quoting_after Outside b = if b == double_quote then Quoted else Outside
+quoting_after Quoted b =
+    if b == backslash then Escaped else (if b == double_quote then Outside else Quoted)
 quoting_after Escaped b = Quoted
 
 -- the byte stands outside quoted strings
@@ -24,27 +26,28 @@ abbrev pub is_outside : Quoting → Bool
 is_outside Outside = true
 is_outside quoting = false
 
--- each byte of a text beside where it stands, from the bytes before it; the text begins at `quoting`
-abbrev pub placed : Quoting → List ℕ → List (Quoting × ℕ)
-placed quoting bytes = scan quoting_after (λ before b. (before, b)) quoting bytes
+-- each byte of a text beside where it stands, by the bytes before it; the text begins at `quoting`
+abbrev pub bytes_with_quoting : Quoting → List ℕ → List (Quoting × ℕ)
+bytes_with_quoting quoting bytes = scan quoting_after (λ before b. (before, b)) quoting bytes
 
--- a comma (44) outside quoted strings
+-- a comma outside quoted strings
 abbrev pub is_cut : Quoting × ℕ → Bool
-is_cut byte = is_outside byte.0 && (byte.1 == 44)
+is_cut byte = is_outside byte.0 && (byte.1 == comma)
 
 -- a text that begins at `quoting`, cut at the commas outside quoted strings
 abbrev pub pieces_from : Quoting → List ℕ → List (List ℕ)
-pieces_from quoting bytes = map (map (λ byte. byte.1)) (slice_split is_cut (placed quoting bytes))
+pieces_from quoting bytes =
+    map (map (λ byte. byte.1)) (slice_split is_cut (bytes_with_quoting quoting bytes))
 
 -- A line, cut at the commas outside quoted strings. Empty pieces count, and the empty line is one.
 abbrev pub hdr_pieces : List ℕ → List (List ℕ)
 hdr_pieces line = pieces_from Outside line
 
+-- the pieces, with bytes put before the first
+abbrev pub pieces_with_prefix : List ℕ → List (List ℕ) → List (List ℕ)
+pieces_with_prefix bytes [] = bytes ∷ []
+pieces_with_prefix bytes (piece ∷ pieces) = (bytes ++ piece) ∷ pieces
+
 -- the values of a line: its pieces without the blanks at their ends
 abbrev pub hdr_values : List ℕ → List (List ℕ)
 hdr_values line = map trim_blanks (hdr_pieces line)
-
--- the values of what is left of a line, where something is
-abbrev pub hdr_values_left : Option (List ℕ) → List (List ℕ)
-hdr_values_left None = []
-hdr_values_left (Some line) = hdr_values line

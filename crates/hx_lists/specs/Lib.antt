@@ -1,5 +1,7 @@
+-- For callers: the lists, and what pins them.
 pub mod Blanks
-pub mod HeaderScan
 pub mod HeaderValues
-pub mod Laws
 pub mod NamedValues
+pub mod Laws
+-- A view of the code, for private contracts: the search for the end of a line's first piece.
+pub mod HeaderScan

@@ -1,6 +1,7 @@
 ghost use Rattle.std.specs.Prelude.{◌≡◌, ◌≤◌, length};
 ghost use Rattle.std.specs.List.{prefix_len, suffix_len};
-ghost use Rattle.hx_lists.specs.Blanks.{is_blank, trim_blanks};
+ghost use Rattle.hx_base.specs.Bytes.{is_blank};
+ghost use Rattle.hx_lists.specs.Blanks.{trim_blanks};
 
 fn is_blank(byte: u8) -> bool
     ensures { result ≡ is_blank byte }
@@ -8,7 +9,7 @@ fn is_blank(byte: u8) -> bool
     byte == b' ' || byte == b'\t'
 }
 
-#[tactic(auto, using(std::proofs::lemmas::Grind::common_steps, crate::proofs::Ends::ends))]
+#[tactic(auto, using(std::proofs::lemmas::Grind::common_steps, crate::proofs::EndLemmas::ends))]
 fn leading_blanks(bytes: &[u8]) -> usize
     ensures value { result ≡ prefix_len is_blank bytes.now }
     ensures within { result ≤ length bytes.now }
@@ -16,7 +17,7 @@ fn leading_blanks(bytes: &[u8]) -> usize
     bytes.iter().take_while(|b| is_blank(**b)).count()
 }
 
-#[tactic(auto, using(std::proofs::lemmas::Grind::common_steps, crate::proofs::Ends::ends))]
+#[tactic(auto, using(std::proofs::lemmas::Grind::common_steps, crate::proofs::EndLemmas::ends))]
 fn trailing_blanks(bytes: &[u8]) -> usize
     ensures value { result ≡ suffix_len is_blank bytes.now }
     ensures within { result ≤ length bytes.now }
@@ -28,6 +29,6 @@ fn trailing_blanks(bytes: &[u8]) -> usize
 pub(crate) fn trim_blanks(bytes: &[u8]) -> &[u8]
     ensures { result.now ≡ trim_blanks bytes.now }
 {
-    let front = &bytes[leading_blanks(bytes)..];
-    &front[..front.len() - trailing_blanks(front)]
+    let rest = &bytes[leading_blanks(bytes)..];
+    &rest[..rest.len() - trailing_blanks(rest)]
 }

@@ -1,14 +1,15 @@
-//! What pins the lists: laws of their definitions, each the contract of a function that does nothing.
+//! What pins the lists: laws of their definitions, each the contract of a function that does
+//! nothing.
 ghost use Rattle.std.specs.Prelude.{◌≡◌, ◌≢◌, ℕ, List, [], ◌∷◌, ◌++◌, true, false, ◌==◌};
 ghost use Rattle.std.specs.List.{list_any, slice_split};
+ghost use Rattle.hx_base.specs.Bytes.{backslash, comma, double_quote, equals_sign, semicolon};
 ghost use Rattle.hx_lists.specs.Blanks.{trim_blanks};
-ghost use Rattle.hx_lists.specs.HeaderValues.{hdr_pieces};
-ghost use Rattle.hx_lists.specs.HeaderScan.{onto_front};
+ghost use Rattle.hx_lists.specs.HeaderValues.{hdr_pieces, pieces_with_prefix};
 ghost use Rattle.hx_lists.specs.NamedValues.{is_named, named_value, separates_params};
 ghost use Rattle.hx_lists.specs.Laws.{IsCutAt, IsCutAtCommas, IsQuotedText, IsTrimmed};
 
 /// A header line's pieces, joined by commas, are the line again; a comma outside quoted strings
-/// stands in none of them, and no quoted string goes on behind a piece that another follows. No
+/// stands in none of them, and no quoted string goes on after a piece that another follows. No
 /// other list of pieces has these facts.
 pub fn header_pieces(line: &[u8])
     ensures cut { IsCutAtCommas (hdr_pieces line.now) line.now }
@@ -16,31 +17,34 @@ pub fn header_pieces(line: &[u8])
         → pieces ≡ hdr_pieces line.now }
 {}
 
-/// The pieces of a line by what it begins with: a comma ends an empty piece; a quoted string belongs
-/// to the first piece whole, also where nothing ends it; and so does any other byte.
+/// The pieces of a line by what it begins with: a comma ends an empty piece; a quoted string
+/// belongs to the first piece whole, also where nothing ends it; and so does any other byte.
 pub fn quoted_strings()
     ensures empty { hdr_pieces [] ≡ [] ∷ [] }
-    ensures comma { (rest : List ℕ) → hdr_pieces (44 ∷ rest) ≡ [] ∷ hdr_pieces rest }
+    ensures comma { (rest : List ℕ) → hdr_pieces (comma ∷ rest) ≡ [] ∷ hdr_pieces rest }
     ensures quoted { (text rest : List ℕ) → IsQuotedText text
-        → hdr_pieces (34 ∷ (text ++ 34 ∷ rest)) ≡ onto_front (34 ∷ (text ++ 34 ∷ [])) (hdr_pieces rest) }
+        → hdr_pieces (double_quote ∷ (text ++ double_quote ∷ rest))
+        ≡ pieces_with_prefix (double_quote ∷ (text ++ double_quote ∷ [])) (hdr_pieces rest) }
     ensures unended { (text : List ℕ) → IsQuotedText text
-        → hdr_pieces (34 ∷ text) ≡ (34 ∷ text) ∷ [] }
+        → hdr_pieces (double_quote ∷ text) ≡ (double_quote ∷ text) ∷ [] }
     ensures half_pair { (text : List ℕ) → IsQuotedText text
-        → hdr_pieces (34 ∷ (text ++ 92 ∷ [])) ≡ (34 ∷ (text ++ 92 ∷ [])) ∷ [] }
-    ensures other { (b : ℕ) (rest : List ℕ) → b ≢ 34 → b ≢ 44
-        → hdr_pieces (b ∷ rest) ≡ onto_front (b ∷ []) (hdr_pieces rest) }
+        → hdr_pieces (double_quote ∷ (text ++ backslash ∷ []))
+        ≡ (double_quote ∷ (text ++ backslash ∷ [])) ∷ [] }
+    ensures other { (b : ℕ) (rest : List ℕ) → b ≢ double_quote → b ≢ comma
+        → hdr_pieces (b ∷ rest) ≡ pieces_with_prefix (b ∷ []) (hdr_pieces rest) }
 {}
 
 /// The pieces of which the cookies of a line are read make up the line with `;` between them, and
-/// hold none. No other list of pieces has these facts.
+/// have none. No other list of pieces has these facts.
 pub fn cookie_pieces(line: &[u8])
-    ensures cut { IsCutAt (λ b. b == 59) (slice_split (λ b. b == 59) line.now) line.now }
-    ensures only { (pieces : List (List ℕ)) → IsCutAt (λ b. b == 59) pieces line.now
-        → pieces ≡ slice_split (λ b. b == 59) line.now }
+    ensures cut { IsCutAt (λ b. b == semicolon)
+        (slice_split (λ b. b == semicolon) line.now) line.now }
+    ensures only { (pieces : List (List ℕ)) → IsCutAt (λ b. b == semicolon) pieces line.now
+        → pieces ≡ slice_split (λ b. b == semicolon) line.now }
 {}
 
 /// The pieces of which the parameters in a text are read make up the text with bytes between them
-/// that separate parameters, and hold none. No other list of pieces has these facts.
+/// that separate parameters, and have none. No other list of pieces has these facts.
 pub fn param_pieces(text: &[u8], delim: Option<u8>)
     ensures cut { IsCutAt (separates_params delim)
         (slice_split (separates_params delim) text.now) text.now }
@@ -48,15 +52,16 @@ pub fn param_pieces(text: &[u8], delim: Option<u8>)
         → pieces ≡ slice_split (separates_params delim) text.now }
 {}
 
-/// A piece that holds `=` is its name, the first `=` and its value.
+/// A piece that has `=` is its name, the first `=` and its value.
 pub fn name_and_value(piece: &[u8])
     ensures whole { is_named piece.now ≡ true
-        → (named_value piece.now).0 ++ 61 ∷ (named_value piece.now).1 ≡ piece.now }
-    ensures first { list_any (λ b. b == 61) (named_value piece.now).0 ≡ false }
+        → (named_value piece.now).0 ++ equals_sign ∷ (named_value piece.now).1 ≡ piece.now }
+    ensures first { list_any (λ b. b == equals_sign) (named_value piece.now).0 ≡ false }
 {}
 
 /// What a piece loses at its ends are blanks, and all of them. No other part of it has these facts.
 pub fn trimmed_ends(bytes: &[u8])
     ensures trimmed { IsTrimmed bytes.now (trim_blanks bytes.now) }
-    ensures only { (trimmed : List ℕ) → IsTrimmed bytes.now trimmed → trimmed ≡ trim_blanks bytes.now }
+    ensures only { (trimmed : List ℕ) → IsTrimmed bytes.now trimmed
+        → trimmed ≡ trim_blanks bytes.now }
 {}

@@ -2,7 +2,7 @@ ghost use Rattle.std.specs.Prelude.{◌≡◌, List, ℕ, map};
 ghost use Rattle.std.specs.List.{after_first};
 ghost use Rattle.std.specs.Iterator.{YieldsFirstBy, item_count};
 ghost use Rattle.memchr.specs.Find.{is_byte3};
-ghost use Rattle.hx_lists.specs.NamedValues.{begins_params, separates_params, trim_both};
+ghost use Rattle.hx_lists.specs.NamedValues.{begins_params, separates_params, trimmed_pair};
 ghost use Rattle.hx_lists.specs.NamedValues.{cookies, params};
 
 use crate::blanks::trim_blanks;
@@ -20,7 +20,7 @@ pub struct Cookies<'a> {
 impl<'a> Model for Cookies<'a> {
     ghost Value = { List (List ℕ × List ℕ) };
 
-    ghost view = { λ cookies. map trim_both cookies.pairs };
+    ghost view = { λ cookies. map trimmed_pair cookies.pairs };
 }
 
 impl<'a> Cookies<'a> {
@@ -46,8 +46,8 @@ impl<'a> Iterator for Cookies<'a> {
     }
 }
 
-/// The parameters of a target that are left to give. Contracts see it as their list, each a name and
-/// a value.
+/// The parameters of a target that are left to give. Contracts see it as their list, each a name
+/// and a value.
 #[derive(Drop)]
 pub struct Params<'a> {
     pairs: Pairs<'a>,

@@ -1,10 +1,9 @@
-ghost use Rattle.std.specs.Prelude.{◌≡◌, ◌<◌, ◌∷◌, List, ℕ, IfSome, is_some, length};
+ghost use Rattle.std.specs.Prelude.{◌≡◌, ◌<◌, [], ◌∷◌, List, ℕ, IfSome, is_some, length};
 ghost use Rattle.std.specs.List.{slice_split};
-ghost use Rattle.std.specs.Option.{option_copied};
+ghost use Rattle.std.specs.Option.{option_copied, option_map_or};
 ghost use Rattle.std.specs.Iterator.{YieldsFirstBy, item_count};
 ghost use Rattle.memchr.specs.Find.{is_byte3};
 ghost use Rattle.hx_lists.specs.NamedValues.{is_named, named_value, named_values};
-ghost use Rattle.hx_lists.specs.NamedValues.{named_values_left, pieces_left};
 
 use memchr::{memchr, memchr3};
 use std::marker::Model;
@@ -23,8 +22,8 @@ pub(crate) struct Pairs<'a> {
 impl<'a> Model for Pairs<'a> {
     ghost Value = { List (List ℕ × List ℕ) };
 
-    ghost view = { λ pairs. let separators = pairs.separators in
-        named_values_left (is_byte3 separators.0 separators.1 separators.2) (option_copied pairs.rest) };
+    ghost view = { λ pairs. let s = pairs.separators in
+        option_map_or (named_values (is_byte3 s.0 s.1 s.2)) (option_copied pairs.rest) [] };
 }
 
 impl<'a> Pairs<'a> {
@@ -60,7 +59,9 @@ impl<'a> Iterator for Pairs<'a> {
 /// What stands before the first separator, and what follows that separator, if there is one.
 fn first_piece<'a>(text: &'a [u8], separators: Separators) -> (&'a [u8], Option<&'a [u8]>)
     ensures pieces { slice_split (is_byte3 separators.0 separators.1 separators.2) text.now
-        ≡ result.0.now ∷ pieces_left (is_byte3 separators.0 separators.1 separators.2) (option_copied result.1) }
+        ≡ result.0.now ∷ option_map_or
+        (slice_split (is_byte3 separators.0 separators.1 separators.2))
+        (option_copied result.1) [] }
     ensures shorter { IfSome result.1 (λ rest. length rest.now < length text.now) }
 {
     match memchr3(separators.0, separators.1, separators.2, text) {
@@ -69,7 +70,7 @@ fn first_piece<'a>(text: &'a [u8], separators: Separators) -> (&'a [u8], Option<
     }
 }
 
-/// What stands before the first `=` and what stands behind it, if there is one.
+/// What stands before the first `=` and what follows it, if there is one.
 fn named_value<'a>(piece: &'a [u8]) -> Option<(&'a [u8], &'a [u8])>
     ensures named { is_some result ≡ is_named piece.now }
     ensures parts { IfSome result (λ pair. (pair.0.now, pair.1.now) ≡ named_value piece.now) }

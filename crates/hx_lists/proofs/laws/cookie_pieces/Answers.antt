@@ -1,5 +1,5 @@
 use Rattle.std.proofs.Common.{◌==◌}
-use Rattle.hx_lists.proofs.SplitLaws.{IsCutAt-slice_split, IsCutAt-only}
+use Rattle.hx_lists.proofs.SplitLemmas.{IsCutAt-slice_split, IsCutAt-only}
 use Rattle.hx_lists.proofs.laws.cookie_pieces.Goals as goal
 
 pub returns-clause-cut : goal.returns-clause-cut

@@ -1,4 +1,4 @@
-use Rattle.hx_lists.proofs.PiecesLaws.{IsCutAtCommas-hdr_pieces, IsCutAtCommas-only}
+use Rattle.hx_lists.proofs.CommaLemmas.{IsCutAtCommas-hdr_pieces, IsCutAtCommas-only}
 use Rattle.hx_lists.proofs.laws.header_pieces.Goals as goal
 
 pub returns-clause-cut : goal.returns-clause-cut

@@ -1,5 +1,5 @@
 use Rattle.std.proofs.Common.{◌==◌}
-use Rattle.hx_lists.proofs.Cuts.{around_first, before_first-lacks}
+use Rattle.hx_lists.proofs.CutLemmas.{around_first, before_first-lacks}
 use Rattle.hx_lists.proofs.laws.name_and_value.Goals as goal
 
 pub returns-clause-whole : goal.returns-clause-whole

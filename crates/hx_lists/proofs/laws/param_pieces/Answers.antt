@@ -1,5 +1,5 @@
 use Rattle.hx_lists.specs.NamedValues.{separates_params}
-use Rattle.hx_lists.proofs.SplitLaws.{IsCutAt-slice_split, IsCutAt-only}
+use Rattle.hx_lists.proofs.SplitLemmas.{IsCutAt-slice_split, IsCutAt-only}
 use Rattle.hx_lists.proofs.laws.param_pieces.Goals as goal
 
 pub returns-clause-cut : goal.returns-clause-cut

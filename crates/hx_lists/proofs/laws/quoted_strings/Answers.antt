@@ -1,4 +1,4 @@
-use Rattle.hx_lists.proofs.QuotedLaws.{hdr_pieces-quoted, hdr_pieces-unended, hdr_pieces-half_pair, hdr_pieces-other}
+use Rattle.hx_lists.proofs.QuotedLemmas.{hdr_pieces-quoted, hdr_pieces-unended, hdr_pieces-half_pair, hdr_pieces-other}
 use Rattle.hx_lists.proofs.laws.quoted_strings.Goals as goal
 
 pub returns-clause-quoted : goal.returns-clause-quoted

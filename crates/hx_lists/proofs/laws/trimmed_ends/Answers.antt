@@ -1,4 +1,4 @@
-use Rattle.hx_lists.proofs.TrimLaws.{IsTrimmed-trim_blanks, IsTrimmed-only}
+use Rattle.hx_lists.proofs.TrimLemmas.{IsTrimmed-trim_blanks, IsTrimmed-only}
 use Rattle.hx_lists.proofs.laws.trimmed_ends.Goals as goal
 
 pub returns-clause-trimmed : goal.returns-clause-trimmed

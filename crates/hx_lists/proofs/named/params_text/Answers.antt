@@ -2,7 +2,7 @@ use Rattle.std.proofs.Common.{ℕ, ◌+◌, Bool, Some, None, ap, subst, sym, �
 use Rattle.std.proofs.lemmas.List.{take_rest}
 use Rattle.memchr.specs.Find.{IsFirstByte, is_byte2}
 use Rattle.hx_lists.specs.NamedValues.{begins_params}
-use Rattle.hx_lists.proofs.Cuts.{after_first-at, after_first-none, is_byte2-begins}
+use Rattle.hx_lists.proofs.CutLemmas.{after_first-at, after_first-none, is_byte2-begins}
 use Rattle.hx_lists.proofs.named.params_text.Goals as goal
 
 pub returns-in-Some : goal.returns-in-Some

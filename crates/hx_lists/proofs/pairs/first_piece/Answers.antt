@@ -2,7 +2,7 @@ use Rattle.std.proofs.Common.{◌∷◌, ◌+◌, take, ap, sym, ◌∙◌}
 use Rattle.std.specs.List.{slice_split}
 use Rattle.std.proofs.lemmas.List.{take_rest}
 use Rattle.memchr.specs.Find.{is_byte3}
-use Rattle.hx_lists.proofs.Cuts.{slice_split-at, slice_split-none}
+use Rattle.hx_lists.proofs.CutLemmas.{slice_split-at, slice_split-none}
 use Rattle.hx_lists.proofs.pairs.first_piece.Goals as goal
 
 pub returns-in-Some-clause-pieces : goal.returns-in-Some-clause-pieces
