@@ -1,4 +1,4 @@
-//! What the definitions of casts and of variables imply, for callers of any of them.
+//! Laws: what the definitions of casts and of variables imply.
 ghost use Rattle.std.specs.Prelude.{◌≡◌, ◌≢◌, ℕ, Some, None, option_and_then, if◌then◌else◌};
 ghost use Rattle.hx_text.specs.declared.kinds.Kind.TheVariants as kind;
 ghost use Rattle.hx_text.specs.declared.names.VarName.{VarName};
