@@ -8,10 +8,10 @@ use Rattle.hx_sample.specs.declared.sample.Value.{Value}
 use Rattle.hx_sample.specs.Cast.{from_str}
 use Rattle.hx_sample.specs.Seen.{occurrence_values}
 
--- texts as values of a kind, each an occurrence
-abbrev pub text_occurrences : Kind → List (Bor (List ℕ)) → List (Option Value)
-text_occurrences kind texts = map (λ text. from_str text.now kind) texts
+-- lent texts as values of a kind, each an occurrence
+abbrev pub lent_occurrences : Kind → List (Bor (List ℕ)) → List (Option Value)
+lent_occurrences kind texts = map (λ text. from_str text.now kind) texts
 
 abbrev pub listed_occurrences : Option (Option Sample) → Kind → List (Bor (List ℕ)) → List (Option Sample) → List (Option Value)
 listed_occurrences first kind texts others =
-    occurrence_values (option_to_list first) ++ (text_occurrences kind texts ++ occurrence_values others)
+    occurrence_values (option_to_list first) ++ (lent_occurrences kind texts ++ occurrence_values others)

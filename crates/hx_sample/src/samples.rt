@@ -46,6 +46,18 @@ impl<'a> Samples<'a> {
         }
     }
 
+    /// One occurrence. It takes no memory; those that are pushed later take it from `alloc`.
+    pub fn lone(alloc: Global, occurrence: Option<Sample<'a>>) -> Samples<'a>
+        ensures { result ≡ occurrence_value occurrence.entry ∷ [] }
+    {
+        Samples {
+            first: Some(occurrence),
+            texts: VecDeque::new(alloc),
+            kind: Kind::Any,
+            others: VecDeque::new(alloc),
+        }
+    }
+
     /// No occurrences, with memory for `count` texts that are pushed as values of the kind `kind`. For
     /// one text it takes none.
     pub fn for_texts(alloc: Global, kind: Kind, count: usize) -> Result<Samples<'a>, NoMemory>

@@ -6,7 +6,7 @@ use Rattle.std.proofs.lemmas.List.{map-append, length-reverse, reverse-append}
 use Rattle.std.proofs.lemmas.Option.{slice_get_past}
 use Rattle.std.proofs.lemmas.List.Elements.{filter-append}
 use Rattle.hx_lists.specs.NamedValues.{NamedValue, cookies}
-use Rattle.hx_fetch.specs.Names.{is_called, values_called}
+use Rattle.hx_fetch.specs.Names.{is_pair_name, values_under}
 
 -- what stands at a place is the first of what is left from it on
 drop_from : {A : Type 0} (xs : List A) (k : ℕ) (x : A) → slice_get xs k ≡ Some x → drop k xs ≡ x ∷ drop (suc k) xs
@@ -40,32 +40,32 @@ some_left [] ys (suc k) x h = cc
 some_left (z ∷ xs) ys zero x h = omega arith
 some_left (z ∷ xs) ys (suc k) x h = omega (arith, some_left xs ys k x h)
 
-left_behind : {A : Type 0} (xs ys : List A) (k : ℕ) (x : A) → drop k xs ≡ x ∷ ys → ys ≡ drop (suc k) xs
-left_behind [] ys zero x h = cc
-left_behind [] ys (suc k) x h = cc
-left_behind (z ∷ xs) ys zero x h = cc
-left_behind (z ∷ xs) ys (suc k) x h = left_behind xs ys k x h
+left_after : {A : Type 0} (xs ys : List A) (k : ℕ) (x : A) → drop k xs ≡ x ∷ ys → ys ≡ drop (suc k) xs
+left_after [] ys zero x h = cc
+left_after [] ys (suc k) x h = cc
+left_after (z ∷ xs) ys zero x h = cc
+left_after (z ∷ xs) ys (suc k) x h = left_after xs ys k x h
 
--- and what is left behind the first of it is left from the next place on
+-- and what is left after the first of it is left from the next place on
 pub next_left : {A : Type 0} (xs ys : List A) (k : ℕ) (x : A) → drop k xs ≡ x ∷ ys → ys ≡ drop (k + 1) xs
-next_left xs ys k x h = rw add-one (left_behind xs ys k x h)
+next_left xs ys k x h = rw add-one (left_after xs ys k x h)
 
 -- each item alone, joined
 pub joined_alone : {A : Type 0} (xs : List A) → flat_map (λ x. x ∷ []) xs ≡ xs
 joined_alone [] = refl
 joined_alone (x ∷ xs) = ap (λ rest. x ∷ rest) (joined_alone xs)
 
-values_called-append : (name : Option (List ℕ)) (ps qs : List NamedValue) → values_called name (ps ++ qs) ≡ values_called name ps ++ values_called name qs
-values_called-append name ps qs =
-    ap (map (λ pair. pair.1)) (filter-append (is_called name) ps qs)
-    ∙ map-append (λ pair. pair.1) (filter (is_called name) ps) (filter (is_called name) qs)
+values_under-append : (name : Option (List ℕ)) (ps qs : List NamedValue) → values_under name (ps ++ qs) ≡ values_under name ps ++ values_under name qs
+values_under-append name ps qs =
+    ap (map (λ pair. pair.1)) (filter-append (λ (pair : NamedValue). is_pair_name name pair.0) ps qs)
+    ∙ map-append (λ pair. pair.1) (filter (λ (pair : NamedValue). is_pair_name name pair.0) ps) (filter (λ (pair : NamedValue). is_pair_name name pair.0) qs)
 
 -- the cookies of each line that have the name are those of all lines that have it
-pub cookies_by_line : (name : Option (List ℕ)) (lines : List (List ℕ)) → flat_map (λ line. values_called name (cookies line)) lines ≡ values_called name (flat_map cookies lines)
+pub cookies_by_line : (name : Option (List ℕ)) (lines : List (List ℕ)) → flat_map (λ line. values_under name (cookies line)) lines ≡ values_under name (flat_map cookies lines)
 cookies_by_line name [] = refl
 cookies_by_line name (line ∷ lines) =
-    ap (λ rest. values_called name (cookies line) ++ rest) (cookies_by_line name lines)
-    ∙ sym (values_called-append name (cookies line) (flat_map cookies lines))
+    ap (λ rest. values_under name (cookies line) ++ rest) (cookies_by_line name lines)
+    ∙ sym (values_under-append name (cookies line) (flat_map cookies lines))
 
 get_in_front : {A : Type 0} (xs ys : List A) (k : ℕ) → k < length xs → slice_get (xs ++ ys) k ≡ slice_get xs k
 get_in_front [] ys k h = absurd (omega arith)
@@ -76,16 +76,16 @@ get_at_seam : {A : Type 0} (xs : List A) (y : A) → slice_get (xs ++ y ∷ []) 
 get_at_seam [] y = refl
 get_at_seam (x ∷ xs) y = get_at_seam xs y
 
--- an item that has as many behind it as are asked for
+-- an item that has as many after it as are asked for
 pub back_at : {A : Type 0} (xs ys : List A) (k : ℕ) (x : A) → xs ≡ x ∷ ys → length ys ≡ k → slice_get (reverse xs) k ≡ Some x
 back_at xs ys k x h e =
     ap (λ zs. slice_get (reverse zs) k) h ∙ ap (λ zs. slice_get zs k) (reverse-append (x ∷ []) ys)
     ∙ ap (slice_get (reverse ys ++ x ∷ [])) (sym e ∙ sym (length-reverse ys))
     ∙ get_at_seam (reverse ys) x
 
--- an item that has more behind it makes no difference to those behind it
-pub back_behind : {A : Type 0} (xs ys : List A) (k : ℕ) (x : A) → xs ≡ x ∷ ys → k < length ys → slice_get (reverse xs) k ≡ slice_get (reverse ys) k
-back_behind xs ys k x h within =
+-- an item that has more after it makes no difference to those after it
+pub back_after : {A : Type 0} (xs ys : List A) (k : ℕ) (x : A) → xs ≡ x ∷ ys → k < length ys → slice_get (reverse xs) k ≡ slice_get (reverse ys) k
+back_after xs ys k x h within =
     ap (λ zs. slice_get (reverse zs) k) h ∙ ap (λ zs. slice_get zs k) (reverse-append (x ∷ []) ys)
     ∙ get_in_front (reverse ys) (x ∷ []) k (rw length-reverse within)
 
