@@ -8,7 +8,7 @@ use Rattle.std.proofs.lemmas.List.Elements.{filter-append}
 use Rattle.hx_lists.specs.NamedValues.{NamedValue, cookies}
 use Rattle.hx_fetch.specs.Names.{is_pair_name, values_under}
 
--- what stands at a place is the first of what is left from it on
+-- the item at a position is the first of what is left from it on
 drop_from : {A : Type 0} (xs : List A) (k : ℕ) (x : A) → slice_get xs k ≡ Some x → drop k xs ≡ x ∷ drop (suc k) xs
 drop_from [] k x h = cc
 drop_from (y ∷ ys) zero x h = cc
@@ -17,7 +17,7 @@ drop_from (y ∷ ys) (suc k) x h = drop_from ys k x h
 pub drop_at : {A : Type 0} (xs : List A) (k : ℕ) (x : A) → slice_get xs k ≡ Some x → drop k xs ≡ x ∷ drop (k + 1) xs
 drop_at xs k x h = rw add-one (drop_from xs k x h)
 
--- what stands at a place is found by what is left from it on
+-- the item at a position is found by what is left from it on
 get_left : {A : Type 0} (xs : List A) (k : ℕ) → slice_get (drop k xs) zero ≡ slice_get xs k
 get_left [] zero = refl
 get_left [] (suc k) = refl
@@ -27,13 +27,13 @@ get_left (x ∷ xs) (suc k) = get_left xs k
 pub get_of_left : {A : Type 0} (xs ys : List A) (k : ℕ) → ys ≡ drop k xs → slice_get xs k ≡ slice_get ys zero
 get_of_left xs ys k h = sym (ap (λ zs. slice_get zs zero) h ∙ get_left xs k)
 
--- nothing is left from a place on: the list is no longer
+-- nothing is left from a position on: the list is no longer
 pub none_left : {A : Type 0} (xs : List A) (k : ℕ) → drop k xs ≡ [] → length xs ≤ k
 none_left [] k h = omega arith
 none_left (x ∷ xs) zero h = cc
 none_left (x ∷ xs) (suc k) h = omega (arith, none_left xs k h)
 
--- something is left from a place on: the list is longer
+-- something is left from a position on: the list is longer
 pub some_left : {A : Type 0} (xs ys : List A) (k : ℕ) (x : A) → drop k xs ≡ x ∷ ys → k < length xs
 some_left [] ys zero x h = cc
 some_left [] ys (suc k) x h = cc
@@ -46,7 +46,7 @@ left_after [] ys (suc k) x h = cc
 left_after (z ∷ xs) ys zero x h = cc
 left_after (z ∷ xs) ys (suc k) x h = left_after xs ys k x h
 
--- and what is left after the first of it is left from the next place on
+-- and what is left after the first of it is left from the next position on
 pub next_left : {A : Type 0} (xs ys : List A) (k : ℕ) (x : A) → drop k xs ≡ x ∷ ys → ys ≡ drop (k + 1) xs
 next_left xs ys k x h = rw add-one (left_after xs ys k x h)
 
@@ -92,3 +92,9 @@ back_after xs ys k x h within =
 -- nothing stands so far from the end of a list that is no longer
 pub back_past : {A : Type 0} (xs : List A) (k : ℕ) → length xs ≤ k → slice_get (reverse xs) k ≡ None
 back_past xs k short = slice_get_past (reverse xs) k (rw length-reverse short)
+
+-- a reader that goes forward
+pub ruleset forward = (none_left, some_left, next_left)
+
+-- two readers, one so far ahead of the other
+pub ruleset backward = (back_at, back_after, back_past, none_left, next_left)

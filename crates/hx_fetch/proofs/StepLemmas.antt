@@ -60,8 +60,8 @@ end_of-selection false f None xs = first_of-map f xs
 end_of-selection last f (Some n) xs = end_of-one last f (occurrence_at n xs)
 
 -- the occurrence at the end of those of a selection of texts
-pub end_is : (last : Bool) (at : Option ℤ) (kind : Kind) (texts : List (List ℕ)) (places : List (Option Value)) (text : Option (List ℕ)) → text_occurrences kind (selection at texts) ≡ places → text ≡ selection_end last at texts → option_and_then (λ t. cast_of (value.Str t) kind) text ≡ end_of last places
-end_is last at kind texts places text e t =
+pub end_is : (last : Bool) (at : Option ℤ) (kind : Kind) (texts : List (List ℕ)) (occurrences : List (Option Value)) (text : Option (List ℕ)) → text_occurrences kind (selection at texts) ≡ occurrences → text ≡ selection_end last at texts → option_and_then (λ t. cast_of (value.Str t) kind) text ≡ end_of last occurrences
+end_is last at kind texts occurrences text e t =
     ap (option_and_then (read_as kind)) t ∙ sym (end_of-selection last (read_as kind) at texts) ∙ ap (end_of last) e
 
 -- the last of some texts, and before any the one that is given

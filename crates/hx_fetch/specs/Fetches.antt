@@ -1,5 +1,5 @@
--- What each fetch finds, as the list of its occurrences, each a value or none (HAProxy configuration
--- manual 2.4 sections 7.3.2 to 7.3.6).
+-- What each fetch finds, as the list of its occurrences, each a value or none (HAProxy
+-- configuration manual 2.4 sections 7.3.2 to 7.3.6).
 use Rattle.std.specs.Prelude.{ℕ, ◌-◌, ◌^◌, min, pos, Bool, true, false, List, [], ◌∷◌, ◌++◌, map, length, codes, Option, Some, option_map, ◌==◌, if◌then◌else◌}
 use Rattle.hx_ast.specs.declared.fetch.Fetch.{Fetch}
 use Rattle.hx_ast.specs.declared.fetch.Fetch.TheVariants as fetch
@@ -27,7 +27,8 @@ first_text (text ∷ texts) = text
 -- the whole value of the first `Host` line, or nothing, and the path after it; none without a path
 abbrev pub base_of : Parts → Option (List ℕ)
 base_of message =
-    option_map (λ path. first_text (header_lines (Some (codes "Host")) message.headers) ++ path) (path_of message.target)
+    let host = first_text (header_lines (Some (codes "Host")) message.headers) in
+    option_map (λ path. host ++ path) (path_of message.target)
 
 -- how many there are, as an integer of 64 bits with a sign, which saturates
 abbrev pub count_of : {A : Type 0} → List A → Value
@@ -37,7 +38,8 @@ count_of xs = value.Int (pos (min (length xs) (2 ^ 63 - 1)))
 abbrev pub text_occurrences : Kind → List (List ℕ) → List (Option Value)
 text_occurrences kind texts = map (λ text. cast_of (value.Str text) kind) texts
 
--- The occurrences of a fetch. One that isn't about many lines, values, cookies or parameters has one.
+-- The occurrences of a fetch. One that isn't about many lines, values, cookies or parameters has
+-- one.
 abbrev pub occurrences_of : Fetch → Context → List (Option Value)
 occurrences_of fetch.AlwaysTrue context = Some (value.Bool true) ∷ []
 occurrences_of fetch.AlwaysFalse context = Some (value.Bool false) ∷ []
@@ -66,13 +68,17 @@ occurrences_of (fetch.ReqHdrIp name at) context =
     text_occurrences kind.Ip (selection at (header_values (Some name) context.message.headers))
 occurrences_of (fetch.ReqHdrVal name at) context =
     text_occurrences kind.Int (selection at (header_values (Some name) context.message.headers))
-occurrences_of (fetch.ReqHdrCnt name) context = Some (count_of (header_values name context.message.headers)) ∷ []
-occurrences_of (fetch.ReqCook name) context = text_occurrences kind.Str (cookie_values name context.message.headers)
-occurrences_of (fetch.ReqCookCnt name) context = Some (count_of (cookie_values name context.message.headers)) ∷ []
-occurrences_of (fetch.UrlParam name delim) context = text_occurrences kind.Str (param_values name delim context.message.target)
+occurrences_of (fetch.ReqHdrCnt name) context =
+    Some (count_of (header_values name context.message.headers)) ∷ []
+occurrences_of (fetch.ReqCook name) context =
+    text_occurrences kind.Str (cookie_values name context.message.headers)
+occurrences_of (fetch.ReqCookCnt name) context =
+    Some (count_of (cookie_values name context.message.headers)) ∷ []
+occurrences_of (fetch.UrlParam name delim) context =
+    text_occurrences kind.Str (param_values name delim context.message.target)
 
--- Whether an expression takes the last occurrence of a fetch, and not the first: of the values and lines
--- of a header, and of the cookies of a name.
+-- Whether an expression takes the last occurrence of a fetch, and not the first: of the values and
+-- lines of a header, and of the cookies of a name.
 abbrev pub takes_last : Fetch → Bool
 takes_last (fetch.ReqHdr name at) = true
 takes_last (fetch.ReqFhdr name at) = true

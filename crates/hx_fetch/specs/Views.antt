@@ -1,5 +1,5 @@
--- What the code keeps while it looks for texts in a request: what a fetch leads to, where texts stand,
--- and those that are left of them while they are read.
+-- What the code keeps while it looks for texts in a request: what a fetch leads to, where texts
+-- stand, and those that are left of them while they are read.
 use Rattle.std.specs.Prelude.{ℕ, List, [], ◌∷◌, ◌++◌, Option}
 use Rattle.std.specs.List.{flat_map}
 use Rattle.std.specs.Option.{option_copied, option_to_list}
@@ -24,7 +24,8 @@ abbrev pub source_texts : TextSource → List (List ℕ)
 source_texts (source.Lines message name) = header_lines (option_copied name) message.now.headers
 source_texts (source.Values message name) = header_values (option_copied name) message.now.headers
 source_texts (source.Cookies message name) = cookie_values (option_copied name) message.now.headers
-source_texts (source.Params message name delim) = param_values (option_copied name) delim message.now.target
+source_texts (source.Params message name delim) =
+    param_values (option_copied name) delim message.now.target
 
 -- the texts that a header line is cut into; of cookies, those of the name
 abbrev pub texts_of_line : LineForm → Option (List ℕ) → List ℕ → List (List ℕ)
@@ -41,9 +42,11 @@ texts_of_rest name (rest.Params pairs) = values_under name pairs
 
 -- the texts that are left of a line, and those of the lines after it
 abbrev pub texts_of_reader : Option (List ℕ) → LineRest → LineForm → List (List ℕ) → List (List ℕ)
-texts_of_reader name rest form lines = texts_of_rest name rest ++ flat_map (texts_of_line form name) lines
+texts_of_reader name rest form lines =
+    texts_of_rest name rest ++ flat_map (texts_of_line form name) lines
 
 -- the occurrences that a looked up fetch stands for
 abbrev pub found_occurrences : Found → List (Option Value)
 found_occurrences (One occurrence) = occurrence_value occurrence ∷ []
-found_occurrences (Texts source at kind) = text_occurrences kind (selection at (source_texts source))
+found_occurrences (Texts source at kind) =
+    text_occurrences kind (selection at (source_texts source))

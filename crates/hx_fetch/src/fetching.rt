@@ -28,26 +28,27 @@ fn takes_last(fetch: &Fetch) -> bool
 /// Every occurrence of `fetch` in `world`, in order, each its value or none, as an ACL tries them
 /// (HAProxy configuration manual 2.4, sections 7.3.2 to 7.3.6).
 ///
-/// - The constants, the addresses and ports of the connection, the variable, the method, the version,
-///   the path, the query, the target and `base` have one occurrence. It is none where the variable is
-///   unset, where there is no path or no query, and for `base` where there is no path.
-/// - `hdr` has an occurrence for each comma-separated value of each line of the header, `fhdr` one for
-///   each line. `hdr_ip` and `hdr_val` have those of `hdr`, which are none where the value is no
-///   address, or no integer. With the number of an occurrence the list is that one, counted from the
-///   first where it is positive and from the last where it is negative, or it is empty.
-/// - `cook` and `url_param` have an occurrence for each cookie or parameter of the name, or without a
-///   name for each at all.
+/// - The constants, the addresses and ports of the connection, the variable, the method, the
+///   version, the path, the query, the target and `base` have one occurrence. It is none where the
+///   variable is unset, where there is no path or no query, and for `base` where there is no path.
+/// - `hdr` has an occurrence for each comma-separated value of each line of the header, `fhdr` one
+///   for each line. `hdr_ip` and `hdr_val` have those of `hdr`, which are none where the value is
+///   no address, or no integer. With the number of an occurrence the list is that one, counted from
+///   the first where it is positive and from the last where it is negative, or it is empty.
+/// - `cook` and `url_param` have an occurrence for each cookie or parameter of the name, or without
+///   a name for each at all.
 /// - The counts have one occurrence. They saturate.
 ///
-/// Names of headers are compared without regard to case, others byte by byte. Bytes are lent from the
-/// message and the variables; those of an argument and of `base` are copied. A list of texts takes 16
-/// bytes for each but the first. It fails only where memory runs out.
+/// Names of headers are compared without regard to case, others byte by byte. Bytes are lent from
+/// the message and the variables; those of an argument and of `base` are copied. A list of texts
+/// takes 16 bytes for each but the first. It fails only where memory runs out.
 pub fn occurrences<'w>(
     alloc: Global,
     fetch: &Fetch,
     world: &World<'w>,
 ) -> Result<Samples<'w>, NoMemory>
-    ensures { IfOk result (λ occurrences. occurrences ≡ occurrences_of fetch.now (context_of world.now)) }
+    ensures { IfOk result (λ occurrences.
+        occurrences ≡ occurrences_of fetch.now (context_of world.now)) }
 {
     match look_up(alloc, fetch, world)? {
         Found::One(occurrence) => Ok(Samples::lone(alloc, occurrence)),
@@ -63,10 +64,10 @@ pub fn occurrences<'w>(
 }
 
 /// The occurrence of `fetch` in `world` that an expression takes, or none where that is none or
-/// `fetch` has no occurrences: the last occurrence of `hdr`, `fhdr`, `hdr_ip`, `hdr_val` and of `cook`
-/// with a name, and the first of the others. The occurrences and their values are those of
-/// `occurrences`, and no list of them is made. It fails only where memory runs out, which it can only
-/// for an argument and for `base`.
+/// `fetch` has no occurrences: the last occurrence of `hdr`, `fhdr`, `hdr_ip`, `hdr_val` and of
+/// `cook` with a name, and the first of the others. The occurrences and their values are those of
+/// `occurrences`, and no list of them is made. It fails only where memory runs out, which it can
+/// only for an argument and for `base`.
 pub fn chosen<'w>(
     alloc: Global,
     fetch: &Fetch,

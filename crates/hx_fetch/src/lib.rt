@@ -1,7 +1,7 @@
 //! What the fetches of an expression find in a request, its connection and the variables.
 //!
-//! `specs/Fetches.antt` says for each fetch which occurrences it has, as the function `occurrences_of`,
-//! and which of them an expression takes, as `chosen_of`.
+//! `specs/Fetches.antt` says for each fetch which occurrences it has, as the function
+//! `occurrences_of`, and which of them an expression takes, as `chosen_of`.
 //!
 //! ```
 //! let message = read_head(alloc, b"GET /a?b HTTP/1.1\r\n\r\n")?;

@@ -27,7 +27,8 @@ pub(crate) struct Lines<'f, 'w> {
 impl<'f, 'w> Model for Lines<'f, 'w> {
     ghost Value = { List (List ℕ) };
 
-    ghost view = { λ lines. header_lines (option_copied lines.name) (drop lines.at lines.message.now.headers) };
+    ghost view = { λ lines.
+        header_lines (option_copied lines.name) (drop lines.at lines.message.now.headers) };
 }
 
 impl<'f, 'w> Lines<'f, 'w> {
@@ -74,8 +75,10 @@ fn next_line<'w>(
     name: Option<&[u8]>,
     start: usize,
 ) -> Option<(&'w [u8], usize)>
-    ensures none { IfNone result (header_lines (option_copied name.entry) (drop start message.now.headers) ≡ []) }
-    ensures some { IfSome result (λ found. header_lines (option_copied name.entry) (drop start message.now.headers)
+    ensures none { IfNone result
+        (header_lines (option_copied name.entry) (drop start message.now.headers) ≡ []) }
+    ensures some { IfSome result (λ found.
+        header_lines (option_copied name.entry) (drop start message.now.headers)
         ≡ found.0.now ∷ header_lines (option_copied name.entry) (drop found.1 message.now.headers)) }
 {
     for at in start..message.len() {

@@ -4,8 +4,8 @@ ghost use Rattle.hx_sample.specs.declared.sample.Value.TheVariants as value;
 ghost use Rattle.hx_sample.specs.Seen.{bytes_of, occurrence_value};
 ghost use Rattle.hx_sample.specs.Vars.{var_of};
 ghost use Rattle.hx_fetch.specs.Fetches.{base_of, first_text, occurrences_of, version_text};
-ghost use Rattle.hx_fetch.specs.Names.{header_lines};
-ghost use Rattle.hx_fetch.specs.Views.{found_occurrences};
+ghost use Rattle.hx_fetch.specs.Names.{cookie_values, header_lines, header_values};
+ghost use Rattle.hx_fetch.specs.Views.{found_occurrences, source_texts};
 ghost use Rattle.hx_fetch.specs.World.{context_of};
 
 use crate::lines::Lines;
@@ -18,8 +18,8 @@ use hx_sample::{Bytes, Sample, lend};
 use hx_text::{Kind, NoMemory, Octets, VarName};
 use std::alloc::Global;
 
-/// What a fetch leads to: one occurrence, or a source of texts, of which all or the one of the number
-/// that is given are its occurrences, each as a value of a kind.
+/// What a fetch leads to: one occurrence, or a source of texts, of which all or the one of the
+/// number that is given are its occurrences, each as a value of a kind.
 #[derive(Drop)]
 pub(crate) enum Found<'f, 'w> {
     One(Option<Sample<'w>>),
@@ -51,7 +51,8 @@ fn joined(alloc: Global, first: &[u8], last: &[u8]) -> Result<Octets, NoMemory>
 }
 
 fn base<'w>(alloc: Global, message: &Message) -> Result<Option<Sample<'w>>, NoMemory>
-    ensures { IfOk result (λ base. occurrence_value base ≡ option_map value.Str (base_of message.now)) }
+    ensures { IfOk result (λ base.
+        occurrence_value base ≡ option_map value.Str (base_of message.now)) }
 {
     match message.path() {
         Some(path) => Ok(Some(Sample::Str(Bytes::Own(joined(alloc, host(message), path)?)))),
@@ -86,6 +87,24 @@ fn given_name(name: &Option<Octets>) -> Option<&[u8]>
     }
 }
 
+fn values<'f, 'w>(message: &'w Message, name: &'f Octets) -> TextSource<'f, 'w>
+    ensures { source_texts result ≡ header_values (Some name.now) message.now.headers }
+{
+    TextSource::Values(message, Some(name.as_slice()))
+}
+
+fn lines<'f, 'w>(message: &'w Message, name: &'f Octets) -> TextSource<'f, 'w>
+    ensures { source_texts result ≡ header_lines (Some name.now) message.now.headers }
+{
+    TextSource::Lines(message, Some(name.as_slice()))
+}
+
+fn cookies<'f, 'w>(message: &'w Message, name: &'f Option<Octets>) -> TextSource<'f, 'w>
+    ensures { source_texts result ≡ cookie_values name.now message.now.headers }
+{
+    TextSource::Cookies(message, given_name(name))
+}
+
 fn copied<'w>(alloc: Global, octets: &Octets) -> Result<Bytes<'w>, NoMemory>
     ensures { IfOk result (λ bytes. bytes_of bytes ≡ octets.now) }
 {
@@ -99,7 +118,8 @@ pub(crate) fn look_up<'f, 'w>(
     fetch: &'f Fetch,
     world: &World<'w>,
 ) -> Result<Found<'f, 'w>, NoMemory>
-    ensures { IfOk result (λ found. found_occurrences found ≡ occurrences_of fetch.now (context_of world.now)) }
+    ensures { IfOk result (λ found.
+        found_occurrences found ≡ occurrences_of fetch.now (context_of world.now)) }
 {
     let message = world.message;
     let conn = world.conn;
@@ -123,53 +143,19 @@ pub(crate) fn look_up<'f, 'w>(
         Fetch::Query => Found::One(lent_text(message.query())),
         Fetch::Url => Found::One(lent_text(Some(message.target()))),
         Fetch::Base => Found::One(base(alloc, message)?),
-        Fetch::ReqHdr(name, at) => {
-            Found::Texts(
-                TextSource::Values(message, Some(name.as_slice())),
-                *at,
-                Kind::Str,
-            )
-        }
-        Fetch::ReqFhdr(name, at) => {
-            Found::Texts(
-                TextSource::Lines(message, Some(name.as_slice())),
-                *at,
-                Kind::Str,
-            )
-        }
-        Fetch::ReqHdrIp(name, at) => {
-            Found::Texts(
-                TextSource::Values(message, Some(name.as_slice())),
-                *at,
-                Kind::Ip,
-            )
-        }
-        Fetch::ReqHdrVal(name, at) => {
-            Found::Texts(
-                TextSource::Values(message, Some(name.as_slice())),
-                *at,
-                Kind::Int,
-            )
-        }
+        Fetch::ReqHdr(name, at) => Found::Texts(values(message, name), *at, Kind::Str),
+        Fetch::ReqFhdr(name, at) => Found::Texts(lines(message, name), *at, Kind::Str),
+        Fetch::ReqHdrIp(name, at) => Found::Texts(values(message, name), *at, Kind::Ip),
+        Fetch::ReqHdrVal(name, at) => Found::Texts(values(message, name), *at, Kind::Int),
         Fetch::ReqHdrCnt(name) => {
-            Found::One(Some(count(TextSource::Values(message, given_name(name)))))
+            let source = TextSource::Values(message, given_name(name));
+            Found::One(Some(count(source)))
         }
-        Fetch::ReqCook(name) => {
-            Found::Texts(
-                TextSource::Cookies(message, given_name(name)),
-                None,
-                Kind::Str,
-            )
-        }
-        Fetch::ReqCookCnt(name) => {
-            Found::One(Some(count(TextSource::Cookies(message, given_name(name)))))
-        }
+        Fetch::ReqCook(name) => Found::Texts(cookies(message, name), None, Kind::Str),
+        Fetch::ReqCookCnt(name) => Found::One(Some(count(cookies(message, name)))),
         Fetch::UrlParam(name, delim) => {
-            Found::Texts(
-                TextSource::Params(message, given_name(name), *delim),
-                None,
-                Kind::Str,
-            )
+            let source = TextSource::Params(message, given_name(name), *delim);
+            Found::Texts(source, None, Kind::Str)
         }
     })
 }

@@ -76,7 +76,8 @@ fn next_param<'w>(pairs: &mut Params<'w>, name: Option<&[u8]>) -> Option<&'w [u8
 
 impl<'w> LineRest<'w> {
     fn of_line(line: &'w [u8], form: LineForm) -> LineRest<'w>
-        ensures { (name : Option (List ℕ)) → texts_of_rest name result ≡ texts_of_line form name line.now }
+        ensures { (name : Option (List ℕ)) →
+            texts_of_rest name result ≡ texts_of_line form name line.now }
     {
         match form {
             LineForm::Whole => LineRest::Line(Some(line)),
@@ -118,7 +119,8 @@ impl<'f, 'w> Model for TextReader<'f, 'w> {
 
     ghost use Rattle.hx_fetch.specs.Views.{texts_of_reader};
 
-    ghost view = { λ texts. texts_of_reader (option_copied texts.name) texts.rest texts.form texts.lines };
+    ghost view = { λ texts.
+        texts_of_reader (option_copied texts.name) texts.rest texts.form texts.lines };
 }
 
 /// The texts of all lines of a header.

@@ -12,7 +12,7 @@ use hx_text::{Kind, NoMemory};
 use std::alloc::Global;
 
 /// Goes past so many texts, and answers whether there are as many.
-#[tactic(auto, using(crate::proofs::ListLemmas::none_left, crate::proofs::ListLemmas::some_left, crate::proofs::ListLemmas::next_left))]
+#[tactic(auto, using(crate::proofs::ListLemmas::forward))]
 fn goes_past(texts: &mut TextReader<'_, '_>, count: u64) -> bool
     ensures enough { IsTrue result ↔ (count ≤ length texts.old) }
     ensures rest { OnTrue result (texts.new ≡ drop count texts.old) }
@@ -40,7 +40,7 @@ fn nth<'w>(source: TextSource<'_, 'w>, before: u64) -> Option<&'w [u8]>
 
 /// The text that `after` more follow, if there is one: where one reader of the texts that is so far
 /// ahead comes to their end, another stands there.
-#[tactic(auto, using(crate::proofs::ListLemmas::back_at, crate::proofs::ListLemmas::back_after, crate::proofs::ListLemmas::back_past, crate::proofs::ListLemmas::none_left, crate::proofs::ListLemmas::next_left))]
+#[tactic(auto, using(crate::proofs::ListLemmas::backward))]
 fn nth_back<'w>(source: TextSource<'_, 'w>, after: u64) -> Option<&'w [u8]>
     requires { after < 2 ^ 63 }
     ensures { option_copied result ≡ slice_get (reverse (source_texts source.entry)) after }
@@ -125,7 +125,8 @@ pub(crate) fn list<'w>(
     source: TextSource<'_, 'w>,
     kind: Kind,
 ) -> Result<Samples<'w>, NoMemory>
-    ensures { IfOk result (λ occurrences. occurrences ≡ text_occurrences kind (source_texts source.entry)) }
+    ensures { IfOk result (λ occurrences.
+        occurrences ≡ text_occurrences kind (source_texts source.entry)) }
 {
     let mut occurrences = Samples::for_texts(alloc, kind, text_count(source) as usize)?;
     for text in TextReader::new(source) {

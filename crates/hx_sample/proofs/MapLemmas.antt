@@ -1,6 +1,5 @@
 -- An ordered map of std, and the finite map that it is seen as.
 use Rattle.std.proofs.Common.{◌≡◌, ◌⊎◌, inl, inr, cond, List, [], ◌∷◌, Some, None, IsSome, refl, ap, sym, subst, ◌∙◌}
-use Rattle.std.specs.Prelude.{Option}
 use Rattle.std.specs.declared.cmp.Ordering.{Ordering}
 use Rattle.std.specs.declared.cmp.Ordering.TheVariants.{Less, Equal, Greater}
 use Rattle.std.specs.Ordering.{is_eq}
@@ -37,7 +36,7 @@ seen_without {R = R} o exact m n k updated =
     ∙ ap (λ b. cond b None (tree.get R m q)) ((eq_by_cmp_equiv o).symm k q)
     ∙ sym (get-remove o (from_entries m.entries) k q ∙ ap (cond (is_at (R q) k) None) (answers_alike o m q)))
 
--- a map in which w was written in the place of a value that was there
+-- a map in which w was written over a value that was there
 pub seen_written : {K X : Type 0} {R : K → K → Ordering} (o : IsTotalOrder R) (exact : CmpEqualImpliesEq R) (m n : BTreeMap K X) (k : K) (old w : X) → Some old ≡ tree.get R m k → WritesThrough R (R k) m w n → from_entries {R = R} n.entries ≡ map.insert (from_entries m.entries) k w
 seen_written o exact m n k old w there written = seen_with o exact m n k w ((written.3 (subst IsSome there refl)).0)
 

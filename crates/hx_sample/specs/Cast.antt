@@ -1,6 +1,6 @@
--- The table of casts: a row for each kind that a value has, and in a row an entry for each kind that
--- it is cast to. A kind that a row doesn't name has no cast. `Any` asks for no kind, so every value is
--- left as it is.
+-- The table of casts: a row for each kind that a value has, and in a row an entry for each kind
+-- that it is cast to. A kind that a row doesn't name has no cast. `Any` asks for no kind, so every
+-- value is left as it is.
 use Rattle.std.specs.Prelude.{ℕ, ℤ, pos, Bool, true, false, not, List, codes, Option, Some, None, option_map, if◌then◌else◌}
 use Rattle.std.specs.Fmt.{signed_decimal}
 use Rattle.std.specs.Ordering.{int_eq}

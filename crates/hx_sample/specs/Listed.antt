@@ -1,4 +1,5 @@
--- How the code keeps a list of occurrences: the first as it is, then texts of one kind, then others.
+-- How the code keeps a list of occurrences: the first as it is, then texts of one kind, then
+-- others.
 use Rattle.std.specs.Prelude.{ℕ, List, ◌++◌, map, Option}
 use Rattle.std.specs.Borrow.{Bor}
 use Rattle.std.specs.Option.{option_to_list}
@@ -12,6 +13,8 @@ use Rattle.hx_sample.specs.Seen.{occurrence_values}
 abbrev pub lent_occurrences : Kind → List (Bor (List ℕ)) → List (Option Value)
 lent_occurrences kind texts = map (λ text. from_str text.now kind) texts
 
-abbrev pub listed_occurrences : Option (Option Sample) → Kind → List (Bor (List ℕ)) → List (Option Sample) → List (Option Value)
+abbrev pub listed_occurrences : Option (Option Sample) → Kind → List (Bor (List ℕ)) → List (Option Sample)
+    → List (Option Value)
 listed_occurrences first kind texts others =
-    occurrence_values (option_to_list first) ++ (lent_occurrences kind texts ++ occurrence_values others)
+    occurrence_values (option_to_list first)
+    ++ (lent_occurrences kind texts ++ occurrence_values others)

@@ -7,7 +7,8 @@ use Rattle.hx_sample.specs.Vars.{ByName, BySession, without_session}
 -- more variables of a connection
 abbrev pub with_names : ℕ → List (List ℕ × Value) → BySession → BySession
 with_names conn [] sessions = sessions
-with_names conn (var ∷ vars) sessions = map.insert (with_names conn vars sessions) (conn, var.0) var.1
+with_names conn (var ∷ vars) sessions =
+    map.insert (with_names conn vars sessions) (conn, var.0) var.1
 
 -- The variables of a list of connections, each beside its names. Of a connection that stands there
 -- twice they are those of the first.

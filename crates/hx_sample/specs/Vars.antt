@@ -1,6 +1,6 @@
--- The variables, as finite maps: one for each scope, from names to values. Those of sessions are one
--- map too, from a connection and a name. So two states are equal where each variable has the same
--- value in both.
+-- The variables, as finite maps: one for each scope, from names to values. Those of sessions are
+-- one map too, from a connection and a name. So two states are equal where each variable has the
+-- same value in both.
 use Rattle.std.specs.Prelude.{◌≡◌, ℕ, ◌==◌, Bool, true, false, not, List, Option, Some, None, refl}
 use Rattle.std.specs.Cmp.Lexicographic.{slice_cmp}
 use Rattle.std.specs.Coded.{Coded, code_by, coded_ℕ, coded_list, coded×}
@@ -120,11 +120,12 @@ owner_of conn Txn = None
 owner_of conn Req = None
 owner_of conn Res = None
 
--- they name one variable: in one scope, with the same bytes, and for a session's variable at the same
--- connection
+-- they name one variable: in one scope, with the same bytes, and for a session's variable at the
+-- same connection
 abbrev pub IsSameVar : ℕ → VarName → ℕ → VarName → Type 0
 IsSameVar conn name other_conn other =
-    (name.scope ≡ other.scope) × (name.name ≡ other.name) × (owner_of conn name.scope ≡ owner_of other_conn other.scope)
+    (name.scope ≡ other.scope) × (name.name ≡ other.name)
+    × (owner_of conn name.scope ≡ owner_of other_conn other.scope)
 
 -- the code of a map of names, which tells such maps apart
 abbrev pub by_name_code : Coded ByName

@@ -30,8 +30,8 @@ fn address_text(alloc: Global, ip: Ip) -> Result<Octets, NoMemory>
     Octets::copy(alloc, &out[..len])
 }
 
-/// The text as a value of the kind `kind`, or none where it writes none. No bytes are copied, and no
-/// memory is taken.
+/// The text as a value of the kind `kind`, or none where it writes none. No bytes are copied, and
+/// no memory is taken.
 pub(crate) fn read_as<'a>(text: Bytes<'a>, kind: Kind) -> Option<Sample<'a>>
     ensures value { occurrence_value result ≡ from_str (bytes_of text.entry) kind }
     ensures kept { IfSome result (λ s. IsSameWhereBoth (Some text.entry) (kept_bytes s)) }
@@ -46,26 +46,30 @@ pub(crate) fn read_as<'a>(text: Bytes<'a>, kind: Kind) -> Option<Sample<'a>>
     }
 }
 
-/// The sample as one of the type `kind` (HAProxy configuration manual 2.4, section 7.3.1). It is left
-/// as it is where it has that type, or `kind` is `Any`. Otherwise
+/// The sample as one of the type `kind` (HAProxy configuration manual 2.4, section 7.3.1). It is
+/// left as it is where it has that type, or `kind` is `Any`. Otherwise
 ///
 /// - a boolean is cast to an integer or a string, `1` for true and `0` for false;
 /// - an integer to a boolean, true where it isn't zero, or to its shortest decimal text;
 /// - an address to its text, as `print_ip` writes it;
-/// - a string to the integer that `read_i64` reads, to a boolean by that integer, to the address that
-///   `read_ip` reads, or to a binary or a method of the same bytes;
+/// - a string to the integer that `read_i64` reads, to a boolean by that integer, to the address
+///   that `read_ip` reads, or to a binary or a method of the same bytes;
 /// - a binary to a string, and a method to a string or a binary, of the same bytes.
 ///
-/// None exactly where this list has no such cast, or the string writes no integer or no address. Bytes
-/// that stay the same stay where they were, lent or owned. Memory is taken only where an integer or
-/// an address is cast to a string, and only there can it run out.
+/// None exactly where this list has no such cast, or the string writes no integer or no address.
+/// Bytes that stay the same stay where they were, lent or owned. Memory is taken only where an
+/// integer or an address is cast to a string, and only there can it run out.
 pub fn cast<'a>(
     alloc: Global,
     sample: Sample<'a>,
     kind: Kind,
 ) -> Result<Option<Sample<'a>>, NoMemory>
-    ensures value { IfOk result (λ cast. occurrence_value cast ≡ cast_of (value_of sample.entry) kind) }
-    ensures kind { kind ≢ Kind.Any → IfOk result (λ cast. IfSome cast (λ s. kind_of (value_of s) ≡ kind)) }
+    ensures value { IfOk result (λ cast.
+        occurrence_value cast ≡ cast_of (value_of sample.entry) kind) }
+
+    // `value` says this too, by cases.
+    ensures kind { kind ≢ Kind.Any →
+        IfOk result (λ cast. IfSome cast (λ s. kind_of (value_of s) ≡ kind)) }
     ensures not_printed { is_printed (value_of sample.entry) kind ≡ false → IsOk result }
 
     // The bytes are those of the sample, lent from the same memory or owned.

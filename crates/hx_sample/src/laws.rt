@@ -28,7 +28,8 @@ pub fn address_is_cast_back(ip: Ip)
 
 /// What is set is got, and each other variable keeps its value.
 pub fn set_variable_is_got(vars: &Vars, conn: u32, name: &VarName, value: &Value)
-    ensures got { var_of (with_var vars.now conn name.now value.now) conn name.now ≡ Some value.now }
+    ensures got { var_of (with_var vars.now conn name.now value.now) conn name.now
+        ≡ Some value.now }
     ensures others { (c : ℕ) (n : VarName) → ¬ (IsSameVar conn name.now c n) →
         var_of (with_var vars.now conn name.now value.now) c n ≡ var_of vars.now c n }
 {}
@@ -40,8 +41,8 @@ pub fn unset_variable_is_none(vars: &Vars, conn: u32, name: &VarName)
         var_of (without_var vars.now conn name.now) c n ≡ var_of vars.now c n }
 {}
 
-/// When a request ends, the variables of its transaction, its request and its response are none, and
-/// each other variable keeps its value.
+/// When a request ends, the variables of its transaction, its request and its response are none,
+/// and each other variable keeps its value.
 pub fn ended_request_is_forgotten(vars: &Vars, conn: u32, name: &VarName)
     ensures { var_of (after_request vars.now) conn name.now
         ≡ (if ends_with_request name.now.scope then None else var_of vars.now conn name.now) }

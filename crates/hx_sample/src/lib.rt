@@ -1,5 +1,6 @@
 //! Samples: the typed values that rules work with. What a sample is, how it is owned and lent, to
-//! which types it can be cast, the occurrences that a fetch finds, and the variables that keep samples.
+//! which types it can be cast, the occurrences that a fetch finds, and the variables that keep
+//! samples.
 //!
 //! A caller that keeps a text in a variable and takes it out as a number:
 //!

@@ -30,7 +30,8 @@ impl<'a> Model for Samples<'a> {
 
     ghost Value = { List (Option Datum) };
 
-    ghost view = { λ samples. listed_occurrences samples.first samples.kind samples.texts.items samples.others.items };
+    ghost view = { λ samples.
+        listed_occurrences samples.first samples.kind samples.texts.items samples.others.items };
 }
 
 impl<'a> Samples<'a> {
@@ -58,8 +59,8 @@ impl<'a> Samples<'a> {
         }
     }
 
-    /// No occurrences, with memory for `count` texts that are pushed as values of the kind `kind`. For
-    /// one text it takes none.
+    /// No occurrences, with memory for `count` texts that are pushed as values of the kind `kind`.
+    /// For one text it takes none.
     pub fn for_texts(alloc: Global, kind: Kind, count: usize) -> Result<Samples<'a>, NoMemory>
         ensures { IfOk result (λ samples. samples ≡ []) }
     {
@@ -85,8 +86,8 @@ impl<'a> Samples<'a> {
         Ok(())
     }
 
-    /// Appends the occurrence that a text is as a value of the kind `kind`: none where the text writes
-    /// none. Where memory runs out the list stays as it was.
+    /// Appends the occurrence that a text is as a value of the kind `kind`: none where the text
+    /// writes none. Where memory runs out the list stays as it was.
     pub fn push_text(&mut self, text: &'a [u8], kind: Kind) -> Result<(), NoMemory>
         ensures ok { OnOk result (self.new ≡ self.old ++ cast_of (value.Str text.now) kind ∷ []) }
         ensures err { OnErr result (self.new ≡ self.old) }
@@ -98,10 +99,11 @@ impl<'a> Samples<'a> {
         self.push(read_as(Bytes::Lent(text), kind))
     }
 
-    /// Takes out the first occurrence, whether it is a sample or none. None exactly where there is no
-    /// occurrence. The cost doesn't grow with the list.
+    /// Takes out the first occurrence, whether it is a sample or none. None exactly where there is
+    /// no occurrence. The cost doesn't grow with the list.
     pub fn take(&mut self) -> Option<Option<Sample<'a>>>
-        ensures some { IfSome result (λ occurrence. self.old ≡ occurrence_value occurrence ∷ self.new) }
+        ensures some { IfSome result (λ occurrence.
+            self.old ≡ occurrence_value occurrence ∷ self.new) }
         ensures none { IfNone result (self.old ≡ []) }
         ensures left { IfNone result (self.new ≡ []) }
     {

@@ -8,9 +8,10 @@ use hx_text::{NoMemory, Scope, VarName};
 use std::alloc::Global;
 use std::marker::Model;
 
-/// The variables of the process, of the transaction, the request and the response that are under way,
-/// and of each connection's session (HAProxy configuration manual 2.4, section 7.3.2, `var`). Contracts
-/// see them as finite maps, one for each scope: that of sessions is keyed by connection and name.
+/// The variables of the process, of the transaction, the request and the response that are under
+/// way, and of each connection's session (HAProxy configuration manual 2.4, section 7.3.2, `var`).
+/// Contracts see them as finite maps, one for each scope: that of sessions is keyed by connection
+/// and name.
 ///
 /// To get, set or unset one costs by the logarithm of their number.
 #[derive(Drop)]
@@ -68,9 +69,9 @@ impl Vars {
         }
     }
 
-    /// Sets the variable `name`, of the connection `conn` where its scope is the session, in place of
-    /// the value that it had. Where memory runs out every variable stays as it was, and `value` is
-    /// dropped. The name is copied only where the variable is unset.
+    /// Sets the variable `name`, of the connection `conn` where its scope is the session, in place
+    /// of the value that it had. Where memory runs out every variable stays as it was, and `value`
+    /// is dropped. The name is copied only where the variable is unset.
     pub fn set(&mut self, conn: u32, name: &VarName, value: Value) -> Result<(), NoMemory>
         ensures ok { OnOk result (self.new ≡ with_var self.old conn name.now value) }
         ensures err { OnErr result (self.new ≡ self.old) }
