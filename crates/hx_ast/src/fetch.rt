@@ -1,12 +1,12 @@
 use hx_text::{Ip, Octets, VarName};
 
 /// What an expression takes from a request, its connection or the variables (HAProxy configuration
-/// manual 2.4, sections 7.3.2 to 7.3.6): a variant for each fetch, whose fields are its arguments in
-/// their order. An argument that may be missing is an option. Names that HAProxy has for the same
-/// fetch, such as `hdr` and `req.hdr`, share a variant.
+/// manual 2.4, sections 7.3.2 to 7.3.6): a variant for each fetch, whose fields are its arguments
+/// in their order. An argument that may be missing is an option. Names that HAProxy has for the
+/// same fetch, such as `hdr` and `req.hdr`, share a variant.
 ///
-/// A number behind the name of a header counts that header's values, or lines, from the first where
-/// it is positive and from the last where it is negative.
+/// The number after the name of a header is that of an occurrence: of the header's values, or
+/// lines, from the first, 1, where it is positive, and from the last, -1, where it is negative.
 #[derive(Debug, Drop)]
 pub enum Fetch {
     /// `always_true`
@@ -19,7 +19,7 @@ pub enum Fetch {
     Int(i64),
     /// `str(S)`: the text S
     Str(Octets),
-    /// `bin(H)`: the bytes that the hex digits H write
+    /// `bin(H)`: the bytes that the hexadecimal digits H write, as bytes
     Bin(Octets),
     /// `ipv4(A)`: the address A
     Ipv4(Ip),
@@ -45,7 +45,7 @@ pub enum Fetch {
     Query,
     /// `url`: the whole target
     Url,
-    /// `base`: the value of the first `Host` line, and the path behind it
+    /// `base`: the value of the first `Host` line, and the path after it
     Base,
     /// `req.hdr(NAME[,OCC])`, `hdr`: the values of the lines of the header NAME
     ReqHdr(Octets, Option<i64>),

@@ -49,8 +49,8 @@ impl<T> Items<T> {
         self.items.len()
     }
 
-    /// The item at position `i`, counted from 0, and `None` exactly where there are no more than `i`
-    /// items.
+    /// The item at position `i`, counted from 0, and `None` exactly where there are no more than
+    /// `i` items.
     pub fn get(&self, i: usize) -> Option<&T>
         ensures { option_copied result ≡ slice_get self.now i }
     {

@@ -1,2 +1,2 @@
-pub mod Lists
-pub mod Steps
+pub mod ListLemmas
+pub mod StepLemmas

@@ -1,6 +1,7 @@
-pub mod Found
+-- what callers need
 pub mod Fetches
 pub mod Names
 pub mod Picks
-pub mod Texts
 pub mod World
+-- views of the code, for the contracts of private functions
+pub mod Views

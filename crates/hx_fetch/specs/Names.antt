@@ -6,33 +6,37 @@ use Rattle.std.specs.Str.{bytes_eq, str_eq_ignore_ascii_case}
 use Rattle.hx_lists.specs.HeaderValues.{hdr_values}
 use Rattle.hx_lists.specs.NamedValues.{NamedValue, cookies, params}
 
--- A header line is of this name. Names of headers are the same whatever the case of their letters
--- (RFC 9110 section 5.1).
-abbrev pub is_line_of : Option (List ℕ) → NamedValue → Bool
-is_line_of None line = true
-is_line_of (Some name) line = str_eq_ignore_ascii_case line.0 name
+-- Whether the name of a header line is the one that is given, where one is. Names of headers are
+-- the same whatever the case of their letters (RFC 9110 section 5.1).
+abbrev pub is_header_name : Option (List ℕ) → List ℕ → Bool
+is_header_name None line_name = true
+is_header_name (Some name) line_name = str_eq_ignore_ascii_case line_name name
 
--- the lines of a header, each as what stands behind the name
-abbrev pub lines_of : Option (List ℕ) → List NamedValue → List (List ℕ)
-lines_of name headers = map (λ line. line.1) (filter (is_line_of name) headers)
+-- the lines of a header, each as what follows the name
+abbrev pub header_lines : Option (List ℕ) → List NamedValue → List (List ℕ)
+header_lines name headers =
+    map (λ line. line.1) (filter (λ line. is_header_name name line.0) headers)
 
 -- the values of a header: those of its first line, those of its second line, and so on
-abbrev pub values_of : Option (List ℕ) → List NamedValue → List (List ℕ)
-values_of name headers = flat_map hdr_values (lines_of name headers)
+abbrev pub header_values : Option (List ℕ) → List NamedValue → List (List ℕ)
+header_values name headers = flat_map hdr_values (header_lines name headers)
 
--- A cookie or a parameter is of this name. The case of letters counts (RFC 6265 section 5.3).
-abbrev pub is_called : Option (List ℕ) → NamedValue → Bool
-is_called None pair = true
-is_called (Some name) pair = bytes_eq pair.0 name
+-- Whether the name of a cookie or a parameter is the one that is given, where one is. The case of
+-- letters counts (HAProxy configuration manual 2.4 section 7.3.6, `req.cook`, `url_param`).
+abbrev pub is_pair_name : Option (List ℕ) → List ℕ → Bool
+is_pair_name None pair_name = true
+is_pair_name (Some name) pair_name = bytes_eq pair_name name
 
--- the values under a name
-abbrev pub values_called : Option (List ℕ) → List NamedValue → List (List ℕ)
-values_called name pairs = map (λ pair. pair.1) (filter (is_called name) pairs)
+-- the values of the pairs of a name
+abbrev pub values_under : Option (List ℕ) → List NamedValue → List (List ℕ)
+values_under name pairs = map (λ pair. pair.1) (filter (λ pair. is_pair_name name pair.0) pairs)
 
--- the values of the cookies of a name, in all lines of the header `Cookie` (RFC 6265 section 5.4)
-abbrev pub cookies_of : Option (List ℕ) → List NamedValue → List (List ℕ)
-cookies_of name headers = values_called name (flat_map cookies (lines_of (Some (codes "Cookie")) headers))
+-- The values of the cookies of a name, in all lines of the header `Cookie`, of which a request may
+-- have several (RFC 9113 section 8.2.3).
+abbrev pub cookie_values : Option (List ℕ) → List NamedValue → List (List ℕ)
+cookie_values name headers =
+    values_under name (flat_map cookies (header_lines (Some (codes "Cookie")) headers))
 
 -- the values of the parameters of a name, in a target
-abbrev pub params_of : Option (List ℕ) → Option ℕ → List ℕ → List (List ℕ)
-params_of name delim target = values_called name (params target delim)
+abbrev pub param_values : Option (List ℕ) → Option ℕ → List ℕ → List (List ℕ)
+param_values name delim target = values_under name (params target delim)

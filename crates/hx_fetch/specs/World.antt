@@ -12,4 +12,5 @@ pub record Context : Type 0 where
 
 -- what the references of a world point to
 abbrev pub context_of : World → Context
-context_of world = record { message = world.message.now; conn = world.conn.now; vars = world.vars.now }
+context_of world =
+    record { message = world.message.now; conn = world.conn.now; vars = world.vars.now }

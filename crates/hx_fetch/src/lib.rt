@@ -1,14 +1,18 @@
 //! What the fetches of an expression find in a request, its connection and the variables.
 //!
-//! `specs/Fetches.antt` says for each fetch which places it has and what each of them holds, as the
-//! function `occurrences_of`, and which place an expression takes, as `chosen_of`.
+//! `specs/Fetches.antt` says for each fetch which occurrences it has, as the function
+//! `occurrences_of`, and which of them an expression takes, as `chosen_of`.
+//!
+//! ```
+//! let message = read_head(alloc, b"GET /a?b HTTP/1.1\r\n\r\n")?;
+//! let world = World { message: &message, conn: &conn, vars: &vars };
+//! let path = chosen(alloc, &Fetch::Path, &world)?; // Some(Sample::Str(..)) of `/a`
+//! ```
 #![tactic(auto)]
 
 mod fetching;
-mod found;
 mod lines;
-#[cfg(test)]
-mod tests;
+mod lookup;
 mod texts;
 mod walks;
 mod world;

@@ -1,29 +1,22 @@
 ghost use Rattle.std.specs.Prelude.{◌≡◌, ℕ, List, [], ◌∷◌, drop, IfSome, IfNone};
 ghost use Rattle.std.specs.Iterator.{YieldsFirstBy, item_count};
 ghost use Rattle.std.specs.Option.{option_copied};
-ghost use Rattle.std.specs.Str.{str_eq_ignore_ascii_case};
-ghost use Rattle.hx_fetch.specs.Names.{is_line_of, lines_of};
+ghost use Rattle.hx_fetch.specs.Names.{is_header_name, header_lines};
 
 use hx_http::Message;
 use std::marker::Model;
 
-fn is_same_name(name: &[u8], other: &[u8]) -> bool
-    ensures { result ≡ str_eq_ignore_ascii_case name.now other.now }
-{
-    name.eq_ignore_ascii_case(other)
-}
-
-fn is_wanted(line_name: &[u8], name: Option<&[u8]>) -> bool
-    ensures { result ≡ is_line_of (option_copied name.entry) (line_name.now, []) }
+fn is_header_name(line_name: &[u8], name: Option<&[u8]>) -> bool
+    ensures { result ≡ is_header_name (option_copied name.entry) line_name.now }
 {
     match name {
-        Some(name) => is_same_name(line_name, name),
+        Some(name) => line_name.eq_ignore_ascii_case(name),
         None => true,
     }
 }
 
-/// The lines of a header that are left to give, each as what stands behind the name; all lines where
-/// no name is given. Contracts see it as their list.
+/// The lines of a header that are left to give, each as what follows the name; all lines where no
+/// name is given. Contracts see it as their list.
 #[derive(Drop)]
 pub(crate) struct Lines<'f, 'w> {
     message: &'w Message,
@@ -34,12 +27,13 @@ pub(crate) struct Lines<'f, 'w> {
 impl<'f, 'w> Model for Lines<'f, 'w> {
     ghost Value = { List (List ℕ) };
 
-    ghost view = { λ lines. lines_of (option_copied lines.name) (drop lines.at lines.message.now.headers) };
+    ghost view = { λ lines.
+        header_lines (option_copied lines.name) (drop lines.at lines.message.now.headers) };
 }
 
 impl<'f, 'w> Lines<'f, 'w> {
     pub(crate) fn new(message: &'w Message, name: Option<&'f [u8]>) -> Lines<'f, 'w>
-        ensures { result ≡ lines_of (option_copied name.entry) message.now.headers }
+        ensures { result ≡ header_lines (option_copied name.entry) message.now.headers }
     {
         Lines {
             message,
@@ -74,20 +68,22 @@ impl<'f, 'w> Iterator for Lines<'f, 'w> {
     }
 }
 
-/// The first line of the name from position `start` on, and the position behind it.
-#[tactic(auto, using(crate::proofs::Lists::drop_at))]
+/// The first line of the name from position `start` on, and the position after it.
+#[tactic(auto, using(crate::proofs::ListLemmas::drop_at))]
 fn next_line<'w>(
     message: &'w Message,
     name: Option<&[u8]>,
     start: usize,
 ) -> Option<(&'w [u8], usize)>
-    ensures none { IfNone result (lines_of (option_copied name.entry) (drop start message.now.headers) ≡ []) }
-    ensures some { IfSome result (λ found. lines_of (option_copied name.entry) (drop start message.now.headers)
-        ≡ found.0.now ∷ lines_of (option_copied name.entry) (drop found.1 message.now.headers)) }
+    ensures none { IfNone result
+        (header_lines (option_copied name.entry) (drop start message.now.headers) ≡ []) }
+    ensures some { IfSome result (λ found.
+        header_lines (option_copied name.entry) (drop start message.now.headers)
+        ≡ found.0.now ∷ header_lines (option_copied name.entry) (drop found.1 message.now.headers)) }
 {
     for at in start..message.len() {
         if let Some((line_name, line)) = message.header(at) {
-            if is_wanted(line_name, name) {
+            if is_header_name(line_name, name) {
                 return Some((line, at + 1));
             }
         }

@@ -1,10 +1,9 @@
 ghost use Rattle.std.specs.Prelude.{◌≡◌, ℕ, Option, List, [], ◌∷◌, ◌++◌, IfSome, IfNone};
 ghost use Rattle.std.specs.Iterator.{YieldsFirstBy, item_count};
 ghost use Rattle.std.specs.Option.{option_copied};
-ghost use Rattle.std.specs.Str.{bytes_eq};
-ghost use Rattle.hx_fetch.specs.Names.{is_called, values_called};
+ghost use Rattle.hx_fetch.specs.Names.{is_pair_name, values_under};
 ghost use Rattle.std.specs.List.{flat_map};
-ghost use Rattle.hx_fetch.specs.Texts.{source_texts, cut_texts, left_texts};
+ghost use Rattle.hx_fetch.specs.Views.{source_texts, texts_of_line, texts_of_rest};
 
 use crate::lines::Lines;
 use hx_http::Message;
@@ -14,7 +13,7 @@ use std::marker::Model;
 /// Where the texts of a fetch stand in a request. The name is that of the header, the cookie or the
 /// parameter; where there is none, all of them are meant.
 #[derive(Clone, Copy)]
-pub(crate) enum Source<'f, 'w> {
+pub(crate) enum TextSource<'f, 'w> {
     Lines(&'w Message, Option<&'f [u8]>),
     Values(&'w Message, Option<&'f [u8]>),
     Cookies(&'w Message, Option<&'f [u8]>),
@@ -23,7 +22,7 @@ pub(crate) enum Source<'f, 'w> {
 
 /// What a header line is cut into.
 #[derive(Clone, Copy)]
-pub(crate) enum Cut {
+pub(crate) enum LineForm {
     Whole,
     Values,
     Cookies,
@@ -31,31 +30,30 @@ pub(crate) enum Cut {
 
 /// What is left of the line, or of the target, whose texts are being given.
 #[derive(Drop)]
-pub(crate) enum Left<'w> {
+pub(crate) enum LineRest<'w> {
     Line(Option<&'w [u8]>),
     Values(HdrValues<'w>),
     Cookies(Cookies<'w>),
     Params(Params<'w>),
 }
 
-/// Whether the name is the one that is wanted, if one is.
-fn is_wanted(name: &[u8], wanted: Option<&[u8]>) -> bool
-    ensures { result ≡ is_called (option_copied wanted.entry) (name.now, []) }
+fn is_pair_name(pair_name: &[u8], name: Option<&[u8]>) -> bool
+    ensures { result ≡ is_pair_name (option_copied name.entry) pair_name.now }
 {
-    match wanted {
-        Some(wanted) => name == wanted,
+    match name {
+        Some(name) => pair_name == name,
         None => true,
     }
 }
 
 fn next_cookie<'w>(pairs: &mut Cookies<'w>, name: Option<&[u8]>) -> Option<&'w [u8]>
-    ensures some { IfSome result (λ value. values_called (option_copied name.entry) pairs.old
-        ≡ value.now ∷ values_called (option_copied name.entry) pairs.new) }
-    ensures none { IfNone result (values_called (option_copied name.entry) pairs.old ≡ []) }
+    ensures some { IfSome result (λ value. values_under (option_copied name.entry) pairs.old
+        ≡ value.now ∷ values_under (option_copied name.entry) pairs.new) }
+    ensures none { IfNone result (values_under (option_copied name.entry) pairs.old ≡ []) }
     ensures left { IfNone result (pairs.new ≡ []) }
 {
     while let Some((found, value)) = pairs.next() {
-        if is_wanted(found, name) {
+        if is_pair_name(found, name) {
             return Some(value);
         }
     }
@@ -63,92 +61,110 @@ fn next_cookie<'w>(pairs: &mut Cookies<'w>, name: Option<&[u8]>) -> Option<&'w [
 }
 
 fn next_param<'w>(pairs: &mut Params<'w>, name: Option<&[u8]>) -> Option<&'w [u8]>
-    ensures some { IfSome result (λ value. values_called (option_copied name.entry) pairs.old
-        ≡ value.now ∷ values_called (option_copied name.entry) pairs.new) }
-    ensures none { IfNone result (values_called (option_copied name.entry) pairs.old ≡ []) }
+    ensures some { IfSome result (λ value. values_under (option_copied name.entry) pairs.old
+        ≡ value.now ∷ values_under (option_copied name.entry) pairs.new) }
+    ensures none { IfNone result (values_under (option_copied name.entry) pairs.old ≡ []) }
     ensures left { IfNone result (pairs.new ≡ []) }
 {
     while let Some((found, value)) = pairs.next() {
-        if is_wanted(found, name) {
+        if is_pair_name(found, name) {
             return Some(value);
         }
     }
     None
 }
 
-impl<'w> Left<'w> {
-    fn of_line(line: &'w [u8], cut: Cut) -> Left<'w>
-        ensures { (name : Option (List ℕ)) → left_texts name result ≡ cut_texts cut name line.now }
+impl<'w> LineRest<'w> {
+    fn of_line(line: &'w [u8], form: LineForm) -> LineRest<'w>
+        ensures { (name : Option (List ℕ)) →
+            texts_of_rest name result ≡ texts_of_line form name line.now }
     {
-        match cut {
-            Cut::Whole => Left::Line(Some(line)),
-            Cut::Values => Left::Values(hdr_values(line)),
-            Cut::Cookies => Left::Cookies(cookies(line)),
+        match form {
+            LineForm::Whole => LineRest::Line(Some(line)),
+            LineForm::Values => LineRest::Values(hdr_values(line)),
+            LineForm::Cookies => LineRest::Cookies(cookies(line)),
         }
     }
 
     /// Gives the first text that is left; of cookies and parameters, the first of the name.
     fn next(&mut self, name: Option<&[u8]>) -> Option<&'w [u8]>
-        ensures some { IfSome result (λ text. left_texts (option_copied name.entry) self.old
-            ≡ text.now ∷ left_texts (option_copied name.entry) self.new) }
-        ensures none { IfNone result (left_texts (option_copied name.entry) self.old ≡ []) }
-        ensures left { IfNone result (left_texts (option_copied name.entry) self.new ≡ []) }
+        ensures some { IfSome result (λ text. texts_of_rest (option_copied name.entry) self.old
+            ≡ text.now ∷ texts_of_rest (option_copied name.entry) self.new) }
+        ensures none { IfNone result (texts_of_rest (option_copied name.entry) self.old ≡ []) }
+        ensures left { IfNone result (texts_of_rest (option_copied name.entry) self.new ≡ []) }
     {
         match self {
-            Left::Line(line) => line.take(),
-            Left::Values(values) => values.next(),
-            Left::Cookies(pairs) => next_cookie(pairs, name),
-            Left::Params(pairs) => next_param(pairs, name),
+            LineRest::Line(line) => line.take(),
+            LineRest::Values(values) => values.next(),
+            LineRest::Cookies(pairs) => next_cookie(pairs, name),
+            LineRest::Params(pairs) => next_param(pairs, name),
         }
     }
 }
 
 /// The texts of a source that are left to give. Contracts see it as their list.
 #[derive(Drop)]
-pub(crate) struct Texts<'f, 'w> {
-    left: Left<'w>,
-    cut: Cut,
+pub(crate) struct TextReader<'f, 'w> {
+    rest: LineRest<'w>,
+    form: LineForm,
     name: Option<&'f [u8]>,
     lines: Lines<'f, 'w>,
 }
 
-impl<'f, 'w> Model for Texts<'f, 'w> {
+impl<'f, 'w> Model for TextReader<'f, 'w> {
     ghost use Rattle.std.specs.Prelude.{List, ℕ};
     ghost use Rattle.std.specs.Option.{option_copied};
 
     ghost Value = { List (List ℕ) };
 
-    ghost use Rattle.hx_fetch.specs.Texts.{texts_left};
+    ghost use Rattle.hx_fetch.specs.Views.{texts_of_reader};
 
-    ghost view = { λ texts. texts_left (option_copied texts.name) texts.left texts.cut texts.lines };
+    ghost view = { λ texts.
+        texts_of_reader (option_copied texts.name) texts.rest texts.form texts.lines };
 }
 
 /// The texts of all lines of a header.
-fn of_lines<'f, 'w>(lines: Lines<'f, 'w>, cut: Cut, name: Option<&'f [u8]>) -> Texts<'f, 'w>
-    ensures { result ≡ flat_map (cut_texts cut (option_copied name.entry)) lines.entry }
+fn of_lines<'f, 'w>(
+    lines: Lines<'f, 'w>,
+    form: LineForm,
+    name: Option<&'f [u8]>,
+) -> TextReader<'f, 'w>
+    ensures { result ≡ flat_map (texts_of_line form (option_copied name.entry)) lines.entry }
 {
-    Texts {
-        left: Left::Line(None),
-        cut,
+    TextReader {
+        rest: LineRest::Line(None),
+        form,
         name,
         lines,
     }
 }
 
-impl<'f, 'w> Texts<'f, 'w> {
+impl<'f, 'w> TextReader<'f, 'w> {
     /// All texts of a source.
-    pub(crate) fn new(source: Source<'f, 'w>) -> Texts<'f, 'w>
+    pub(crate) fn new(source: TextSource<'f, 'w>) -> TextReader<'f, 'w>
         ensures { result ≡ source_texts source.entry }
     {
         match source {
-            Source::Lines(message, name) => of_lines(Lines::new(message, name), Cut::Whole, None),
-            Source::Values(message, name) => of_lines(Lines::new(message, name), Cut::Values, None),
-            Source::Cookies(message, name) => {
-                of_lines(Lines::new(message, Some(b"Cookie")), Cut::Cookies, name)
+            TextSource::Lines(message, name) => of_lines(
+                Lines::new(message, name),
+                LineForm::Whole,
+                None,
+            ),
+            TextSource::Values(message, name) => of_lines(
+                Lines::new(message, name),
+                LineForm::Values,
+                None,
+            ),
+            TextSource::Cookies(message, name) => {
+                of_lines(
+                    Lines::new(message, Some(b"Cookie")),
+                    LineForm::Cookies,
+                    name,
+                )
             }
-            Source::Params(message, name, delim) => Texts {
-                left: Left::Params(params(message.target(), delim)),
-                cut: Cut::Whole,
+            TextSource::Params(message, name, delim) => TextReader {
+                rest: LineRest::Params(params(message.target(), delim)),
+                form: LineForm::Whole,
                 name,
                 lines: Lines::none(message),
             },
@@ -156,7 +172,7 @@ impl<'f, 'w> Texts<'f, 'w> {
     }
 }
 
-impl<'f, 'w> Iterator for Texts<'f, 'w> {
+impl<'f, 'w> Iterator for TextReader<'f, 'w> {
     type Item = &'w [u8];
 
     ghost next_gives = { YieldsFirstBy (λ text. text.now) (λ left. left) };
@@ -164,12 +180,12 @@ impl<'f, 'w> Iterator for Texts<'f, 'w> {
     ghost remaining = { item_count (λ left. left) };
 
     fn next(&mut self) -> Option<&'w [u8]> {
-        if let Some(text) = self.left.next(self.name) {
+        if let Some(text) = self.rest.next(self.name) {
             return Some(text);
         }
         while let Some(line) = self.lines.next() {
-            self.left = Left::of_line(line, self.cut);
-            if let Some(text) = self.left.next(self.name) {
+            self.rest = LineRest::of_line(line, self.form);
+            if let Some(text) = self.rest.next(self.name) {
                 return Some(text);
             }
         }

@@ -1,21 +1,19 @@
 ghost use Rattle.std.specs.Prelude.{◌≡◌, ◌+◌, ◌-◌, ◌^◌, ◌≤◌, ◌<◌, ◌↔◌, min, pos, IsTrue, IfOk, length, drop, reverse, slice_get};
 ghost use Rattle.std.specs.Bool.{OnTrue};
 ghost use Rattle.std.specs.Option.{option_copied};
-ghost use Rattle.hx_sample.specs.declared.sample.Value.TheVariants as value;
-ghost use Rattle.hx_sample.specs.Seen.{value_of, occurrence_value};
-ghost use Rattle.hx_sample.specs.Cast.{cast_of};
-ghost use Rattle.hx_fetch.specs.Fetches.{as_kind, count_of};
-ghost use Rattle.hx_fetch.specs.Picks.{occurrence_at, picked_end};
-ghost use Rattle.hx_fetch.specs.Texts.{source_texts};
+ghost use Rattle.hx_sample.specs.Seen.{value_of};
+ghost use Rattle.hx_fetch.specs.Fetches.{text_occurrences, count_of};
+ghost use Rattle.hx_fetch.specs.Picks.{occurrence_at, selection_end};
+ghost use Rattle.hx_fetch.specs.Views.{source_texts};
 
-use crate::texts::{Source, Texts};
-use hx_sample::{Bytes, Sample, Samples, cast};
+use crate::texts::{TextReader, TextSource};
+use hx_sample::{Sample, Samples};
 use hx_text::{Kind, NoMemory};
 use std::alloc::Global;
 
 /// Goes past so many texts, and answers whether there are as many.
-#[tactic(auto, using(crate::proofs::Lists::none_left, crate::proofs::Lists::some_left, crate::proofs::Lists::next_left))]
-fn goes_past(texts: &mut Texts<'_, '_>, count: u64) -> bool
+#[tactic(auto, using(crate::proofs::ListLemmas::forward))]
+fn goes_past(texts: &mut TextReader<'_, '_>, count: u64) -> bool
     ensures enough { IsTrue result ↔ (count ≤ length texts.old) }
     ensures rest { OnTrue result (texts.new ≡ drop count texts.old) }
 {
@@ -27,12 +25,12 @@ fn goes_past(texts: &mut Texts<'_, '_>, count: u64) -> bool
     true
 }
 
-/// The text behind the first `before` ones, if there is one.
-#[tactic(auto, using(crate::proofs::Lists::get_of_left))]
-fn nth<'w>(source: Source<'_, 'w>, before: u64) -> Option<&'w [u8]>
+/// The text after the first `before` ones, if there is one.
+#[tactic(auto, using(crate::proofs::ListLemmas::get_of_left))]
+fn nth<'w>(source: TextSource<'_, 'w>, before: u64) -> Option<&'w [u8]>
     ensures { option_copied result ≡ slice_get (source_texts source.entry) before }
 {
-    let mut texts = Texts::new(source);
+    let mut texts = TextReader::new(source);
     if goes_past(&mut texts, before) {
         texts.next()
     } else {
@@ -40,26 +38,38 @@ fn nth<'w>(source: Source<'_, 'w>, before: u64) -> Option<&'w [u8]>
     }
 }
 
-/// The text behind which there are `behind` more, if there is one: where one reader of the texts that
-/// is so far ahead comes to their end, another stands there.
-#[tactic(auto, using(crate::proofs::Lists::back_at, crate::proofs::Lists::back_behind, crate::proofs::Lists::back_past, crate::proofs::Lists::none_left, crate::proofs::Lists::next_left))]
-fn nth_back<'w>(source: Source<'_, 'w>, behind: u64) -> Option<&'w [u8]>
-    requires { behind < 2 ^ 63 }
-    ensures { option_copied result ≡ slice_get (reverse (source_texts source.entry)) behind }
+/// The text that `after` more follow, if there is one: where one reader of the texts that is so far
+/// ahead comes to their end, another stands there.
+#[tactic(auto, using(crate::proofs::ListLemmas::backward))]
+fn nth_back<'w>(source: TextSource<'_, 'w>, after: u64) -> Option<&'w [u8]>
+    requires { after < 2 ^ 63 }
+    ensures { option_copied result ≡ slice_get (reverse (source_texts source.entry)) after }
 {
-    let mut ahead = Texts::new(source);
-    if !goes_past(&mut ahead, behind + 1) {
+    let mut ahead = TextReader::new(source);
+    if !goes_past(&mut ahead, after + 1) {
         return None;
     }
-    let mut texts = Texts::new(source);
+    let mut texts = TextReader::new(source);
     while ahead.next().is_some() {
         let _ = texts.next();
     }
     texts.next()
 }
 
+/// The last text, if there is one.
+#[tactic(auto, using(crate::proofs::StepLemmas::last_of_none))]
+fn last<'w>(source: TextSource<'_, 'w>) -> Option<&'w [u8]>
+    ensures { option_copied result ≡ slice_get (reverse (source_texts source.entry)) 0 }
+{
+    let mut last = None;
+    for text in TextReader::new(source) {
+        last = Some(text);
+    }
+    last
+}
+
 /// The text of the occurrence `at`, if there is one.
-pub(crate) fn pick<'w>(source: Source<'_, 'w>, at: i64) -> Option<&'w [u8]>
+pub(crate) fn pick<'w>(source: TextSource<'_, 'w>, at: i64) -> Option<&'w [u8]>
     ensures { option_copied result ≡ occurrence_at at (source_texts source.entry) }
 {
     if at > 0 {
@@ -72,14 +82,18 @@ pub(crate) fn pick<'w>(source: Source<'_, 'w>, at: i64) -> Option<&'w [u8]>
 }
 
 /// The text of the occurrence `at`, or without one the last text or the first, if there is one.
-pub(crate) fn pick_end<'w>(source: Source<'_, 'w>, at: Option<i64>, last: bool) -> Option<&'w [u8]>
-    ensures { option_copied result ≡ picked_end last at (source_texts source.entry) }
+pub(crate) fn pick_end<'w>(
+    source: TextSource<'_, 'w>,
+    at: Option<i64>,
+    takes_last: bool,
+) -> Option<&'w [u8]>
+    ensures { option_copied result ≡ selection_end takes_last at (source_texts source.entry) }
 {
     match at {
         Some(at) => pick(source, at),
         None => {
-            if last {
-                nth_back(source, 0)
+            if takes_last {
+                last(source)
             } else {
                 nth(source, 0)
             }
@@ -87,39 +101,36 @@ pub(crate) fn pick_end<'w>(source: Source<'_, 'w>, at: Option<i64>, last: bool) 
     }
 }
 
-/// How many texts there are, up to the greatest number.
-pub(crate) fn count<'w>(source: Source<'_, '_>) -> Sample<'w>
-    ensures { value_of result ≡ count_of (source_texts source.entry) }
+fn text_count(source: TextSource<'_, '_>) -> u64
+    ensures { result ≡ min (length (source_texts source.entry)) (2 ^ 64 - 1) }
 {
     let mut count = 0u64;
-    for _text in Texts::new(source) {
+    for _text in TextReader::new(source) {
         count = count.saturating_add(1);
     }
-    Sample::Int(count.min(i64::MAX as u64) as i64)
+    count
 }
 
-/// A text as a value of the kind, or none where it writes none.
-pub(crate) fn read<'w>(
-    alloc: Global,
-    text: &'w [u8],
-    kind: Kind,
-) -> Result<Option<Sample<'w>>, NoMemory>
-    ensures { IfOk result (λ place. occurrence_value place ≡ cast_of (value.Str text.now) kind) }
+/// How many texts there are. It saturates.
+pub(crate) fn count<'w>(source: TextSource<'_, '_>) -> Sample<'w>
+    ensures { value_of result ≡ count_of (source_texts source.entry) }
 {
-    cast(alloc, Sample::Str(Bytes::Lent(text)), kind)
+    Sample::Int(text_count(source).min(i64::MAX as u64) as i64)
 }
 
-/// Each text in a place of its own, as a value of the kind, or none where it writes none.
+/// Each text as a value of the kind, or none where it writes none. The texts are counted first, so
+/// that no more memory is taken than for a slice each.
 pub(crate) fn list<'w>(
     alloc: Global,
-    source: Source<'_, 'w>,
+    source: TextSource<'_, 'w>,
     kind: Kind,
 ) -> Result<Samples<'w>, NoMemory>
-    ensures { IfOk result (λ places. places ≡ as_kind kind (source_texts source.entry)) }
+    ensures { IfOk result (λ occurrences.
+        occurrences ≡ text_occurrences kind (source_texts source.entry)) }
 {
-    let mut places = Samples::new(alloc);
-    for text in Texts::new(source) {
-        places.push(read(alloc, text, kind)?)?;
+    let mut occurrences = Samples::for_texts(alloc, kind, text_count(source) as usize)?;
+    for text in TextReader::new(source) {
+        occurrences.push_text(text, kind)?;
     }
-    Ok(places)
+    Ok(occurrences)
 }

@@ -1,7 +1,7 @@
--- The table of casts: a row for each kind that a value has, and in a row an entry for each kind that
--- it is cast to. A kind that a row doesn't name has no cast. `Any` asks for no kind, so every value is
--- left as it is.
-use Rattle.std.specs.Prelude.{ℕ, ℤ, pos, Bool, not, List, codes, Option, Some, None, option_map, if◌then◌else◌}
+-- The table of casts: a row for each kind that a value has, and in a row an entry for each kind
+-- that it is cast to. A kind that a row doesn't name has no cast. `Any` asks for no kind, so every
+-- value is left as it is.
+use Rattle.std.specs.Prelude.{ℕ, ℤ, pos, Bool, true, false, not, List, codes, Option, Some, None, option_map, if◌then◌else◌}
 use Rattle.std.specs.Fmt.{signed_decimal}
 use Rattle.std.specs.Ordering.{int_eq}
 use Rattle.hx_text.specs.declared.address.Ip.{Ip}
@@ -82,3 +82,9 @@ cast_of (value.Ip ip) kind = from_ip ip kind
 cast_of (value.Str text) kind = from_str text kind
 cast_of (value.Bin bytes) kind = from_bin bytes kind
 cast_of (value.Method name) kind = from_method name kind
+
+-- The value is cast by printing it: a number or an address as a text.
+abbrev pub is_printed : Value → Kind → Bool
+is_printed (value.Int n) kind.Str = true
+is_printed (value.Ip ip) kind.Str = true
+is_printed _ _ = false

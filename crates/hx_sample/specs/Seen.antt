@@ -31,15 +31,15 @@ kept_bytes (sample.Str bytes) = Some bytes
 kept_bytes (sample.Bin bytes) = Some bytes
 kept_bytes (sample.Method bytes) = Some bytes
 
--- where both have bytes, those are the same, lent from the same place or owned
+-- where both have bytes, those are the same, lent from the same memory or owned
 abbrev pub IsSameWhereBoth : Option Bytes → Option Bytes → Type 0
 IsSameWhereBoth (Some bytes) (Some others) = bytes ≡ others
 IsSameWhereBoth _ _ = Unit {0}
 
--- the value in a place, or none
+-- the value of an occurrence, or none
 abbrev pub occurrence_value : Option Sample → Option Value
-occurrence_value place = option_map value_of place
+occurrence_value occurrence = option_map value_of occurrence
 
--- what each place of a list holds
+-- the values of a list of occurrences
 abbrev pub occurrence_values : List (Option Sample) → List (Option Value)
-occurrence_values places = map occurrence_value places
+occurrence_values occurrences = map occurrence_value occurrences

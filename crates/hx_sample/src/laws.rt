@@ -1,4 +1,4 @@
-//! What the definitions of casts and of variables imply, for callers of any of them.
+//! Laws: what the definitions of casts and of variables imply.
 ghost use Rattle.std.specs.Prelude.{◌≡◌, ◌≢◌, ℕ, Some, None, option_and_then, if◌then◌else◌};
 ghost use Rattle.hx_text.specs.declared.kinds.Kind.TheVariants as kind;
 ghost use Rattle.hx_text.specs.declared.names.VarName.{VarName};
@@ -29,7 +29,8 @@ pub fn address_is_cast_back(ip: Ip)
 
 /// What is set is got, and each other variable keeps its value.
 pub fn set_variable_is_got(vars: &Vars, conn: u32, name: &VarName, value: &Value)
-    ensures got { var_of (with_var vars.now conn name.now value.now) conn name.now ≡ Some value.now }
+    ensures got { var_of (with_var vars.now conn name.now value.now) conn name.now
+        ≡ Some value.now }
     ensures others { (c : ℕ) (n : VarName) → ¬ (IsSameVar conn name.now c n) →
         var_of (with_var vars.now conn name.now value.now) c n ≡ var_of vars.now c n }
 {}
@@ -41,8 +42,8 @@ pub fn unset_variable_is_none(vars: &Vars, conn: u32, name: &VarName)
         var_of (without_var vars.now conn name.now) c n ≡ var_of vars.now c n }
 {}
 
-/// When a request ends, the variables of its transaction, its request and its response are none, and
-/// each other variable keeps its value.
+/// When a request ends, the variables of its transaction, its request and its response are none,
+/// and each other variable keeps its value.
 pub fn ended_request_is_forgotten(vars: &Vars, conn: u32, name: &VarName)
     ensures { var_of (after_request vars.now) conn name.now
         ≡ (if ends_with_request name.now.scope then None else var_of vars.now conn name.now) }

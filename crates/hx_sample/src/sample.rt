@@ -23,8 +23,9 @@ impl Bytes<'_> {
     }
 }
 
-/// A value that a fetch or a converter gives, of one of the kinds that HAProxy's samples have
-/// (HAProxy configuration manual 2.4, section 7). Its bytes may be lent from what it was taken from.
+/// A value that a fetch or a converter gives, of one of the types that HAProxy's samples have:
+/// boolean, integer, address, string, binary and method (HAProxy configuration manual 2.4, section
+/// 7.1). Its bytes may be lent from what it was taken from.
 #[derive(Debug, Drop)]
 pub enum Sample<'a> {
     Bool(bool),

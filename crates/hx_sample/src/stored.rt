@@ -1,7 +1,7 @@
-ghost use Rattle.std.specs.Prelude.{◌≡◌, OnOk, OnErr};
+ghost use Rattle.std.specs.Prelude.{◌≡◌, ℕ, List, None, IsTrue, OnOk, OnErr};
 ghost use Rattle.std.specs.FinMap as map;
 ghost use Rattle.std.specs.Option.{option_copied};
-ghost use Rattle.hx_sample.specs.Vars.{session_var, with_session_var, without_session_var};
+ghost use Rattle.hx_sample.specs.Vars.{without_session};
 
 use crate::sample::Value;
 use hx_text::{NoMemory, Octets};
@@ -35,18 +35,34 @@ impl Names {
         }
     }
 
+    pub(crate) fn is_empty(&self) -> bool
+        ensures { IsTrue result → self.now ≡ map.empty }
+    {
+        self.values.is_empty()
+    }
+
     pub(crate) fn get(&self, name: &Octets) -> Option<&Value>
         ensures { option_copied result ≡ map.get self.now name.now }
     {
         self.values.get(name)
     }
 
-    pub(crate) fn set(&mut self, name: Octets, value: Value) -> Result<(), NoMemory>
-        ensures ok { OnOk result (self.new ≡ map.insert self.old name value) }
+    /// Copies the name only where it has no value yet.
+    pub(crate) fn set(&mut self, alloc: Global, name: &Octets, value: Value) -> Result<(), NoMemory>
+        ensures ok { OnOk result (self.new ≡ map.insert self.old name.now value) }
         ensures err { OnErr result (self.new ≡ self.old) }
     {
-        self.values.insert(name, value)?;
-        Ok(())
+        match self.values.get_mut(name) {
+            Some(kept) => {
+                *kept = value;
+                Ok(())
+            }
+            None => {
+                let key = Octets::copy(alloc, name.as_slice())?;
+                self.values.insert(key, value)?;
+                Ok(())
+            }
+        }
     }
 
     pub(crate) fn unset(&mut self, name: &Octets)
@@ -62,21 +78,21 @@ impl Names {
     }
 }
 
-/// The variables of each connection.
+/// The variables of all sessions: a map of names for each connection that has a variable.
 #[derive(Drop)]
 pub(crate) struct Sessions {
     names: BTreeMap<u32, Names>,
 }
 
 impl Model for Sessions {
-    ghost use Rattle.std.specs.FinMap as map;
-    ghost use Rattle.hx_sample.specs.Vars.{ByConn, by_conn_code};
+    ghost use Rattle.hx_sample.specs.Stored.{session_vars};
+    ghost use Rattle.hx_sample.specs.Vars.{BySession, by_session_code};
 
-    ghost Value = { ByConn };
+    ghost Value = { BySession };
 
-    ghost coded = { by_conn_code };
+    ghost coded = { by_session_code };
 
-    ghost view = { λ sessions. map.from_entries sessions.names.entries };
+    ghost view = { λ sessions. session_vars sessions.names.entries };
 }
 
 impl Sessions {
@@ -89,7 +105,7 @@ impl Sessions {
     }
 
     pub(crate) fn get(&self, conn: u32, name: &Octets) -> Option<&Value>
-        ensures { option_copied result ≡ session_var self.now conn name.now }
+        ensures { option_copied result ≡ map.get self.now (conn, name.now) }
     {
         match self.names.get(&conn) {
             Some(names) => names.get(name),
@@ -101,25 +117,35 @@ impl Sessions {
         &mut self,
         alloc: Global,
         conn: u32,
-        name: Octets,
+        name: &Octets,
         value: Value,
     ) -> Result<(), NoMemory>
-        ensures ok { OnOk result (self.new ≡ with_session_var self.old conn name value) }
+        ensures ok { OnOk result (self.new ≡ map.insert self.old (conn, name.now) value) }
         ensures err { OnErr result (self.new ≡ self.old) }
     {
         match self.names.get_mut(&conn) {
-            Some(names) => names.set(name, value),
+            Some(names) => names.set(alloc, name, value),
             None => {
                 let mut names = Names::new(alloc);
-                names.set(name, value)?;
+                names.set(alloc, name, value)?;
                 self.names.insert(conn, names)?;
                 Ok(())
             }
         }
     }
 
+    /// The map of a connection that has no variable left is freed.
     pub(crate) fn unset(&mut self, conn: u32, name: &Octets)
-        ensures { self.new ≡ without_session_var self.old conn name.now }
+        ensures { self.new ≡ map.remove self.old (conn, name.now) }
+    {
+        self.unset_name(conn, name);
+        if self.has_none(conn) {
+            self.end(conn);
+        }
+    }
+
+    fn unset_name(&mut self, conn: u32, name: &Octets)
+        ensures { self.new ≡ map.remove self.old (conn, name.now) }
     {
         match self.names.get_mut(&conn) {
             Some(names) => names.unset(name),
@@ -127,8 +153,17 @@ impl Sessions {
         }
     }
 
+    fn has_none(&self, conn: u32) -> bool
+        ensures { IsTrue result → (name : List ℕ) → map.get self.now (conn, name) ≡ None }
+    {
+        match self.names.get(&conn) {
+            Some(names) => names.is_empty(),
+            None => true,
+        }
+    }
+
     pub(crate) fn end(&mut self, conn: u32)
-        ensures { self.new ≡ map.remove self.old conn }
+        ensures { self.new ≡ without_session self.old conn }
     {
         let _names = self.names.remove(&conn);
     }

@@ -4,13 +4,16 @@ ghost use Rattle.hx_sample.specs.Vars.{no_vars, var_of, with_var, without_var, a
 
 use crate::sample::Value;
 use crate::stored::{Names, Sessions};
-use hx_text::{NoMemory, Octets, Scope, VarName};
+use hx_text::{NoMemory, Scope, VarName};
 use std::alloc::Global;
 use std::marker::Model;
 
-/// The variables of the process, of the transaction, the request and the response that are under way,
-/// and of each connection's session (HAProxy configuration manual 2.4, section 7.3.2, `var`). Contracts see
-/// them as finite maps, one for each scope and for sessions one for each connection.
+/// The variables of the process, of the transaction, the request and the response that are under
+/// way, and of each connection's session (HAProxy configuration manual 2.4, section 7.3.2, `var`).
+/// Contracts see them as finite maps, one for each scope: that of sessions is keyed by connection
+/// and name.
+///
+/// To get, set or unset one costs by the logarithm of their number.
 #[derive(Drop)]
 pub struct Vars {
     alloc: Global,
@@ -66,20 +69,20 @@ impl Vars {
         }
     }
 
-    /// Sets the variable `name`, of the connection `conn` where its scope is the session, in place of
-    /// the value that it had. Where memory runs out every variable stays as it was, and `value` is
-    /// dropped.
+    /// Sets the variable `name`, of the connection `conn` where its scope is the session, in place
+    /// of the value that it had. Where memory runs out every variable stays as it was, and `value`
+    /// is dropped. The name is copied only where the variable is unset.
     pub fn set(&mut self, conn: u32, name: &VarName, value: Value) -> Result<(), NoMemory>
         ensures ok { OnOk result (self.new ≡ with_var self.old conn name.now value) }
         ensures err { OnErr result (self.new ≡ self.old) }
     {
-        let key = Octets::copy(self.alloc, name.name.as_slice())?;
+        let key = &name.name;
         match name.scope {
-            Scope::Proc => self.process.set(key, value),
+            Scope::Proc => self.process.set(self.alloc, key, value),
             Scope::Sess => self.sessions.set(self.alloc, conn, key, value),
-            Scope::Txn => self.transaction.set(key, value),
-            Scope::Req => self.request.set(key, value),
-            Scope::Res => self.response.set(key, value),
+            Scope::Txn => self.transaction.set(self.alloc, key, value),
+            Scope::Req => self.request.set(self.alloc, key, value),
+            Scope::Res => self.response.set(self.alloc, key, value),
         }
     }
 
@@ -108,7 +111,7 @@ impl Vars {
     }
 
     /// Unsets every variable of the session of the connection `conn`. All others stay. It takes no
-    /// memory.
+    /// memory, and its cost doesn't grow with the variables of other connections.
     pub fn end_session(&mut self, conn: u32)
         ensures { self.new ≡ after_session self.old conn }
     {
