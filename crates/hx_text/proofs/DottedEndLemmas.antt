@@ -188,7 +188,7 @@ ends_in_dotted text segments dot (inr h) =
     ap length e.is_segments ∙ length-append e.first (segments_of e.octets) in
     let more = length-append e.first (0 ∷ 0 ∷ []) in
     let same : length h.tail ≡ length (e.first ++ 0 ∷ 0 ∷ []) = omega (arith, all, two, more) in
-    let zeros = replicate (8 - length h.head - length h.tail) 0 in
+    let zeros : List ℕ = replicate (8 - length h.head - length h.tail) 0 in
     let count : length zeros ≡ 8 - length h.head - length h.tail = length-replicate _ 0 in
     let parts = length-append h.head zeros in
     let whole = length-append (h.head ++ zeros) e.first in
