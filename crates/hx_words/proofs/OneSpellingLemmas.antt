@@ -154,8 +154,10 @@ after-name : (stop : Option ℕ) (name rest : List ℕ) → list_any (ends_name 
 unfolding step_of
 after-name stop name rest plain ends =
     let text = name ++ rest in
-    ap (λ (n : ℕ). step_after_name stop (take n text) (drop n text)) (name-length (ends_name stop) name rest plain ends)
-    ∙ ap (λ (a : List ℕ). step_after_name stop a (drop (length name) text)) (take-append_seam name rest)
+    ap (λ (n : ℕ). step_after_name stop (take n text) (drop n text))
+    (name-length (ends_name stop) name rest plain ends)
+    ∙ ap (λ (a : List ℕ). step_after_name stop a (drop (length name) text))
+    (take-append_seam name rest)
     ∙ ap (λ (d : List ℕ). step_after_name stop name d) (drop-append_seam name rest)
 
 -- what stands after a name opens no arguments
@@ -168,12 +170,14 @@ name-alone : (stop : Option ℕ) (name rest : List ℕ) → OpensNone stop rest
     ≡ step_after_call stop (record { name = name; args = [] }) rest
 name-alone stop name [] none = refl
 name-alone stop name (b ∷ bs) none =
-    ap (λ (c : Bool). if c then step_with_arguments stop name bs else step_after_call stop (record { name = name; args = [] }) (b ∷ bs)) none
+    ap (λ (c : Bool). if c then step_with_arguments stop name bs else step_after_call stop
+    (record { name = name; args = [] }) (b ∷ bs)) none
 
 opened : (stop : Option ℕ) (name bs : List ℕ) → is_given stop open_parenthesis ≡ false
     → step_after_name stop name (open_parenthesis ∷ bs) ≡ step_with_arguments stop name bs
 opened stop name bs opens =
-    ap (λ (c : Bool). if not c then step_with_arguments stop name bs else step_after_call stop (record { name = name; args = [] }) (open_parenthesis ∷ bs)) opens
+    ap (λ (c : Bool). if not c then step_with_arguments stop name bs else step_after_call stop
+    (record { name = name; args = [] }) (open_parenthesis ∷ bs)) opens
 
 opens-name : (stop : Option ℕ) → ends_name stop open_parenthesis ≡ true
 opens-name stop = ap (λ (c : Bool). c || false) (or-true (is_given stop open_parenthesis))
@@ -190,13 +194,16 @@ by-call stop _ _ rest (NameAlone name plain) ends none =
 by-call stop _ _ rest (WithArguments name args text plain opens spelled) ends none =
     let tail = text ++ close_parenthesis ∷ rest in
     let read = reads-inside args text rest spelled in
-    let whole : (name ++ (open_parenthesis ∷ (text ++ close_parenthesis ∷ []))) ++ rest ≡ name ++ open_parenthesis ∷ tail =
+    let whole : (name ++ (open_parenthesis ∷
+    (text ++ close_parenthesis ∷ []))) ++ rest ≡ name ++ open_parenthesis ∷ tail =
     append_assoc name (open_parenthesis ∷ (text ++ close_parenthesis ∷ [])) rest
-    ∙ ap (λ (r : List ℕ). name ++ open_parenthesis ∷ r) (append_assoc text (close_parenthesis ∷ []) rest) in
+    ∙ ap (λ (r : List ℕ). name ++ open_parenthesis ∷ r)
+    (append_assoc text (close_parenthesis ∷ []) rest) in
     ap (step_of stop) whole
     ∙ after-name stop name (open_parenthesis ∷ tail) plain (opens-name stop)
     ∙ opened stop name tail opens
-    ∙ ap (λ (a : List (List ℕ)). step_after_arguments stop name a (argument_items tail).ending) read.0
+    ∙ ap (λ (a : List (List ℕ)). step_after_arguments stop name a
+    (argument_items tail).ending) read.0
     ∙ ap (step_after_arguments stop name args) read.1
 
 same-byte : (b : ℕ) → (b == b) ≡ true
@@ -214,43 +221,48 @@ last-opens-none : (stop : Option ℕ) (rest : List ℕ) → (stop ≡ None → r
 last-opens-none None [] to_end = tt
 last-opens-none None (b ∷ bs) to_end = absurd (cons-nil b bs (to_end refl))
 last-opens-none (Some stop) rest to_end =
-    ap (λ (c : Bool). stop == open_parenthesis && not c) (same-byte stop) ∙ and-false (stop == open_parenthesis)
+    ap (λ (c : Bool). stop == open_parenthesis && not c) (same-byte stop)
+    ∙ and-false (stop == open_parenthesis)
 
 last-step : (stop : Option ℕ) (call : CallForm) (rest : List ℕ) → (stop ≡ None → rest ≡ [])
     → step_after_call stop call (option_to_list stop ++ rest) ≡ Last call rest
 last-step None call [] to_end = refl
 last-step None call (b ∷ bs) to_end = absurd (cons-nil b bs (to_end refl))
 last-step (Some stop) call rest to_end =
-    ap (λ (c : Bool). if c then Last call rest else (if stop == comma then More call rest else Faulty call.name AfterClose)) (same-byte stop)
+    ap (λ (c : Bool). if c then Last call rest else
+    (if stop == comma then More call rest else Faulty call.name AfterClose)) (same-byte stop)
 
 pub last_only : (stop : Option ℕ) (text : List ℕ) (call : CallForm) (rest : List ℕ)
     → BeginsWithLast stop text call rest → step_of stop text ≡ Last call rest
 last_only stop text call rest (prefix, spelled, whole, to_end) =
     ap (step_of stop) whole
-    ∙ by-call stop call prefix (option_to_list stop ++ rest) spelled (last-ends stop rest to_end) (last-opens-none stop rest to_end)
+    ∙ by-call stop call prefix (option_to_list stop ++ rest) spelled (last-ends stop rest to_end)
+    (last-opens-none stop rest to_end)
     ∙ last-step stop call rest to_end
 
 more-step : (stop : Option ℕ) (call : CallForm) (rest : List ℕ) → is_given stop comma ≡ false
     → step_after_call stop call (comma ∷ rest) ≡ More call rest
-more-step stop call rest goes_on =
-    ap (λ (c : Bool). if c then Last call rest else More call rest) goes_on
+more-step stop call rest no_stop =
+    ap (λ (c : Bool). if c then Last call rest else More call rest) no_stop
 
 pub more_only : (stop : Option ℕ) (text : List ℕ) (call : CallForm) (rest : List ℕ)
     → BeginsWithCall stop text call rest → step_of stop text ≡ More call rest
-more_only stop text call rest (prefix, spelled, whole, goes_on) =
+more_only stop text call rest (prefix, spelled, whole, no_stop) =
     ap (step_of stop) whole
     ∙ by-call stop call prefix (comma ∷ rest) spelled (comma-ends stop) refl
-    ∙ more-step stop call rest goes_on
+    ∙ more-step stop call rest no_stop
 
 by-spelling : (stop : Option ℕ) (calls : List CallForm) (text : List ℕ)
     → SpellsCalls stop calls text → (rest : List ℕ) → (stop ≡ None → rest ≡ [])
     → calls_of_steps (steps_of stop (text ++ rest)) ≡ Ok (calls, rest)
 by-spelling stop _ _ (LastCall call text spelled) rest to_end =
     calls_of_steps-by stop (text ++ option_to_list stop ++ rest) (Last call rest)
-    (sym (last_only stop (text ++ option_to_list stop ++ rest) call rest (text, spelled, append_assoc text (option_to_list stop) rest, to_end)))
-by-spelling stop _ _ (FirstCall call calls text later spelled goes_on follows) rest to_end =
+    (sym (last_only stop (text ++ option_to_list stop ++ rest) call rest
+    (text, spelled, append_assoc text (option_to_list stop) rest, to_end)))
+by-spelling stop _ _ (FirstCall call calls text later spelled no_stop follows) rest to_end =
     calls_of_steps-by stop ((text ++ comma ∷ later) ++ rest) (More call (later ++ rest))
-    (sym (more_only stop ((text ++ comma ∷ later) ++ rest) call (later ++ rest) (text, spelled, append_assoc text (comma ∷ later) rest, goes_on)))
+    (sym (more_only stop ((text ++ comma ∷ later) ++ rest) call (later ++ rest)
+    (text, spelled, append_assoc text (comma ∷ later) rest, no_stop)))
     ∙ ap (longer_calls call) (by-spelling stop calls later follows rest to_end)
 
 pub calls_only : (stop : Option ℕ) (text : List ℕ) (list : CallList)
@@ -260,5 +272,6 @@ calls_only stop text list begins =
     let used : length text - length begins.rest ≡ list.used =
     omega (arith, ap length begins.whole ∙ length-append begins.prefix begins.rest, begins.used) in
     ap (λ (t : List ℕ). call_list text (calls_of_steps (steps_of stop t))) begins.whole
-    ∙ ap (call_list text) (by-spelling stop list.calls begins.prefix begins.spelled begins.rest begins.to_end)
+    ∙ ap (call_list text)
+    (by-spelling stop list.calls begins.prefix begins.spelled begins.rest begins.to_end)
     ∙ ap (λ (u : ℕ). Ok (record { calls = list.calls; used = u })) used

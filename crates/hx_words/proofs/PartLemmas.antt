@@ -67,7 +67,8 @@ hex-same : (bs rest other value : List ℕ)
     → hex_escape (bs ++ rest) ≡ Some (suc (length bs), value)
     → hex_escape (bs ++ other) ≡ Some (suc (length bs), value)
 hex-same [] rest other value is = absurd (omega (arith, hex-count rest 1 value is))
-hex-same (high ∷ []) rest other value is = absurd (omega (arith, hex-count (high ∷ rest) 2 value is))
+hex-same (high ∷ []) rest other value is =
+    absurd (omega (arith, hex-count (high ∷ rest) 2 value is))
 hex-same (high ∷ low ∷ bs) rest other value is = is
 
 escape-same-from : (c : ℕ) (bs rest other value : List ℕ)

@@ -39,7 +39,8 @@ any-cons p x xs k false is rest =
 none-before : (p : ℕ → Bool) (xs : List ℕ)
     → list_any p (take (prefix_len (λ b. not (p b)) xs) xs) ≡ false
 none-before p [] = refl
-none-before p (x ∷ xs) = any-cons p x xs (prefix_len (λ b. not (p b)) xs) (p x) refl (none-before p xs)
+none-before p (x ∷ xs) = any-cons p x xs (prefix_len (λ b. not (p b)) xs)
+    (p x) refl (none-before p xs)
 
 at-stop : (stop : Option ℕ) (b : ℕ) (bs : List ℕ) (call : CallForm) (text : List ℕ)
     → SpellsCall stop call text → is_given stop b ≡ true
@@ -59,24 +60,29 @@ after-call stop call text (b ∷ bs) spelled =
     let is = eqb-true b comma t in
     (text, spelled, ap (λ (c : ℕ). text ++ c ∷ bs) is, ap (is_given stop) (sym is) ∙ f)) (λ g. tt))
 
-arguments-are : (bs : List ℕ) → AreTextItems argument_item arguments_end Outside bs (argument_items bs)
+arguments-are : (bs : List ℕ)
+    → AreTextItems argument_item arguments_end Outside bs (argument_items bs)
 arguments-are bs = is_list argument_item arguments_end argument-within bs Outside 0 (omega arith)
 
 after-arguments : (stop : Option ℕ) (name bs : List ℕ) → list_any (ends_name stop) name ≡ false
     → is_given stop open_parenthesis ≡ false → (ending : ArgumentsEnd)
     → (argument_items bs).ending ≡ ending
-    → IsFirstCall stop (name ++ open_parenthesis ∷ bs) (step_after_arguments stop name (arguments (argument_items bs).items) ending)
+    → IsFirstCall stop (name ++ open_parenthesis ∷ bs)
+    (step_after_arguments stop name (arguments (argument_items bs).items) ending)
 after-arguments stop name bs plain opens (AtFault fault) is = tt
 after-arguments stop name bs plain opens (AtParenthesis rest) is =
     let inside = inside-of Outside bs rest (argument_items bs) (arguments-are bs) is in
     let args = arguments (argument_items bs).items in
     let call : CallForm = record { name = name; args = args } in
     let text = name ++ (open_parenthesis ∷ (inside.inside ++ close_parenthesis ∷ [])) in
-    let spelled : SpellsCall stop call text = WithArguments name args inside.inside plain opens inside.called in
+    let spelled : SpellsCall stop call text =
+    WithArguments name args inside.inside plain opens inside.called in
     let whole : text ++ rest ≡ name ++ open_parenthesis ∷ bs =
     append_assoc name (open_parenthesis ∷ (inside.inside ++ close_parenthesis ∷ [])) rest
-    ∙ ap (λ (r : List ℕ). name ++ open_parenthesis ∷ r) (append_assoc inside.inside (close_parenthesis ∷ []) rest ∙ sym inside.whole) in
-    subst (λ (t : List ℕ). IsFirstCall stop t (step_after_call stop call rest)) whole (after-call stop call text rest spelled)
+    ∙ ap (λ (r : List ℕ). name ++ open_parenthesis ∷ r)
+    (append_assoc inside.inside (close_parenthesis ∷ []) rest ∙ sym inside.whole) in
+    subst (λ (t : List ℕ). IsFirstCall stop t (step_after_call stop call rest)) whole
+    (after-call stop call text rest spelled)
 
 and-both : (x y : Bool) → (x && y) ≡ true → (x ≡ true) × (y ≡ true)
 and-both true y is = (refl, is)
@@ -96,7 +102,8 @@ after-name stop name (b ∷ bs) plain =
     (λ t.
     let both = and-both (b == open_parenthesis) (not (is_given stop b)) t in
     let is = eqb-true b open_parenthesis both.0 in
-    let opens : is_given stop open_parenthesis ≡ false = ap (is_given stop) (sym is) ∙ not-true (is_given stop b) both.1 in
+    let opens : is_given stop open_parenthesis ≡ false = ap (is_given stop) (sym is)
+    ∙ not-true (is_given stop b) both.1 in
     subst (λ (c : ℕ). IsFirstCall stop (name ++ c ∷ bs) (step_with_arguments stop name bs)) (sym is)
     (after-arguments stop name bs plain opens (argument_items bs).ending refl))
     (λ f. after-call stop (record { name = name; args = [] }) name (b ∷ bs) (NameAlone name plain))
@@ -120,7 +127,8 @@ more_spelled stop text call rest is =
     let P : Step → Type 0 = IsFirstCall stop text in subst P is (first_call stop text)
 
 -- these calls are a prefix of the text, and this is the rest
-record SpellsPrefix (stop : Option ℕ) (text : List ℕ) (calls : List CallForm) (rest : List ℕ) : Type 0 where
+record SpellsPrefix (stop : Option ℕ) (text : List ℕ) (calls : List CallForm)
+    (rest : List ℕ) : Type 0 where
   prefix : List ℕ
   whole : text ≡ prefix ++ rest
   spelled : SpellsCalls stop calls prefix
@@ -143,11 +151,11 @@ more-prefix : (stop : Option ℕ) (text : List ℕ) (call : CallForm) (left : Li
     (calls : List CallForm) (rest : List ℕ)
     → BeginsWithCall stop text call left → SpellsPrefix stop left calls rest
     → SpellsPrefix stop text (call ∷ calls) rest
-more-prefix stop text call left calls rest (prefix, spelled, whole, goes_on) later = record {
+more-prefix stop text call left calls rest (prefix, spelled, whole, no_stop) later = record {
   prefix = prefix ++ comma ∷ later.prefix;
   whole = whole ∙ ap (λ (r : List ℕ). prefix ++ comma ∷ r) later.whole
       ∙ sym (append_assoc prefix (comma ∷ later.prefix) rest);
-  spelled = FirstCall call calls prefix later.prefix spelled goes_on later.spelled;
+  spelled = FirstCall call calls prefix later.prefix spelled no_stop later.spelled;
   to_end = later.to_end;
 }
 
@@ -165,7 +173,8 @@ by-rest : (stop : Option ℕ) (text : List ℕ) (call : CallForm) (left : List �
 by-rest stop text call left calls rest shorter begins less (Err fault) same is = cc
 by-rest stop text call left calls rest shorter begins less (Ok found) same is =
     subst (λ (p : List CallForm × List ℕ). SpellsPrefix stop text p.0 p.1) (ap found_of is)
-    (more-prefix stop text call left found.0 found.1 begins (shorter left found.0 found.1 less same))
+    (more-prefix stop text call left found.0 found.1 begins
+    (shorter left found.0 found.1 less same))
 
 by-step : (stop : Option ℕ) (text : List ℕ) (calls : List CallForm) (rest : List ℕ)
     → Shorter stop text → (step : Step) → IsFirstCall stop text step
@@ -176,7 +185,8 @@ by-step stop text calls rest shorter (Last call left) begins proper is =
     subst (λ (p : List CallForm × List ℕ). SpellsPrefix stop text p.0 p.1) (ap found_of is)
     (last-prefix stop text call left begins)
 by-step stop text calls rest shorter (More call left) begins proper is =
-    by-rest stop text call left calls rest shorter begins proper (calls_of_steps (steps_of stop left)) refl is
+    by-rest stop text call left calls rest shorter begins proper
+    (calls_of_steps (steps_of stop left)) refl is
 by-step stop text calls rest shorter (Faulty name fault) begins proper is = cc
 
 spells-prefix : (n : ℕ) (stop : Option ℕ) (text : List ℕ) (calls : List CallForm) (rest : List ℕ)
@@ -184,11 +194,13 @@ spells-prefix : (n : ℕ) (stop : Option ℕ) (text : List ℕ) (calls : List Ca
     → SpellsPrefix stop text calls rest
 spells-prefix zero stop text calls rest small is =
     by-step stop text calls rest (λ left cs r less found. absurd (omega arith)) (step_of stop text)
-    (first_call stop text) (step-proper stop text) (sym (ap calls_of_steps (steps_repeat stop text)) ∙ is)
+    (first_call stop text) (step-proper stop text)
+    (sym (ap calls_of_steps (steps_repeat stop text)) ∙ is)
 spells-prefix (suc n) stop text calls rest small is =
     by-step stop text calls rest
     (λ left cs r less found. spells-prefix n stop left cs r (omega arith) found) (step_of stop text)
-    (first_call stop text) (step-proper stop text) (sym (ap calls_of_steps (steps_repeat stop text)) ∙ is)
+    (first_call stop text) (step-proper stop text)
+    (sym (ap calls_of_steps (steps_repeat stop text)) ∙ is)
 
 abbrev list_of : Result CallList ArgFault → CallList
 list_of (Ok list) = list
@@ -212,4 +224,5 @@ by-found stop text list (Ok found) same is =
 pub calls_spelled : (stop : Option ℕ) (text : List ℕ) (list : CallList)
     → calls_of stop text ≡ Ok list → BeginsWithCalls stop text list
 unfolding calls_of
-calls_spelled stop text list is = by-found stop text list (calls_of_steps (steps_of stop text)) refl is
+calls_spelled stop text list is =
+    by-found stop text list (calls_of_steps (steps_of stop text)) refl is

@@ -18,7 +18,8 @@ use Rattle.hx_words.specs.Spelling.SpellsArguments.{LastArgument, NextArgument, 
 use Rattle.hx_words.proofs.PartLemmas.{part_stands}
 
 -- a choice has what both of its sides have, where each is taken
-pub either : {A : Type 0} (P : A → Type 0) (b : Bool) (x y : A) → (b ≡ true → P x) → (b ≡ false → P y)
+pub either : {A : Type 0} (P : A → Type 0) (b : Bool) (x y : A) → (b ≡ true → P x)
+    → (b ≡ false → P y)
     → P (if b then x else y)
 either P true x y p q = p refl
 either P false x y p q = q refl
@@ -57,7 +58,8 @@ item-stands Single b bs =
 stands-as : (state : QuoteState) (b : ℕ) (bs : List ℕ) (item : TextItem ArgumentsEnd)
     → argument_item state b bs ≡ item → Stands state b bs item
 stands-as state b bs item is =
-    let P : TextItem ArgumentsEnd → Type 0 = Stands state b bs in subst P is (item-stands state b bs)
+    let P : TextItem ArgumentsEnd → Type 0 = Stands state b bs in
+    subst P is (item-stands state b bs)
 
 no-parenthesis : (state : QuoteState) (rest : List ℕ) → arguments_end state ≡ AtParenthesis rest → ⊥
 no-parenthesis Outside rest is = cc
@@ -79,7 +81,8 @@ abbrev pub split_values : List (Option (List ℕ)) → List (List ℕ)
 split_values items = map joint_value (slice_split is_none items)
 
 -- these items are what stands between two parentheses, of which the second stands after `inside`
-pub record Inside (state : QuoteState) (items : List (Option (List ℕ))) (bs rest : List ℕ) : Type 0 where
+pub record Inside (state : QuoteState) (items : List (Option (List ℕ)))
+    (bs rest : List ℕ) : Type 0 where
   pub inside : List ℕ
   pub whole : bs ≡ inside ++ close_parenthesis ∷ rest
   pub spelled : SpellsArguments state (split_values items) inside
@@ -90,11 +93,13 @@ inside-gap : (state : QuoteState) (b : ℕ) (bs after rest : List ℕ) (items : 
     → Inside state (None ∷ items) (b ∷ (bs ++ after)) rest
 inside-gap state b bs after rest items outside is none later =
     let from : SpellsArguments Outside (split_values items) later.inside =
-    subst (λ (s : QuoteState). SpellsArguments s (split_values items) later.inside) outside later.spelled in
+    subst (λ (s : QuoteState). SpellsArguments s
+    (split_values items) later.inside) outside later.spelled in
     let here : SpellsArguments Outside (split_values (None ∷ items)) (comma ∷ later.inside) =
     NextArgument (split_values items) later.inside from in
     let spelled : SpellsArguments state (split_values (None ∷ items)) (comma ∷ later.inside) =
-    subst (λ (s : QuoteState). SpellsArguments s (split_values (None ∷ items)) (comma ∷ later.inside)) (sym outside) here in
+    subst (λ (s : QuoteState). SpellsArguments s (split_values (None ∷ items))
+    (comma ∷ later.inside)) (sym outside) here in
     record {
       inside = comma ∷ later.inside;
       whole = ap (λ (c : ℕ). c ∷ (bs ++ after)) is ∙ ap (λ (r : List ℕ). comma ∷ (r ++ after)) none
@@ -121,11 +126,14 @@ inside-part state next b bs value after rest items is later =
     omega (arith, ap length later.whole ∙ length-append later.inside (close_parenthesis ∷ rest)) in
     let part : IsPart state b bs value next =
     λ other. part_stands state next b bs after other value some is in
-    let spelled = onto-first state next b bs value later.inside (slice_split is_none items) part later.spelled in
+    let spelled =
+    onto-first state next b bs value later.inside
+    (slice_split is_none items) part later.spelled in
     record {
       inside = b ∷ (bs ++ later.inside);
       whole = ap (λ (r : List ℕ). b ∷ (bs ++ r)) later.whole
-          ∙ ap (λ (r : List ℕ). b ∷ r) (sym (append_assoc bs later.inside (close_parenthesis ∷ rest)));
+          ∙ ap (λ (r : List ℕ). b ∷ r)
+          (sym (append_assoc bs later.inside (close_parenthesis ∷ rest)));
       spelled = spelled;
       called = spelled;
     }
@@ -136,7 +144,8 @@ inside-none state b bs rest outside is same =
     record {
       inside = [];
       whole = ap (λ (c : ℕ). c ∷ bs) is ∙ ap (λ (r : List ℕ). close_parenthesis ∷ r) same;
-      spelled = subst (λ (s : QuoteState). SpellsArguments s ([] ∷ []) []) (sym outside) LastArgument;
+      spelled = subst (λ (s : QuoteState). SpellsArguments s ([] ∷ []) [])
+          (sym outside) LastArgument;
       called = refl;
     }
 
@@ -149,10 +158,14 @@ pub inside-of : (state : QuoteState) (bs rest : List ℕ) (list : TextItems Argu
     → list.ending ≡ AtParenthesis rest → Inside state list.items bs rest
 inside-of _ _ rest _ (NoBytes state) end = absurd (no-parenthesis state rest end)
 inside-of _ _ rest _ (FirstGap state b bs after list is follows) end =
-    let stands : Stands state b (bs ++ after) (Gap (length bs)) = stands-as state b (bs ++ after) (Gap (length bs)) is in
-    inside-gap state b bs after rest list.items stands.0 stands.1 (no-length bs stands.2) (inside-of state after rest list follows end)
+    let stands : Stands state b (bs ++ after) (Gap (length bs)) = stands-as state b (bs ++ after)
+    (Gap (length bs)) is in
+    inside-gap state b bs after rest list.items stands.0 stands.1 (no-length bs stands.2)
+    (inside-of state after rest list follows end)
 inside-of _ _ rest _ (FirstPart state next b bs after value list is follows) end =
-    inside-part state next b bs value after rest list.items is (inside-of next after rest list follows end)
+    inside-part state next b bs value after rest list.items is
+    (inside-of next after rest list follows end)
 inside-of _ _ rest _ (FirstNone state b bs ending is) end =
-    let stands : Stands state b bs (NoItem (AtParenthesis rest)) = stands-as state b bs (NoItem (AtParenthesis rest)) (is ∙ ap NoItem end) in
+    let stands : Stands state b bs (NoItem (AtParenthesis rest)) =
+    stands-as state b bs (NoItem (AtParenthesis rest)) (is ∙ ap NoItem end) in
     inside-none state b bs rest stands.0 stands.1 stands.2

@@ -35,11 +35,15 @@ append-nil : {X : Type 0} (xs : List X) → xs ++ [] ≡ xs
 append-nil [] = refl
 append-nil (x ∷ xs) = ap (λ ys. x ∷ ys) (append-nil xs)
 
-heads-onto : (word value : List ℕ) (parts : List (List (Option (List ℕ)))) → heads (word ++ value) parts ≡ heads word (onto_first (Some value) parts)
+heads-onto : (word value : List ℕ) (parts : List (List (Option (List ℕ))))
+    → heads (word ++ value) parts ≡ heads word (onto_first (Some value) parts)
 heads-onto word value [] = ap (λ (v : List ℕ). (word ++ v) ∷ []) (sym (append-nil value))
-heads-onto word value (part ∷ parts) = ap (λ (w : List ℕ). w ∷ map joint_value (filter is_run parts)) (append_assoc word value (joint_value part))
+heads-onto word value (part ∷ parts) =
+    ap (λ (w : List ℕ). w ∷ map joint_value (filter is_run parts))
+    (append_assoc word value (joint_value part))
 
-heads-none : (value : List ℕ) (parts : List (List (Option (List ℕ)))) → heads value parts ≡ map joint_value (filter is_run (onto_first (Some value) parts))
+heads-none : (value : List ℕ) (parts : List (List (Option (List ℕ))))
+    → heads value parts ≡ map joint_value (filter is_run (onto_first (Some value) parts))
 heads-none value [] = ap (λ (v : List ℕ). v ∷ []) (sym (append-nil value))
 heads-none value (part ∷ parts) = refl
 
@@ -49,10 +53,19 @@ record Runs (items : List (Option (List ℕ))) : Type 0 where
   under_way : (word : List ℕ) → runs_after (Some word) items ≡ heads word (parts_of items)
 
 runs-after : (items : List (Option (List ℕ))) → Runs items
-runs-after [] = record { at_start = refl; under_way = λ word. ap (λ (w : List ℕ). w ∷ []) (sym (append-nil word)) }
+runs-after [] =
+    record {
+      at_start = refl;
+      under_way = λ word. ap (λ (w : List ℕ). w ∷ [])
+          (sym (append-nil word));
+    }
 runs-after (None ∷ items) =
     let rest = runs-after items in
-    record { at_start = rest.at_start; under_way = λ word. rw (append-nil word, rest.at_start) refl }
+    record {
+      at_start = rest.at_start;
+      under_way = λ word. rw
+          (append-nil word, rest.at_start) refl;
+    }
 runs-after (Some value ∷ items) =
     let rest = runs-after items in
     record {
@@ -61,136 +74,206 @@ runs-after (Some value ∷ items) =
     }
 
 -- a word under way is a word
-runs-after-some : (word : List ℕ) (items : List (Option (List ℕ))) → 1 ≤ length (runs_after (Some word) items)
+runs-after-some : (word : List ℕ) (items : List (Option (List ℕ)))
+    → 1 ≤ length (runs_after (Some word) items)
 runs-after-some word [] = omega arith
 runs-after-some word (None ∷ items) = omega arith
 runs-after-some word (Some value ∷ items) = runs-after-some (word ++ value) items
 
 -- what a line comes to, where `done` and `word` are the words so far and `reading` is what is left
-unfoldable pub judged : List (List ℕ) → Option (List ℕ) → TextItems LineEnd → Result (List (List ℕ)) WordFault
-judged done word reading =
+unfoldable pub words_with : List (List ℕ) → Option (List ℕ) → TextItems LineEnd
+    → Result (List (List ℕ)) WordFault
+words_with done word reading =
     let words = done ++ runs_after word (reading.items ++ item_at_end reading.ending) in
     if nat_lt 256 (length words) then Err TooManyWords else result_at_end reading.ending words
 
-judged-all : (reading : TextItems LineEnd) → judged [] None reading ≡ (if nat_lt 256 (length (beginning_words reading)) then Err TooManyWords else result_at_end reading.ending (beginning_words reading))
-unfolding judged
-judged-all reading = rw (runs-after (reading.items ++ item_at_end reading.ending)).at_start refl
+words_with-all : (reading : TextItems LineEnd)
+    → words_with [] None reading ≡
+    (if nat_lt 256 (length
+    (beginning_words reading)) then Err TooManyWords else result_at_end reading.ending
+    (beginning_words reading))
+unfolding words_with
+words_with-all reading = rw (runs-after (reading.items ++ item_at_end reading.ending)).at_start refl
 
-judged-gap : (done : List (List ℕ)) (word : Option (List ℕ)) (reading : TextItems LineEnd) → judged done word (longer_items None reading) ≡ judged (done ++ option_to_list word) None reading
-unfolding judged
-judged-gap done None reading = rw (append-nil done) refl
-judged-gap done (Some word) reading = rw append_assoc refl
+words_with-gap : (done : List (List ℕ)) (word : Option (List ℕ)) (reading : TextItems LineEnd)
+    → words_with done word (longer_items None reading) ≡ words_with
+    (done ++ option_to_list word) None reading
+unfolding words_with
+words_with-gap done None reading = rw (append-nil done) refl
+words_with-gap done (Some word) reading = rw append_assoc refl
 
-judged-part : (done : List (List ℕ)) (word : Option (List ℕ)) (value : List ℕ) (reading : TextItems LineEnd) → judged done word (longer_items (Some value) reading) ≡ judged done (Some (unwrap_or word [] ++ value)) reading
-unfolding judged
-judged-part done None value reading = refl
-judged-part done (Some word) value reading = refl
+words_with-part : (done : List (List ℕ)) (word : Option (List ℕ)) (value : List ℕ)
+    (reading : TextItems LineEnd)
+    → words_with done word (longer_items (Some value) reading) ≡ words_with done
+    (Some (unwrap_or word [] ++ value)) reading
+unfolding words_with
+words_with-part done None value reading = refl
+words_with-part done (Some word) value reading = refl
 
 lt-from-not : (m n : ℕ) → (m ≤ n → ⊥) → n + 1 ≤ m
 lt-from-not m n h = omega arith
 
-too-many : (words : List (List ℕ)) (r : Result (List (List ℕ)) WordFault) → 257 ≤ length words → (if nat_lt 256 (length words) then Err TooManyWords else r) ≡ Err TooManyWords
+too-many : (words : List (List ℕ)) (r : Result (List (List ℕ)) WordFault) → 257 ≤ length words
+    → (if nat_lt 256 (length words) then Err TooManyWords else r) ≡ Err TooManyWords
 too-many words r many = grind (arith, nat_tests)
 
-few : (words : List (List ℕ)) (r : Result (List (List ℕ)) WordFault) → length words ≤ 256 → (if nat_lt 256 (length words) then Err TooManyWords else r) ≡ r
+few : (words : List (List ℕ)) (r : Result (List (List ℕ)) WordFault) → length words ≤ 256
+    → (if nat_lt 256 (length words) then Err TooManyWords else r) ≡ r
 few words r room = grind (arith, nat_tests)
 
-judged-many : (done : List (List ℕ)) (value : List ℕ) (reading : TextItems LineEnd) → 256 ≤ length done → judged done None (longer_items (Some value) reading) ≡ Err TooManyWords
-unfolding judged
-judged-many done value reading many =
+words_with-many : (done : List (List ℕ)) (value : List ℕ) (reading : TextItems LineEnd)
+    → 256 ≤ length done
+    → words_with done None (longer_items (Some value) reading) ≡ Err TooManyWords
+unfolding words_with
+words_with-many done value reading many =
     let one = runs-after-some value (reading.items ++ item_at_end reading.ending) in
-    too-many (done ++ runs_after (Some value) (reading.items ++ item_at_end reading.ending)) _ (simp length-append (omega arith))
+    too-many (done ++ runs_after (Some value) (reading.items ++ item_at_end reading.ending)) _
+    (simp length-append (omega arith))
 
-judged-many-wrong : (done : List (List ℕ)) (fault : WordFault) → 256 ≤ length done → judged done None (no_items (WrongItem fault)) ≡ Err TooManyWords
-unfolding judged
-judged-many-wrong done fault many = too-many (done ++ [] ∷ []) _ (simp length-append (omega arith))
+words_with-many-wrong : (done : List (List ℕ)) (fault : WordFault) → 256 ≤ length done
+    → words_with done None (no_items (WrongItem fault)) ≡ Err TooManyWords
+unfolding words_with
+words_with-many-wrong done fault many =
+    too-many (done ++ [] ∷ []) _ (simp length-append (omega arith))
 
-judged-wrong : (done : List (List ℕ)) (word : Option (List ℕ)) (fault : WordFault) → length (done ++ option_to_list word) ≤ 256 → ((word ≡ None) × (256 ≤ length done) → ⊥) → judged done word (no_items (WrongItem fault)) ≡ Err fault
-unfolding judged
-judged-wrong done None fault old room = few (done ++ [] ∷ []) _ (simp length-append (lt-from-not 256 (length done) (λ h. room (refl, h))))
-judged-wrong done (Some word) fault old room = rw (append-nil word) (few (done ++ word ∷ []) _ old)
+words_with-wrong : (done : List (List ℕ)) (word : Option (List ℕ)) (fault : WordFault)
+    → length (done ++ option_to_list word) ≤ 256 → ((word ≡ None) × (256 ≤ length done) → ⊥)
+    → words_with done word (no_items (WrongItem fault)) ≡ Err fault
+unfolding words_with
+words_with-wrong done None fault old room =
+    few (done ++ [] ∷ []) _
+    (simp length-append (lt-from-not 256 (length done) (λ h. room (refl, h))))
+words_with-wrong done (Some word) fault old room = rw (append-nil word)
+    (few (done ++ word ∷ []) _ old)
 
-judged-open : (done : List (List ℕ)) (word : Option (List ℕ)) → length (done ++ option_to_list word) ≤ 256 → judged done word (no_items EndInside) ≡ Err OpenQuote
-unfolding judged
-judged-open done None room = few (done ++ []) _ room
-judged-open done (Some word) room = few (done ++ word ∷ []) _ room
+words_with-open : (done : List (List ℕ)) (word : Option (List ℕ))
+    → length (done ++ option_to_list word) ≤ 256
+    → words_with done word (no_items EndInside) ≡ Err OpenQuote
+unfolding words_with
+words_with-open done None room = few (done ++ []) _ room
+words_with-open done (Some word) room = few (done ++ word ∷ []) _ room
 
-judged-result_at_end : (done : List (List ℕ)) (word : Option (List ℕ)) → length (done ++ option_to_list word) ≤ 256 → judged done word (no_items EndOutside) ≡ Ok (done ++ option_to_list word)
-unfolding judged
-judged-result_at_end done None room = few (done ++ []) _ room
-judged-result_at_end done (Some word) room = few (done ++ word ∷ []) _ room
+words_with-result_at_end : (done : List (List ℕ)) (word : Option (List ℕ))
+    → length (done ++ option_to_list word) ≤ 256
+    → words_with done word (no_items EndOutside) ≡ Ok (done ++ option_to_list word)
+unfolding words_with
+words_with-result_at_end done None room = few (done ++ []) _ room
+words_with-result_at_end done (Some word) room = few (done ++ word ∷ []) _ room
 
--- what is known between two items: there is room for the word under way, and what is left gives the words of the line
-pub record Goes (env : Env) (line rest : List ℕ) (state : QuoteState) (done : List (List ℕ)) (word : Option (List ℕ)) : Type 0 where
+-- what is known between two items: there is room for the word under way, and what is left gives the
+-- words of the line
+pub record KeepsWords (env : Env) (line rest : List ℕ) (state : QuoteState) (done : List (List ℕ))
+    (word : Option (List ℕ)) : Type 0 where
   pub room : length (done ++ option_to_list word) ≤ 256
-  pub same : judged done word (text_items (word_item env) line_end rest state 0) ≡ words_of env line
+  pub same : words_with done word
+      (text_items (word_item env) line_end rest state 0) ≡ words_of env line
 
-pub goes_start : (env : Env) (line : List ℕ) → Goes env line line Outside [] None
+pub words_start : (env : Env) (line : List ℕ) → KeepsWords env line line Outside [] None
 unfolding words_of
-goes_start env line = record { room = omega arith; same = judged-all (line_items env line) }
+words_start env line = record { room = omega arith; same = words_with-all (line_items env line) }
 
-pub goes_gap : (env : Env) (line rest : List ℕ) (state : QuoteState) (done : List (List ℕ)) (word : Option (List ℕ)) (b : ℕ) (bs : List ℕ) (n : ℕ) → Goes env line rest state done word → rest ≡ b ∷ bs → Gap n ≡ word_item env state b bs → Goes env line (drop n bs) state (done ++ option_to_list word) None
-goes_gap env line rest state done word b bs n goes first item = record {
-  room = rw (append-nil (done ++ option_to_list word)) goes.room;
-  same = sym (judged-gap done word _)
-      ∙ ap (judged done word) (sym (text_items-gap (word_item env) line_end b bs state n (sym item)))
-      ∙ ap (λ (r : List ℕ). judged done word (text_items (word_item env) line_end r state 0)) (sym first)
-      ∙ goes.same;
+pub words_gap : (env : Env) (line rest : List ℕ) (state : QuoteState) (done : List (List ℕ))
+    (word : Option (List ℕ)) (b : ℕ) (bs : List ℕ) (n : ℕ)
+    → KeepsWords env line rest state done word → rest ≡ b ∷ bs → Gap n ≡ word_item env state b bs
+    → KeepsWords env line (drop n bs) state (done ++ option_to_list word) None
+words_gap env line rest state done word b bs n keeps first item = record {
+  room = rw (append-nil (done ++ option_to_list word)) keeps.room;
+  same = sym (words_with-gap done word _)
+      ∙ ap (words_with done word)
+      (sym (text_items-gap (word_item env) line_end b bs state n (sym item)))
+      ∙ ap (λ (r : List ℕ). words_with done word (text_items (word_item env) line_end r state 0))
+      (sym first)
+      ∙ keeps.same;
 }
 
-part-room : (done : List (List ℕ)) (word : Option (List ℕ)) (longer : List ℕ) → length (done ++ option_to_list word) ≤ 256 → ((word ≡ None) × (256 ≤ length done) → ⊥) → length (done ++ longer ∷ []) ≤ 256
-part-room done None longer old room = simp length-append (lt-from-not 256 (length done) (λ h. room (refl, h)))
-part-room done (Some word) longer old room = let e = simp length-append at old in simp length-append e
+part-room : (done : List (List ℕ)) (word : Option (List ℕ)) (longer : List ℕ)
+    → length (done ++ option_to_list word) ≤ 256 → ((word ≡ None) × (256 ≤ length done) → ⊥)
+    → length (done ++ longer ∷ []) ≤ 256
+part-room done None longer old room =
+    simp length-append (lt-from-not 256 (length done) (λ h. room (refl, h)))
+part-room done (Some word) longer old room = let e = simp length-append at old in
+    simp length-append e
 
-pub goes_part : (env : Env) (line rest : List ℕ) (state : QuoteState) (done : List (List ℕ)) (word : Option (List ℕ)) (b : ℕ) (bs : List ℕ) (n : ℕ) (value : List ℕ) (after : QuoteState) → Goes env line rest state done word → rest ≡ b ∷ bs → Part n value after ≡ word_item env state b bs → ((word ≡ None) × (256 ≤ length done) → ⊥) → Goes env line (drop n bs) after done (Some (unwrap_or word [] ++ value))
-goes_part env line rest state done word b bs n value after goes first item room = record {
-  room = part-room done word _ goes.room room;
-  same = sym (judged-part done word value _)
-      ∙ ap (judged done word) (sym (text_items-part (word_item env) line_end b bs state n value after (sym item)))
-      ∙ ap (λ (r : List ℕ). judged done word (text_items (word_item env) line_end r state 0)) (sym first)
-      ∙ goes.same;
+pub words_part : (env : Env) (line rest : List ℕ) (state : QuoteState) (done : List (List ℕ))
+    (word : Option (List ℕ)) (b : ℕ) (bs : List ℕ) (n : ℕ) (value : List ℕ) (after : QuoteState)
+    → KeepsWords env line rest state done word → rest ≡ b ∷ bs
+    → Part n value after ≡ word_item env state b bs → ((word ≡ None) × (256 ≤ length done) → ⊥)
+    → KeepsWords env line (drop n bs) after done (Some (unwrap_or word [] ++ value))
+words_part env line rest state done word b bs n value after keeps first item room = record {
+  room = part-room done word _ keeps.room room;
+  same = sym (words_with-part done word value _)
+      ∙ ap (words_with done word)
+      (sym (text_items-part (word_item env) line_end b bs state n value after (sym item)))
+      ∙ ap (λ (r : List ℕ). words_with done word (text_items (word_item env) line_end r state 0))
+      (sym first)
+      ∙ keeps.same;
 }
 
 -- a word too many begins at a part
-pub ends_many : (env : Env) (line rest : List ℕ) (state : QuoteState) (done : List (List ℕ)) (word : Option (List ℕ)) (b : ℕ) (bs : List ℕ) (n : ℕ) (value : List ℕ) (after : QuoteState) → Goes env line rest state done word → rest ≡ b ∷ bs → Part n value after ≡ word_item env state b bs → word ≡ None → 256 ≤ length done → words_of env line ≡ Err TooManyWords
-ends_many env line rest state done word b bs n value after goes first item none many =
-    sym goes.same
-    ∙ ap (λ (r : List ℕ). judged done word (text_items (word_item env) line_end r state 0)) first
-    ∙ ap (judged done word) (text_items-part (word_item env) line_end b bs state n value after (sym item))
-    ∙ ap (λ (w : Option (List ℕ)). judged done w (longer_items (Some value) (text_items (word_item env) line_end (drop n bs) after 0))) none
-    ∙ judged-many done value (text_items (word_item env) line_end (drop n bs) after 0) many
+pub ends_many : (env : Env) (line rest : List ℕ) (state : QuoteState) (done : List (List ℕ))
+    (word : Option (List ℕ)) (b : ℕ) (bs : List ℕ) (n : ℕ) (value : List ℕ) (after : QuoteState)
+    → KeepsWords env line rest state done word → rest ≡ b ∷ bs
+    → Part n value after ≡ word_item env state b bs → word ≡ None → 256 ≤ length done
+    → words_of env line ≡ Err TooManyWords
+ends_many env line rest state done word b bs n value after keeps first item none many =
+    sym keeps.same
+    ∙ ap (λ (r : List ℕ). words_with done word
+    (text_items (word_item env) line_end r state 0)) first
+    ∙ ap (words_with done word)
+    (text_items-part (word_item env) line_end b bs state n value after (sym item))
+    ∙ ap (λ (w : Option (List ℕ)). words_with done w
+    (longer_items (Some value) (text_items (word_item env) line_end (drop n bs) after 0))) none
+    ∙ words_with-many done value (text_items (word_item env) line_end (drop n bs) after 0) many
 
 -- a word too many begins where no item does
-pub ends_many_wrong : (env : Env) (line rest : List ℕ) (state : QuoteState) (done : List (List ℕ)) (word : Option (List ℕ)) (b : ℕ) (bs : List ℕ) (fault : WordFault) → Goes env line rest state done word → rest ≡ b ∷ bs → NoItem (WrongItem fault) ≡ word_item env state b bs → word ≡ None → 256 ≤ length done → words_of env line ≡ Err TooManyWords
-ends_many_wrong env line rest state done word b bs fault goes first item none many =
-    sym goes.same
-    ∙ ap (λ (r : List ℕ). judged done word (text_items (word_item env) line_end r state 0)) first
-    ∙ ap (judged done word) (text_items-no_items (word_item env) line_end b bs state (WrongItem fault) (sym item))
-    ∙ ap (λ (w : Option (List ℕ)). judged done w (no_items (WrongItem fault))) none
-    ∙ judged-many-wrong done fault many
+pub ends_many_wrong : (env : Env) (line rest : List ℕ) (state : QuoteState) (done : List (List ℕ))
+    (word : Option (List ℕ)) (b : ℕ) (bs : List ℕ) (fault : WordFault)
+    → KeepsWords env line rest state done word → rest ≡ b ∷ bs
+    → NoItem (WrongItem fault) ≡ word_item env state b bs → word ≡ None → 256 ≤ length done
+    → words_of env line ≡ Err TooManyWords
+ends_many_wrong env line rest state done word b bs fault keeps first item none many =
+    sym keeps.same
+    ∙ ap (λ (r : List ℕ). words_with done word
+    (text_items (word_item env) line_end r state 0)) first
+    ∙ ap (words_with done word)
+    (text_items-no_items (word_item env) line_end b bs state (WrongItem fault) (sym item))
+    ∙ ap (λ (w : Option (List ℕ)). words_with done w (no_items (WrongItem fault))) none
+    ∙ words_with-many-wrong done fault many
 
 -- no item begins here, and no word too many
-pub ends_wrong : (env : Env) (line rest : List ℕ) (state : QuoteState) (done : List (List ℕ)) (word : Option (List ℕ)) (b : ℕ) (bs : List ℕ) (fault : WordFault) → Goes env line rest state done word → rest ≡ b ∷ bs → NoItem (WrongItem fault) ≡ word_item env state b bs → ((word ≡ None) × (256 ≤ length done) → ⊥) → words_of env line ≡ Err fault
-ends_wrong env line rest state done word b bs fault goes first item room =
-    sym goes.same
-    ∙ ap (λ (r : List ℕ). judged done word (text_items (word_item env) line_end r state 0)) first
-    ∙ ap (judged done word) (text_items-no_items (word_item env) line_end b bs state (WrongItem fault) (sym item))
-    ∙ judged-wrong done word fault goes.room room
+pub ends_wrong : (env : Env) (line rest : List ℕ) (state : QuoteState) (done : List (List ℕ))
+    (word : Option (List ℕ)) (b : ℕ) (bs : List ℕ) (fault : WordFault)
+    → KeepsWords env line rest state done word → rest ≡ b ∷ bs
+    → NoItem (WrongItem fault) ≡ word_item env state b bs
+    → ((word ≡ None) × (256 ≤ length done) → ⊥) → words_of env line ≡ Err fault
+ends_wrong env line rest state done word b bs fault keeps first item room =
+    sym keeps.same
+    ∙ ap (λ (r : List ℕ). words_with done word
+    (text_items (word_item env) line_end r state 0)) first
+    ∙ ap (words_with done word)
+    (text_items-no_items (word_item env) line_end b bs state (WrongItem fault) (sym item))
+    ∙ words_with-wrong done word fault keeps.room room
 
 -- the line ends inside a quote
-pub ends_open : (env : Env) (line rest : List ℕ) (state : QuoteState) (done : List (List ℕ)) (word : Option (List ℕ)) → Goes env line rest state done word → rest ≡ [] → line_end state ≡ EndInside → words_of env line ≡ Err OpenQuote
-ends_open env line rest state done word goes first quoted =
-    sym goes.same
-    ∙ ap (λ (r : List ℕ). judged done word (text_items (word_item env) line_end r state 0)) first
-    ∙ ap (judged done word) (text_items-end (word_item env) line_end state)
-    ∙ ap (λ (e : LineEnd). judged done word (no_items e)) quoted
-    ∙ judged-open done word goes.room
+pub ends_open : (env : Env) (line rest : List ℕ) (state : QuoteState) (done : List (List ℕ))
+    (word : Option (List ℕ)) → KeepsWords env line rest state done word → rest ≡ []
+    → line_end state ≡ EndInside → words_of env line ≡ Err OpenQuote
+ends_open env line rest state done word keeps first quoted =
+    sym keeps.same
+    ∙ ap (λ (r : List ℕ). words_with done word
+    (text_items (word_item env) line_end r state 0)) first
+    ∙ ap (words_with done word) (text_items-end (word_item env) line_end state)
+    ∙ ap (λ (e : LineEnd). words_with done word (no_items e)) quoted
+    ∙ words_with-open done word keeps.room
 
 -- the line ends outside quotes
-pub ends_well : (env : Env) (line rest : List ℕ) (state : QuoteState) (done : List (List ℕ)) (word : Option (List ℕ)) → Goes env line rest state done word → rest ≡ [] → line_end state ≡ EndOutside → words_of env line ≡ Ok (done ++ option_to_list word)
-ends_well env line rest state done word goes first complete =
-    sym goes.same
-    ∙ ap (λ (r : List ℕ). judged done word (text_items (word_item env) line_end r state 0)) first
-    ∙ ap (judged done word) (text_items-end (word_item env) line_end state)
-    ∙ ap (λ (e : LineEnd). judged done word (no_items e)) complete
-    ∙ judged-result_at_end done word goes.room
+pub ends_well : (env : Env) (line rest : List ℕ) (state : QuoteState) (done : List (List ℕ))
+    (word : Option (List ℕ)) → KeepsWords env line rest state done word → rest ≡ []
+    → line_end state ≡ EndOutside → words_of env line ≡ Ok (done ++ option_to_list word)
+ends_well env line rest state done word keeps first complete =
+    sym keeps.same
+    ∙ ap (λ (r : List ℕ). words_with done word
+    (text_items (word_item env) line_end r state 0)) first
+    ∙ ap (words_with done word) (text_items-end (word_item env) line_end state)
+    ∙ ap (λ (e : LineEnd). words_with done word (no_items e)) complete
+    ∙ words_with-result_at_end done word keeps.room

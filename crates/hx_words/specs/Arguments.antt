@@ -1,6 +1,6 @@
--- The arguments of a call, between its parentheses. How they are quoted is this project's own: quotes
--- and backslashes as in the words of a line, and no variables. `argument_item` is the table; the
--- relation to read first is `SpellsArguments` of `Spelling`, and `arguments` the function.
+-- The arguments of a call, between its parentheses. How they are quoted is this project's own:
+-- quotes and backslashes as in the words of a line, and no variables. `argument_item` is the table;
+-- the relation to read first is `SpellsArguments` of `Spelling`, and `arguments` the function.
 use Rattle.std.specs.Prelude.{ℕ, ◌==◌, if◌then◌else◌, List, [], ◌∷◌, map, Option, is_none}
 use Rattle.std.specs.List.{slice_split}
 use Rattle.hx_base.specs.Bytes.{comma, backslash, single_quote, double_quote, close_parenthesis}

@@ -1,8 +1,8 @@
--- A text of calls: one or more calls with commas between, as `req.hdr(host),lower`. A call is a name,
--- or a name with arguments in parentheses. The text is read up to its end, or up to a stop byte outside
--- parentheses, which then has to be there. The relation between calls and their texts is `SpellsCalls`
--- of `Spelling`, to be read first; here the same stands as functions, with what is wrong with any
--- other text.
+-- A text of calls: one or more calls with commas between, as `req.hdr(host),lower`. A call is a
+-- name, or a name with arguments in parentheses. The text is read up to its end, or up to a stop
+-- byte outside parentheses, which then has to be there. The relation between calls and their texts
+-- is `SpellsCalls` of `Spelling`, to be read first; here the same stands as functions, with what is
+-- wrong with any other text.
 use Rattle.std.specs.Prelude.{ℕ, zero, suc, ◌-◌, Bool, not, ◌==◌, ◌&&◌, ◌||◌, if◌then◌else◌, List, [], ◌∷◌, length, take, drop, Option, Some, None, Result, Ok, Err}
 use Rattle.std.specs.List.{prefix_len}
 use Rattle.hx_base.specs.Bytes.{is_given, comma, open_parenthesis}
@@ -74,8 +74,8 @@ steps_within zero stop text = step_of stop text ∷ []
 steps_within (suc n) stop text =
     step_of stop text ∷ further_steps (λ rest. steps_within n stop rest) (step_of stop text)
 
--- the calls of a text, up to the first that is last or faulty: each takes a byte of the text at least,
--- so no more than its length follow the first
+-- the calls of a text, up to the first that is last or faulty: each takes a byte of the text at
+-- least, so no more than its length follow the first
 unfoldable pub steps_of : Option ℕ → List ℕ → List Step
 steps_of stop text = steps_within (length text) stop text
 
@@ -99,7 +99,7 @@ call_list text (Ok found) =
     Ok (record { calls = found.0; used = length text - length found.1 })
 call_list text (Err fault) = Err fault
 
--- the calls of a text, and how many bytes were read, the stop byte among them; or its fault: that of
--- the first call that has one
+-- the calls of a text, and how many bytes were read, the stop byte among them; or its fault: that
+-- of the first call that has one
 unfoldable pub calls_of : Option ℕ → List ℕ → Result CallList ArgFault
 calls_of stop text = call_list text (calls_of_steps (steps_of stop text))

@@ -1,6 +1,6 @@
--- Backslashes, as HAProxy's configuration manual 2.4, section 2.2, has them: the same in the words of
--- a line and in the arguments of a call. What becomes of pairs that the manual doesn't name is this
--- project's own choice.
+-- Backslashes, as HAProxy's configuration manual 2.4, section 2.2, has them: the same in the words
+-- of a line and in the arguments of a call. What becomes of pairs that the manual doesn't name is
+-- this project's own choice.
 use Rattle.std.specs.Prelude.{ℕ, ◌+◌, ◌*◌, Bool, ◌==◌, ◌||◌, if◌then◌else◌, List, [], ◌∷◌, Option, Some, None}
 use Rattle.std.specs.Char.{digit_value, is_digit}
 use Rattle.hx_base.specs.Bytes.{tab, line_feed, carriage_return, space, number_sign, backslash, single_quote, double_quote, letter_n, letter_r, letter_t, letter_x}

@@ -10,14 +10,14 @@ use Rattle.hx_words.specs.Arguments.{argument_item}
 use Rattle.hx_words.specs.CallForm.{CallForm, CallList}
 use Rattle.hx_words.specs.Calls.{ends_name}
 
--- A byte and those after it that belong to it, as a plain byte, a quote or an escape: what the table of
--- items takes for this part, whatever follows.
+-- A byte and those after it that belong to it, as a plain byte, a quote or an escape: what the
+-- table of items takes for this part, whatever follows.
 abbrev pub IsPart : QuoteState → ℕ → List ℕ → List ℕ → QuoteState → Type 0
 IsPart state b bs value after =
     (rest : List ℕ) → argument_item state b (bs ++ rest) ≡ Part (length bs) value after
 
--- One or more arguments with commas between, of which the first is under way in this state: its parts
--- follow one another, and their values make it up.
+-- One or more arguments with commas between, of which the first is under way in this state: its
+-- parts follow one another, and their values make it up.
 pub data SpellsArguments : QuoteState → List (List ℕ) → List ℕ → Type 0 where
   LastArgument : SpellsArguments Outside ([] ∷ []) []
   NextArgument : (args : List (List ℕ)) (text : List ℕ)
@@ -58,8 +58,8 @@ pub data SpellsCalls (stop : Option ℕ) : List CallForm → List ℕ → Type 0
       → SpellsCalls stop calls rest
       → SpellsCalls stop (call ∷ calls) (text ++ comma ∷ rest)
 
--- The text begins with these calls: a prefix of `used` bytes spells them. It is the whole text where
--- there is no stop byte.
+-- The text begins with these calls: a prefix of `used` bytes spells them. It is the whole text
+-- where there is no stop byte.
 pub record BeginsWithCalls (stop : Option ℕ) (text : List ℕ) (list : CallList) : Type 0 where
   pub prefix : List ℕ
   pub rest : List ℕ
@@ -68,7 +68,8 @@ pub record BeginsWithCalls (stop : Option ℕ) (text : List ℕ) (list : CallLis
   pub spelled : SpellsCalls stop list.calls prefix
   pub to_end : stop ≡ None → rest ≡ []
 
--- The text begins with this last call: the stop byte follows it, if there is one, and then the rest.
+-- The text begins with this last call: the stop byte follows it, if there is one, and then the
+-- rest.
 abbrev pub BeginsWithLast : Option ℕ → List ℕ → CallForm → List ℕ → Type 0
 BeginsWithLast stop text call rest =
     (prefix : List ℕ) × SpellsCall stop call prefix

@@ -1,7 +1,7 @@
--- How a text is cut into items, from its beginning on: parts, each with the bytes that it stands for,
--- and gaps between them. The words of a line and the arguments of a call are cut in this way, each by
--- a table of its own. The relation `AreTextItems`, at the end, is to be read first; `text_items` is
--- the one list that it allows, as a function.
+-- How a text is cut into items, from its beginning on: parts, each with the bytes that it stands
+-- for, and gaps between them. The words of a line and the arguments of a call are cut in this way,
+-- each by a table of its own. The relation `AreTextItems`, at the end, is to be read first;
+-- `text_items` is the one list that it allows, as a function.
 use Rattle.std.specs.Prelude.{◌≡◌, ℕ, zero, suc, ◌==◌, if◌then◌else◌, List, [], ◌∷◌, ◌++◌, length, Option, Some, None}
 use Rattle.hx_base.specs.Bytes.{single_quote}
 
@@ -62,9 +62,9 @@ text_items item close (b ∷ bs) state (suc skip) = text_items item close bs sta
 text_items item close (b ∷ bs) state zero =
     items_from (item state b bs) (λ after skip. text_items item close bs after skip) state
 
--- The relation between bytes and their items. `item` is the table of items: what begins with a byte,
--- with the bytes after it. `close` says how the reading ends where the bytes do. The bytes are those
--- of the first item, `b` and `bs`, and the rest.
+-- The relation between bytes and their items. `item` is the table of items: what begins with a
+-- byte, with the bytes after it. `close` says how the reading ends where the bytes do. The bytes
+-- are those of the first item, `b` and `bs`, and the rest.
 pub data AreTextItems {E : Type 0} (item : QuoteState → ℕ → List ℕ → TextItem E)
     (close : QuoteState → E) : QuoteState → List ℕ → TextItems E → Type 0 where
   NoBytes : (state : QuoteState) → AreTextItems item close state [] (no_items (close state))

@@ -18,8 +18,8 @@ env_value env name = unwrap_or (value_at env name) []
 abbrev pub is_name_byte : ℕ → Bool
 is_name_byte c = is_ascii_alphanumeric c || c == underscore
 
--- how long the name is that these bytes begin with: as long as possible, and 0 where they begin with
--- none, as with a digit
+-- how long the name is that these bytes begin with: as long as possible, and 0 where they begin
+-- with none, as with a digit
 abbrev pub variable_name_length : List ℕ → ℕ
 variable_name_length [] = 0
 variable_name_length (c ∷ cs) =

@@ -1,6 +1,6 @@
--- The words of a configuration line (HAProxy's configuration manual 2.4, section 2.2; what the manual
--- leaves open of backslash pairs and of `$` is fixed here). `ReadsLine` and `runs` are to be read
--- first, and `words_of` then.
+-- The words of a configuration line (HAProxy's configuration manual 2.4, section 2.2; what the
+-- manual leaves open of backslash pairs and of `$` is fixed here). `ReadsLine` and `runs` are to be
+-- read first, and `words_of` then.
 use Rattle.std.specs.Prelude.{ℕ, Bool, true, false, nat_lt, ◌==◌, if◌then◌else◌, List, [], ◌∷◌, ◌++◌, map, filter, flat_map, length, Option, Some, is_none, unwrap_or, Result, Ok, Err}
 use Rattle.std.specs.List.{slice_split}
 use Rattle.hx_base.specs.Bytes.{is_blank, number_sign, backslash, single_quote, double_quote, dollar_sign}
@@ -90,9 +90,9 @@ result_at_end EndOutside words = Ok words
 result_at_end EndInside words = Err OpenQuote
 result_at_end (WrongItem fault) words = Err fault
 
--- The words of a line, or its fault.
--- A line is read up to the first byte that begins no item. Where more than 256 words begin up to
--- there, that byte included, word 257 is what is wrong first; otherwise the end of the reading decides.
+-- The words of a line, or its fault. A line is read up to the first byte that begins no item. Where
+-- more than 256 words begin up to there, that byte included, word 257 is what is wrong first;
+-- otherwise the end of the reading decides.
 unfoldable pub words_of : Env → List ℕ → Result (List (List ℕ)) WordFault
 words_of env line =
     let items = line_items env line in

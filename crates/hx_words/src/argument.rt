@@ -28,7 +28,7 @@ pub(crate) struct Arguments<'a> {
 }
 
 /// Reads what follows `(`.
-#[tactic(auto, using(crate::proofs::ArgumentLemmas::takes_start, crate::proofs::ArgumentLemmas::takes_comma, crate::proofs::ArgumentLemmas::takes_part, crate::proofs::ArgumentLemmas::ends_args, crate::proofs::ArgumentLemmas::ends_as, crate::proofs::ArgumentLemmas::ends_open, crate::proofs::StepLemmas::closed_shorter))]
+#[tactic(auto, using(crate::proofs::ArgumentLemmas::arguments_start, crate::proofs::ArgumentLemmas::arguments_comma, crate::proofs::ArgumentLemmas::arguments_part, crate::proofs::ArgumentLemmas::ends_args, crate::proofs::ArgumentLemmas::ends_as, crate::proofs::ArgumentLemmas::ends_open, crate::proofs::StepLemmas::closed_shorter))]
 pub(crate) fn read_arguments(alloc: Global, text: &[u8]) -> Result<Arguments<'_>, ArgFault>
     ensures end { IfOk result
         (λ read. (argument_items text.now).ending ≡ AtParenthesis read.rest.now) }
@@ -68,7 +68,8 @@ pub(crate) fn read_arguments(alloc: Global, text: &[u8]) -> Result<Arguments<'_>
 /// The item that begins with `byte`, where the bytes of `after` follow it.
 #[tactic(auto, unfolding(crate::specs::Arguments::argument_item))]
 fn argument_at<'a>(mode: Mode, byte: u8, after: &[u8]) -> ArgToken<'a>
-    ensures item { argument_item_of after.now result ≡ argument_item (state_of mode) byte after.now }
+    ensures item { argument_item_of after.now result
+        ≡ argument_item (state_of mode) byte after.now }
     ensures within { following_count (argument_item_of after.now result) ≤ length after.now }
 {
     match mode {

@@ -14,7 +14,7 @@ use std::alloc::Global;
 ///
 /// Another text is refused for the first call, from the left, with which something is wrong, by the
 /// fault that `next_call` gives for it. `NoMemory` says nothing of the text.
-#[tactic(auto, using(crate::proofs::CallLemmas::continues_start, crate::proofs::CallLemmas::continues_more, crate::proofs::CallLemmas::calls_last, crate::proofs::CallLemmas::last_within, crate::proofs::CallLemmas::calls_faulty))]
+#[tactic(auto, using(crate::proofs::CallLemmas::calls_start, crate::proofs::CallLemmas::calls_more, crate::proofs::CallLemmas::calls_last, crate::proofs::CallLemmas::last_within, crate::proofs::CallLemmas::calls_faulty))]
 pub fn calls(alloc: Global, text: &[u8], stop: Option<u8>) -> Result<Calls, ArgFault>
     ensures calls { IfOk result (λ calls. calls_of stop text.now ≡ Ok calls) }
     ensures within { IfOk result (λ calls. calls.used ≤ length text.now) }

@@ -26,7 +26,8 @@ pub enum WordFault {
 }
 
 impl WordFault {
-    /// The number of a line's fault, from 1 to 4. Out of memory is no fault of a line, and has none.
+    /// The number of a line's fault, from 1 to 4. Out of memory is no fault of a line, and has
+    /// none.
     pub fn code(self) -> Option<u8>
         ensures { result ≡ word_fault_code self }
     {

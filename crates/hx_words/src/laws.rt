@@ -14,10 +14,11 @@ use crate::fault::{ArgFault, WordFault};
 
 /// What the words of a line are, as facts on its items.
 ///
-/// A line is cut into items in one way. Its words are the maximal runs of items that are no gap, each
-/// with the values of its items one after the other. Where more than 256 words begin in the part of
-/// the line that is read, there are too many; any other line comes to what the end of its reading says.
-#[tactic(auto, using(crate::proofs::LineLemmas::reads_line, crate::proofs::LineLemmas::reads_once, crate::proofs::LineLemmas::words_are_runs, crate::proofs::LineLemmas::ends_too_many, crate::proofs::LineLemmas::ends_by_reading, crate::proofs::LineLemmas::no_want_of_memory))]
+/// A line is cut into items in one way. Its words are the maximal runs of items that are no gap,
+/// each with the values of its items one after the other. Where more than 256 words begin in the
+/// part of the line that is read, there are too many; any other line comes to what the end of its
+/// reading says.
+#[tactic(auto, using(crate::proofs::LineLemmas::reads_line, crate::proofs::LineLemmas::reads_once, crate::proofs::LineLemmas::words_are_runs, crate::proofs::LineLemmas::ends_too_many, crate::proofs::LineLemmas::ends_by_reading, crate::proofs::LineLemmas::words_never_out_of_memory))]
 pub fn line_law(env: &[(Vec<u8>, Vec<u8>)], line: &[u8])
     ensures items { ReadsLine (pairs_of env.now) line.now (line_items (pairs_of env.now) line.now) }
     ensures only { (items : TextItems LineEnd) → ReadsLine (pairs_of env.now) line.now items
@@ -36,11 +37,11 @@ pub fn line_law(env: &[(Vec<u8>, Vec<u8>)], line: &[u8])
 
 /// What the calls of a text are: those that spell it.
 ///
-/// A text has these calls, of which so many bytes were read, exactly where a prefix of that length is
-/// spelled by them (`SpellsCalls`). So one text has one list of calls, and a text that is refused
-/// begins with none. The same holds of the first call of a text. After a comma the rest is read as a
-/// text of its own.
-#[tactic(auto, using(crate::proofs::StepLemmas::steps_repeat, crate::proofs::CallLemmas::step_has_memory, crate::proofs::CallLemmas::calls_have_memory))]
+/// A text has these calls, of which so many bytes were read, exactly where a prefix of that length
+/// is spelled by them (`SpellsCalls`). So one text has one list of calls, and a text that is
+/// refused begins with none. The same holds of the first call of a text. After a comma the rest is
+/// read as a text of its own.
+#[tactic(auto, using(crate::proofs::StepLemmas::steps_repeat, crate::proofs::CallLemmas::step_never_out_of_memory, crate::proofs::CallLemmas::calls_never_out_of_memory))]
 pub fn call_law(text: &[u8], stop: Option<u8>)
     ensures calls { (list : CallList) → calls_of stop text.now ≡ Ok list
         ↔ BeginsWithCalls stop text.now list }

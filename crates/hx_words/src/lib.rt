@@ -1,7 +1,17 @@
-//! The words of a configuration line, and the calls that a word spells.
+//! The words of a line of configuration, and the calls that a word spells.
 //!
-//! `split` cuts a line into words by the rules of the HAProxy 2.4 configuration manual, section 2.2.
-//! `calls` reads a text of calls, as `req.hdr(host),lower`, whose arguments have a quoting of their own.
+//! ```
+//! let words = split(alloc, &env, b"http-request deny if { req.hdr(host),lower -m sub example }")?;
+//! let spelled = words.word(4).unwrap_or(b"");
+//! let calls = calls(alloc, spelled, None)?;
+//! let host = calls.call(0).and_then(|call| call.arg(0));
+//! ```
+//!
+//! `split` cuts a line into words (HAProxy configuration manual 2.4, section 2.2). `calls` reads
+//! the calls in a text, each a name with arguments in parentheses (sections 7.1 and 7.3);
+//! `next_call` reads the first alone. How arguments are quoted is this project's own.
+//!
+//! `laws` has what pins the definitions: `line_law` for words, `call_law` for calls.
 #![tactic(auto)]
 
 mod argument;

@@ -8,8 +8,8 @@ use std::alloc::Global;
 /// The most words that a line may have.
 const MOST_WORDS: usize = 256;
 
-/// The words of a line, or the arguments of a call, so far: those that have ended, and the one under
-/// way.
+/// The words of a line, or the arguments of a call, so far: those that have ended, and the one
+/// under way.
 #[derive(Drop)]
 pub(crate) struct PartsSoFar {
     done: Vec<Octets>,

@@ -11,12 +11,12 @@ use std::alloc::Global;
 
 /// The words of a line of configuration (HAProxy configuration manual 2.4, section 2.2).
 ///
-/// `line` comes without its line feed. `env` has the environment as pairs of a name and a value, and
-/// the first pair of a name counts.
+/// `line` comes without its line feed. `env` has the environment as pairs of a name and a value,
+/// and the first pair of a name counts.
 ///
-/// Blanks (space, tab) outside quotes separate words, and `#` outside quotes begins a comment. In double
-/// quotes `$NAME` and `${NAME}` stand for the value of a variable, which is empty where `env` doesn't
-/// have it.
+/// Blanks (space, tab) outside quotes separate words, and `#` outside quotes begins a comment. In
+/// double quotes `$NAME` and `${NAME}` stand for the value of a variable, which is empty where
+/// `env` doesn't have it.
 ///
 /// The line is refused for what is wrong first from the left:
 /// - `TooManyWords`: a 257th word begins; also where something else is wrong at the very same byte;
@@ -25,7 +25,7 @@ use std::alloc::Global;
 /// - `OpenQuote`: the line ends inside a quote.
 ///
 /// `NoMemory` says nothing of the line.
-#[tactic(auto, using(crate::proofs::WordLemmas::goes_start, crate::proofs::WordLemmas::goes_gap, crate::proofs::WordLemmas::goes_part, crate::proofs::WordLemmas::ends_many, crate::proofs::WordLemmas::ends_many_wrong, crate::proofs::WordLemmas::ends_wrong, crate::proofs::WordLemmas::ends_open, crate::proofs::WordLemmas::ends_well))]
+#[tactic(auto, using(crate::proofs::WordLemmas::words_start, crate::proofs::WordLemmas::words_gap, crate::proofs::WordLemmas::words_part, crate::proofs::WordLemmas::ends_many, crate::proofs::WordLemmas::ends_many_wrong, crate::proofs::WordLemmas::ends_wrong, crate::proofs::WordLemmas::ends_open, crate::proofs::WordLemmas::ends_well))]
 pub fn split(alloc: Global, env: &[(Vec<u8>, Vec<u8>)], line: &[u8]) -> Result<Words, WordFault>
     ensures words { IfOk result (λ words. words_of (pairs_of env.now) line.now ≡ Ok words) }
     ensures fault { IfErr result

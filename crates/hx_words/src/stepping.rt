@@ -14,13 +14,13 @@ use std::alloc::Global;
 /// The first call of a text of calls, for a caller that judges each call before the next is read:
 /// `calls` does this again after each comma.
 ///
-/// The name, which may be empty, ends before `(`, a comma, the stop byte or the text's end. `(` opens
-/// arguments with commas between, up to `)`; `()` has none. They are quoted as the words of a line are
-/// (HAProxy configuration manual 2.4, section 2.2), without variables. A comma, the stop byte or, where
-/// there is no stop byte, the text's end has to follow the call.
+/// The name, which may be empty, ends before `(`, a comma, the stop byte or the text's end. `(`
+/// opens arguments with commas between, up to `)`; `()` has none. They are quoted as the words of a
+/// line are (HAProxy configuration manual 2.4, section 2.2), without variables. A comma, the stop
+/// byte or, where there is no stop byte, the text's end has to follow the call.
 ///
-/// What is wrong after the name is answered together with the name, so that the caller may judge the
-/// name first. It is the first of these from the left, and never `NoMemory`:
+/// What is wrong after the name is answered together with the name, so that the caller may judge
+/// the name first. It is the first of these from the left, and never `NoMemory`:
 /// - `BadEscape`: `\x` without two hex digits in an argument, outside single quotes;
 /// - `OpenQuote`: the text ends inside a quote;
 /// - `Unclosed`: the text ends, not inside a quote, before `)` or before the stop byte;
