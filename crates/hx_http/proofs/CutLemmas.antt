@@ -19,7 +19,8 @@ module _ (byte : ℕ) where
   IsCutOf text None = list_any (λ b. b == byte) text ≡ false
   IsCutOf text (Some p) = IsCut byte text p.0 p.1
 
-  IsCutOf-more : (b : ℕ) (text : List ℕ) (is : Bool) (cut : Option (List ℕ × List ℕ)) → (b == byte) ≡ is → IsCutOf text cut
+  IsCutOf-more : (b : ℕ) (text : List ℕ) (is : Bool) (cut : Option (List ℕ × List ℕ))
+      → (b == byte) ≡ is → IsCutOf text cut
       → IsCutOf (b ∷ text) (if is then Some ([], text) else option_map (λ p. (b ∷ p.0, p.1)) cut)
   IsCutOf-more b text true cut is rest =
       record { whole = ap (λ (x : ℕ). x ∷ text) (eqb-true b byte is); first = refl }
@@ -29,12 +30,15 @@ module _ (byte : ℕ) where
 
   IsCutOf-cut_of : (text : List ℕ) → IsCutOf text (cut_of byte text)
   IsCutOf-cut_of [] = refl
-  IsCutOf-cut_of (b ∷ text) = IsCutOf-more b text (b == byte) (cut_of byte text) refl (IsCutOf-cut_of text)
+  IsCutOf-cut_of (b ∷ text) =
+      IsCutOf-more b text (b == byte) (cut_of byte text) refl (IsCutOf-cut_of text)
 
-  pub IsCut-cut_of : (text before after : List ℕ) → cut_of byte text ≡ Some (before, after) → IsCut byte text before after
+  pub IsCut-cut_of : (text before after : List ℕ) → cut_of byte text ≡ Some (before, after)
+      → IsCut byte text before after
   IsCut-cut_of text before after is = rw is at (IsCutOf-cut_of text)
 
-  pub lacks-cut_of : (text : List ℕ) → cut_of byte text ≡ None → list_any (λ b. b == byte) text ≡ false
+  pub lacks-cut_of : (text : List ℕ) → cut_of byte text ≡ None
+      → list_any (λ b. b == byte) text ≡ false
   lacks-cut_of text is = rw is at (IsCutOf-cut_of text)
 
   pub cut_of-first : (before after : List ℕ) → list_any (λ b. b == byte) before ≡ false
@@ -44,7 +48,8 @@ module _ (byte : ℕ) where
       let parts = neither (b == byte) (list_any (λ x. x == byte) before) first in
       rw (parts.0, cut_of-first before after parts.1) refl
 
-  pub cut_of-lacking : (text : List ℕ) → list_any (λ b. b == byte) text ≡ false → cut_of byte text ≡ None
+  pub cut_of-lacking : (text : List ℕ) → list_any (λ b. b == byte) text ≡ false
+      → cut_of byte text ≡ None
   cut_of-lacking [] first = refl
   cut_of-lacking (b ∷ text) first =
       let parts = neither (b == byte) (list_any (λ x. x == byte) text) first in

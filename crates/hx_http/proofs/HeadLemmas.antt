@@ -17,7 +17,8 @@ use Rattle.hx_http.proofs.ReadBackLemmas.{read_back}
 -- ---- the tests say what the grammar says
 
 token_passes : (bytes : List ℕ) → IsToken bytes → is_token bytes ≡ true
-token_passes bytes ok = and_from _ _ (lt-ltb _ _ ok.0) (list_all-from_AllPass is_token_byte bytes ok.1)
+token_passes bytes ok =
+    and_from _ _ (lt-ltb _ _ ok.0) (list_all-from_AllPass is_token_byte bytes ok.1)
 
 token_is : (bytes : List ℕ) → is_token bytes ≡ true → IsToken bytes
 token_is bytes passes =
@@ -29,7 +30,8 @@ fields_pass [] ok = refl
 fields_pass (f ∷ fs) ok =
     let here = All-head IsField f fs ok in
     and_from (is_field f) (list_all is_field fs)
-    (and_from (is_token f.name) (list_all is_value_byte f.raw) (token_passes f.name here.name) (list_all-from_AllPass is_value_byte f.raw here.raw))
+    (and_from (is_token f.name) (list_all is_value_byte f.raw) (token_passes f.name here.name)
+    (list_all-from_AllPass is_value_byte f.raw here.raw))
     (fields_pass fs (All-tail IsField f fs ok))
 
 fields_are : (fs : List Field) → list_all is_field fs ≡ true → All IsField fs
@@ -65,22 +67,29 @@ head_is_one h passes =
       fields = fields_are h.fields with_fields.1;
     }
 
-begins_where_reads : (bytes : List ℕ) (h : RequestHead) (rest : List ℕ) → ReadsRequest bytes h rest → begins_with_head bytes h ≡ true
+begins_where_reads : (bytes : List ℕ) (h : RequestHead) (rest : List ℕ) → ReadsRequest bytes h rest
+    → begins_with_head bytes h ≡ true
 begins_where_reads bytes h rest reads =
     let n = length (print_request h) in
     let prefix = ap (λ (xs : List ℕ). take n xs) reads.1 ∙ take_at (print_request h) rest n refl in
-    and_from (is_request_head h) _ (head_passes h reads.0) ((bytes_eq-Decides (take n bytes) (print_request h)).1 prefix)
+    and_from (is_request_head h) _ (head_passes h reads.0) ((bytes_eq-Decides (take n bytes)
+    (print_request h)).1 prefix)
 
-reads_where_begins : (bytes : List ℕ) (h : RequestHead) → begins_with_head bytes h ≡ true → ReadsRequest bytes h (drop (length (print_request h)) bytes)
+reads_where_begins : (bytes : List ℕ) (h : RequestHead) → begins_with_head bytes h ≡ true
+    → ReadsRequest bytes h (drop (length (print_request h)) bytes)
 reads_where_begins bytes h starts =
     let n = length (print_request h) in
     let both = and_parts (is_request_head h) _ starts in
-    let prefix = (bytes_eq-Decides (take n bytes) (print_request h)).0 both.1 in
-    (head_is_one h both.0, sym (take-append-drop n bytes) ∙ ap (λ (xs : List ℕ). xs ++ drop n bytes) prefix)
+    let prefix = (bytes_eq-Decides (take n bytes) (print_request h)).0 both.1 in (
+      head_is_one h both.0,
+      sym (take-append-drop n bytes) ∙ ap
+          (λ (xs : List ℕ). xs ++ drop n bytes) prefix,
+    )
 
 -- ---- the laws
 
-head_by_parts_is : (bytes : List ℕ) (h : RequestHead) → ((k : RequestHead) (rest : List ℕ) → ReadsRequest bytes k rest → h ≡ k)
+head_by_parts_is : (bytes : List ℕ) (h : RequestHead)
+    → ((k : RequestHead) (rest : List ℕ) → ReadsRequest bytes k rest → h ≡ k)
     → IsHead bytes (head_by_parts bytes h)
 head_by_parts_is bytes h only =
     cond_both (begins_with_head bytes h) _ none (IsHead bytes)
@@ -90,7 +99,8 @@ head_by_parts_is bytes h only =
     (λ few. (h, reads, refl, leb-true (length h.fields) header_limit few, refl))
     (λ over. (h, _, reads, leb-false (length h.fields) header_limit over)))
     (λ no k rest reads.
-    false≢true (sym no ∙ subst (λ g. begins_with_head bytes g ≡ true) (sym (only k rest reads)) (begins_where_reads bytes k rest reads)))
+    false≢true (sym no ∙ subst (λ g. begins_with_head bytes g ≡ true) (sym (only k rest reads))
+    (begins_where_reads bytes k rest reads)))
 
 pub head_is : GivesHeads head_of
 unfolding head_of

@@ -31,5 +31,6 @@ exceeds_here room bytes (prefix, rest, whole, h, reads, over) =
       over,
       request_size h reads.0,
       ap length whole ∙ length-append prefix rest,
-      sym (length-append prefix (print_end lf)) ∙ ap length reads.1 ∙ length-append (print_request h) [],
+      sym (length-append prefix (print_end lf)) ∙ ap length reads.1
+          ∙ length-append (print_request h) [],
     )

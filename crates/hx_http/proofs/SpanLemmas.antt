@@ -9,14 +9,16 @@ use Rattle.httparse.specs.declared.spans.HeaderSpan.{HeaderSpan}
 use Rattle.hx_http.specs.Spans.{parts_at, AreWithin}
 use Rattle.hx_http.specs.declared.spans.HeadSpans.{HeadSpans}
 
-range_in_prefix : (text : List ℕ) (n i j : ℕ) → i ≤ j → j ≤ n → slice_range (take n text) i j ≡ slice_range text i j
+range_in_prefix : (text : List ℕ) (n i j : ℕ) → i ≤ j → j ≤ n
+    → slice_range (take n text) i j ≡ slice_range text i j
 range_in_prefix text n i j ordered within =
     let sum : n ≡ i + (n - i) = omega arith in
     ap (λ m. take (j - i) (drop i (take m text))) sum
     ∙ ap (λ (xs : List ℕ). take (j - i) xs) (drop-take i (n - i) text)
     ∙ take-take (j - i) (n - i) (drop i text) (omega arith)
 
-pub span_in_prefix : (text : List ℕ) (n : ℕ) (s : Span) → IsWithin n s → span_bytes (take n text) s ≡ span_bytes text s
+pub span_in_prefix : (text : List ℕ) (n : ℕ) (s : Span) → IsWithin n s
+    → span_bytes (take n text) s ≡ span_bytes text s
 span_in_prefix text n s within = range_in_prefix text n s.start s.end within.0 within.1
 
 pub headers_in_prefix : (text : List ℕ) (n : ℕ) (hs : List HeaderSpan) → All (IsHeaderWithin n) hs

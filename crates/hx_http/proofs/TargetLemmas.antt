@@ -22,7 +22,8 @@ record IsCutAtQuery (target before : List ℕ) (query : Option (List ℕ)) : Typ
   whole : target ≡ before ++ query_text query
   first : list_any (λ b. b == question_mark) before ≡ false
 
-cut_at_query_by : (target : List ℕ) (cut : Option (List ℕ × List ℕ)) → cut_of question_mark target ≡ cut
+cut_at_query_by : (target : List ℕ) (cut : Option (List ℕ × List ℕ))
+    → cut_of question_mark target ≡ cut
     → IsCutAtQuery target (before_query target) (query_of target)
 cut_at_query_by target None is =
     rw is (record { whole = sym (append-nil target); first = lacks-cut_of question_mark target is })
@@ -36,12 +37,15 @@ cut_at_query target = cut_at_query_by target (cut_of question_mark target) refl
 pub query_whole : (target : List ℕ) → target ≡ before_query target ++ query_text (query_of target)
 query_whole target = (cut_at_query target).whole
 
-pub query_first : (target : List ℕ) → list_any (λ b. b == question_mark) (before_query target) ≡ false
+pub query_first : (target : List ℕ)
+    → list_any (λ b. b == question_mark) (before_query target) ≡ false
 query_first target = (cut_at_query target).first
 
 -- the cut is the only one
-query_only : (before : List ℕ) (query : Option (List ℕ)) → list_any (λ b. b == question_mark) before ≡ false
-    → (before_query (before ++ query_text query) ≡ before) × (query_of (before ++ query_text query) ≡ query)
+query_only : (before : List ℕ) (query : Option (List ℕ))
+    → list_any (λ b. b == question_mark) before ≡ false
+    → (before_query (before ++ query_text query) ≡ before)
+    × (query_of (before ++ query_text query) ≡ query)
 query_only before None first =
     let none = ap (cut_of question_mark) (append-nil before) ∙ cut_of-lacking question_mark before first in
     (rw none (append-nil before), rw none refl)
@@ -51,7 +55,8 @@ query_only before (Some query) first =
 
 -- ---- the path
 
-starts_slash : (path : List ℕ) → starts_with nat_eq path (codes "/") ≡ true → path ≡ slash ∷ drop 1 path
+starts_slash : (path : List ℕ) → starts_with nat_eq path (codes "/") ≡ true
+    → path ≡ slash ∷ drop 1 path
 starts_slash path starts = (starts_is Decides-eqb path (codes "/") _ refl).0 starts
 
 -- what stands before the first `/`, and the path from there on
@@ -103,14 +108,17 @@ placed_in_uri text path no_slash is =
         scheme = after.before;
         authority = part.authority;
         whole = refl;
-        first = subst (λ (xs : List ℕ). FindsNeedle xs (codes "://") 0 (Some (length after.before))) whole after.first;
+        first = subst (λ (xs : List ℕ). FindsNeedle xs (codes "://") 0
+            (Some (length after.before))) whole after.first;
         no_slash = part.no_slash;
-        no_origin_form = subst (λ (xs : List ℕ). starts_with nat_eq xs (codes "/") ≡ false) whole no_slash;
+        no_origin_form = subst (λ (xs : List ℕ). starts_with nat_eq xs
+            (codes "/") ≡ false) whole no_slash;
       });
     })
 
 placed_by : (text path : List ℕ) (origin : Bool) → starts_with nat_eq text (codes "/") ≡ origin
-    → (if origin then Some text else option_and_then from_slash (after_mark (codes "://") text)) ≡ Some path → IsPlaced text path
+    → (if origin then Some text else option_and_then from_slash (after_mark (codes "://") text))
+    ≡ Some path → IsPlaced text path
 placed_by text path true starts is =
     let same = same_Some text path is in
     record {
@@ -121,7 +129,8 @@ placed_by text path true starts is =
     }
 placed_by text path false starts is = placed_in_uri text path starts is
 
-pub path_parts : (target path : List ℕ) → path_of target ≡ Some path → (prefix : List ℕ) × HasPath target prefix path (query_of target)
+pub path_parts : (target path : List ℕ) → path_of target ≡ Some path
+    → (prefix : List ℕ) × HasPath target prefix path (query_of target)
 path_parts target path is =
     let before = before_query target in
     let cut = cut_at_query target in
@@ -142,29 +151,36 @@ from_slash_at : (authority path : List ℕ) → list_any (λ b. b == slash) auth
 from_slash_at authority path no_slash starts =
     let slash_first = starts_slash path starts in
     ap (λ (xs : List ℕ). from_slash (authority ++ xs)) slash_first
-    ∙ ap (option_map (λ (p : List ℕ × List ℕ). slash ∷ p.1)) (cut_of-first slash authority (drop 1 path) no_slash)
+    ∙ ap (option_map (λ (p : List ℕ × List ℕ). slash ∷ p.1)) (cut_of-first slash authority
+    (drop 1 path) no_slash)
     ∙ ap Some (sym slash_first)
 
-path_at : (prefix path : List ℕ) → starts_with nat_eq path (codes "/") ≡ true → (prefix ≡ []) ⊎ EndsWithAuthority prefix path
+path_at : (prefix path : List ℕ) → starts_with nat_eq path (codes "/") ≡ true
+    → (prefix ≡ []) ⊎ EndsWithAuthority prefix path
     → path_before_query (prefix ++ path) ≡ Some path
 path_at prefix path starts (inl none) = rw none (cond-true _ _ _ starts)
 path_at prefix path starts (inr h) =
     let text = prefix ++ path in
     let whole : text ≡ (h.scheme ++ codes "://") ++ (h.authority ++ path)
-    = ap (λ (xs : List ℕ). xs ++ path) h.whole ∙ sym (regroup h.scheme (codes "://") h.authority path)
+    = ap (λ (xs : List ℕ). xs ++ path) h.whole
+    ∙ sym (regroup h.scheme (codes "://") h.authority path)
     ∙ sym (append_assoc h.scheme (codes "://") (h.authority ++ path)) in
     let rest : drop (length h.scheme + length (codes "://")) text ≡ h.authority ++ path
     = ap (λ (xs : List ℕ). drop (length h.scheme + length (codes "://")) xs) whole
-    ∙ drop_at (h.scheme ++ codes "://") (h.authority ++ path) (length h.scheme + length (codes "://")) (length-append h.scheme (codes "://")) in
+    ∙ drop_at (h.scheme ++ codes "://") (h.authority ++ path)
+    (length h.scheme + length (codes "://")) (length-append h.scheme (codes "://")) in
     cond-false _ _ _ h.no_origin_form
-    ∙ ap (option_and_then from_slash) (after_mark_at (codes "://") text (length h.scheme) (omega arith) h.first ∙ ap Some rest)
+    ∙ ap (option_and_then from_slash) (after_mark_at (codes "://") text (length h.scheme)
+    (omega arith) h.first ∙ ap Some rest)
     ∙ from_slash_at h.authority path h.no_slash starts
 
-pub path_only : (target prefix path : List ℕ) (query : Option (List ℕ)) → HasPath target prefix path query
+pub path_only : (target prefix path : List ℕ) (query : Option (List ℕ))
+    → HasPath target prefix path query
     → (path_of target ≡ Some path) × (query_of target ≡ query)
 path_only target prefix path query h =
     let cut = query_only (prefix ++ path) query h.no_mark in
-    let same : target ≡ (prefix ++ path) ++ query_text query = h.whole ∙ sym (append_assoc prefix path (query_text query)) in (
+    let same : target ≡ (prefix ++ path) ++ query_text query
+    = h.whole ∙ sym (append_assoc prefix path (query_text query)) in (
       ap path_of same ∙ ap path_before_query cut.0 ∙ path_at prefix path h.slash_first h.before,
       ap query_of same ∙ cut.1,
     )
@@ -185,7 +201,8 @@ starts_in_prefix : (prefix a b : List ℕ) → 0 < length prefix
 starts_in_prefix [] a b some = absurd (omega arith)
 starts_in_prefix (x ∷ xs) a b some = refl
 
-authority_stays : (prefix old path : List ℕ) → EndsWithAuthority prefix old → EndsWithAuthority prefix path
+authority_stays : (prefix old path : List ℕ) → EndsWithAuthority prefix old
+    → EndsWithAuthority prefix path
 authority_stays prefix old path h =
     let at = length h.scheme in
     let long : at + 3 ≤ length prefix
@@ -204,7 +221,8 @@ authority_stays prefix old path h =
           low = first.low;
           high = omega (arith, length-append prefix path);
           before = λ k from below occurs.
-              first.before k from below (occurs_in_prefix prefix path old (codes "://") k (omega arith) occurs);
+              first.before k from below (occurs_in_prefix prefix path old (codes "://") k
+              (omega arith) occurs);
         },
         occurs_in_prefix prefix old path (codes "://") at (omega arith) h.first.1,
       );
@@ -217,12 +235,14 @@ before_stays : (prefix old path : List ℕ) → (prefix ≡ []) ⊎ EndsWithAuth
 before_stays prefix old path (inl none) = inl none
 before_stays prefix old path (inr h) = inr (authority_stays prefix old path h)
 
-pub another_path : (target path prefix old : List ℕ) (query : Option (List ℕ)) → HasPath target prefix old query
+pub another_path : (target path prefix old : List ℕ) (query : Option (List ℕ))
+    → HasPath target prefix old query
     → starts_with nat_eq path (codes "/") ≡ true → list_any (λ b. b == question_mark) path ≡ false
     → HasPath (prefix ++ (path ++ query_text query)) prefix path query
 another_path target path prefix old query h starts none =
     let test = λ (b : ℕ). b == question_mark in
-    let parts = neither (list_any test prefix) (list_any test old) (sym (list_any-append test prefix old) ∙ h.no_mark) in
+    let parts = neither (list_any test prefix) (list_any test old)
+    (sym (list_any-append test prefix old) ∙ h.no_mark) in
     record {
       whole = refl;
       no_mark = list_any-append test prefix path ∙ rw (parts.0, none) refl;

@@ -8,9 +8,11 @@ use Rattle.hx_lists.specs.Blanks.{trim_blanks}
 use Rattle.hx_lists.specs.HeaderValues.{Quoting, Outside, quoting_after, bytes_with_quoting, is_cut, hdr_pieces, hdr_values}
 use Rattle.hx_lists.specs.NamedValues.{named_value, named_values, is_named, trimmed_pair, cookies, params, separates_params, begins_params}
 
-length-bytes_with_quoting : (q : Quoting) (bytes : List ℕ) → length (bytes_with_quoting q bytes) ≡ length bytes
+length-bytes_with_quoting : (q : Quoting) (bytes : List ℕ)
+    → length (bytes_with_quoting q bytes) ≡ length bytes
 length-bytes_with_quoting q [] = refl
-length-bytes_with_quoting q (b ∷ bs) = ap (λ n. suc n) (length-bytes_with_quoting (quoting_after q b) bs)
+length-bytes_with_quoting q (b ∷ bs) =
+    ap (λ n. suc n) (length-bytes_with_quoting (quoting_after q b) bs)
 
 pub length-hdr_values : (line : List ℕ) → length (hdr_values line) ≤ length line + 1
 length-hdr_values line =
@@ -24,7 +26,8 @@ length-hdr_values line =
       length-bytes_with_quoting Outside line,
     )
 
-pub length-named_values : (separates : ℕ → Bool) (text : List ℕ) → length (named_values separates text) ≤ length text + 1
+pub length-named_values : (separates : ℕ → Bool) (text : List ℕ)
+    → length (named_values separates text) ≤ length text + 1
 length-named_values separates text =
     let pieces = slice_split separates text in
     omega (
@@ -38,11 +41,22 @@ length-named_values separates text =
 
 pub length-cookies : (line : List ℕ) → length (cookies line) ≤ length line + 1
 length-cookies line =
-    omega (arith, length-map (named_values (λ b. b == 59) line) trimmed_pair, length-named_values (λ b. b == 59) line)
+    omega (
+      arith,
+      length-map (named_values (λ b. b == 59) line) trimmed_pair,
+      length-named_values
+          (λ b. b == 59) line,
+    )
 
-pub length-params : (target : List ℕ) (delim : Option ℕ) → length (params target delim) ≤ length target + 1
+pub length-params : (target : List ℕ) (delim : Option ℕ)
+    → length (params target delim) ≤ length target + 1
 length-params target delim =
     let begins = begins_params delim in
-    omega (arith, length-named_values (separates_params delim) (after_first begins target), length-drop (position_or_len begins target + 1) target)
+    omega (
+      arith,
+      length-named_values (separates_params delim)
+          (after_first begins target),
+      length-drop (position_or_len begins target + 1) target,
+    )
 
 pub ruleset lengths = (length-hdr_values, length-cookies, length-params)

@@ -8,7 +8,8 @@ use Rattle.hx_lists.proofs.named.params_text.Goals as goal
 pub returns-in-Some : goal.returns-in-Some
 returns-in-Some c =
     let same = ap (is_byte2 63) c.unwrap_or.ensures ∙ is_byte2-begins c.args.delim in
-    let found = subst (λ (test : ℕ → Bool). IsFirstByte test c.args.target.now (Some c.in-Some.at)) same c.in-Some.ensures in
+    let found = subst (λ (test : ℕ → Bool). IsFirstByte test c.args.target.now
+    (Some c.in-Some.at)) same c.in-Some.ensures in
     take_rest c.args.target.now (c.in-Some.at + 1)
     ∙ sym (after_first-at (begins_params c.args.delim) c.args.target.now c.in-Some.at found)
 

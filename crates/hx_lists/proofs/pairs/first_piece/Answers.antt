@@ -9,7 +9,8 @@ pub returns-in-Some-clause-pieces : goal.returns-in-Some-clause-pieces
 returns-in-Some-clause-pieces c =
     let test = is_byte3 c.args.separators.0 c.args.separators.1 c.args.separators.2 in
     slice_split-at test c.args.text.now c.in-Some.at c.in-Some.ensures
-    ∙ ap (λ rest. take c.in-Some.at c.args.text.now ∷ slice_split test rest) (sym (take_rest c.args.text.now (c.in-Some.at + 1)))
+    ∙ ap (λ rest. take c.in-Some.at c.args.text.now ∷ slice_split test rest)
+    (sym (take_rest c.args.text.now (c.in-Some.at + 1)))
 
 pub returns-in-None-clause-pieces : goal.returns-in-None-clause-pieces
 returns-in-None-clause-pieces c =
