@@ -47,6 +47,7 @@ no_vars = record {
   response = map.empty;
 }
 
+-- the value of the variable of a name in a scope, for a connection
 abbrev pub var_in : Scopes → ℕ → Scope → List ℕ → Option Value
 var_in scopes conn Proc name = map.get scopes.process name
 var_in scopes conn Sess name = map.get scopes.sessions (conn, name)
@@ -58,6 +59,7 @@ var_in scopes conn Res name = map.get scopes.response name
 abbrev pub var_of : Scopes → ℕ → VarName → Option Value
 var_of scopes conn name = var_in scopes conn name.scope name.name
 
+-- the variable of a name in a scope is set, for a connection
 abbrev pub with_var_in : Scopes → ℕ → Scope → List ℕ → Value → Scopes
 with_var_in scopes conn Proc name value =
     record scopes { process = map.insert scopes.process name value }
@@ -74,6 +76,7 @@ with_var_in scopes conn Res name value =
 abbrev pub with_var : Scopes → ℕ → VarName → Value → Scopes
 with_var scopes conn name value = with_var_in scopes conn name.scope name.name value
 
+-- the variable of a name in a scope is unset, for a connection
 abbrev pub without_var_in : Scopes → ℕ → Scope → List ℕ → Scopes
 without_var_in scopes conn Proc name =
     record scopes { process = map.remove scopes.process name }
