@@ -10,7 +10,7 @@ use Rattle.std.proofs.lemmas.Slice.Eq.{starts_is}
 use Rattle.memchr.specs.Find.{FindsNeedle, OccursAt}
 use Rattle.std.proofs.lemmas.Option.{none-some, same_Some, option_and_then_some}
 use Rattle.hx_base.specs.Bytes.{question_mark, slash}
-use Rattle.hx_text.specs.Address.{cut_of}
+use Rattle.hx_text.specs.Cut.{cut_of}
 use Rattle.hx_http.specs.Target.{before_query, query_of, query_text, from_slash, after_mark, path_before_query, path_of, HasPath, EndsWithAuthority}
 use Rattle.hx_http.proofs.CutLemmas.{neither, IsCut-cut_of, lacks-cut_of, cut_of-first, cut_of-lacking}
 use Rattle.hx_http.proofs.MarkLemmas.{after_mark_at, IsAfterFirst-after_mark}

@@ -5,7 +5,7 @@ use Rattle.std.specs.Option.{option_map_or}
 use Rattle.std.specs.List.{starts_with, list_any}
 use Rattle.memchr.specs.Find.{FindsNeedle}
 use Rattle.hx_base.specs.Bytes.{question_mark, slash}
-use Rattle.hx_text.specs.Address.{cut_of}
+use Rattle.hx_text.specs.Cut.{cut_of}
 
 -- ---- as functions
 
