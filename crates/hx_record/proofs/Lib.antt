@@ -10,4 +10,4 @@ pub mod DecisionLemmas
 pub mod ReadLemmas
 pub mod AskLemmas
 pub mod AnswerLemmas
-pub mod OrderLemmas
+pub mod LawLemmas

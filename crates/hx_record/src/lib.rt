@@ -19,8 +19,8 @@
 mod events;
 mod fault;
 mod find;
+pub mod laws;
 mod line;
-mod order;
 mod piece;
 mod reader;
 mod refusal;
@@ -28,8 +28,4 @@ mod window;
 
 pub use events::{Event, Next, Placed};
 pub use fault::RecordFault;
-pub use order::items_are_the_pieces_in_order;
 pub use reader::Reader;
-
-#[cfg(test)]
-mod tests;
