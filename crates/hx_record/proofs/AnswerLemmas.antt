@@ -12,7 +12,7 @@ use Rattle.hx_record.specs.Record.{Items, Unknown, Bad}
 use Rattle.hx_record.specs.State.{State, MayFollow, items_after, decided_items_now}
 use Rattle.hx_record.specs.Reading.{Answers, AnswersNext, Reads, Decides, HasEvent, LogsFault}
 use Rattle.hx_record.proofs.ReadLemmas.{SoFar, passes_more, offset_more}
-use Rattle.hx_record.proofs.AskLemmas.{Told, due_now, due_failed}
+use Rattle.hx_record.proofs.AskLemmas.{AsksSoFar, due_now, due_failed}
 
 -- a call answers what a decision says
 abbrev pub IsAnswer : Result Next RecordFault → Result (Option Placed) RecordFault → Type 0
@@ -40,7 +40,7 @@ never_failed before after (Err faults.NoMemory) result same a failed = cc
 
 -- a call that answers a decision
 pub reads_decided : (before s after : State) (left left' : Option (List ℕ)) (log log' : Option Log) (decision : Result Next RecordFault) (result : Result (Option Placed) RecordFault)
-    → (b : SoFar before s left left') → HoldsSince log log' (Told before s b.took) → Decides s after decision → IsAnswer decision result → Reads before after left left' log log' result
+    → (b : SoFar before s left left') → HoldsSince log log' (AsksSoFar before s b.took) → Decides s after decision → IsAnswer decision result → Reads before after left left' log log' result
 reads_decided before s after left left' log log' decision result b t d same =
     let answered = d.answers after.ended [] (λ over. (refl, over)) in
     record {
@@ -49,7 +49,7 @@ reads_decided before s after left left' log log' decision result b t d same =
       asked = due_now before s after b.took log log' result (never_failed (items_after s after.ended []) (items_after after after.ended []) decision result same answered) d.ended t;
       passed = b.passed ++ d.passed;
       bytes = passes_more before s after b.took b.passed d.passed b.bytes d.bytes;
-      place = offset_more before s after b.passed d.passed b.place d.offset;
+      offset = offset_more before s after b.passed d.passed b.offset d.offset;
       limit = d.limit ∙ b.limit;
       stays = λ ended. let (none, over) = b.stays ended in (none, d.ended ∙ over);
       answers = λ ends more may.
@@ -65,7 +65,7 @@ same_items before s now left left' ends more b d may =
 
 -- a call whose read failed, or for which memory ran out before a read
 pub reads_fault : (before s now : State) (left left' left'' : Option (List ℕ)) (log log' log'' : Option Log) (fault : RecordFault) → (b : SoFar before s left left')
-    → HoldsSince log log' (Told before s b.took) → Decides s now (Ok next.Undecided) → now.ended ≡ false → decided_items_now now ≡ Unknown → Keeps left' left'' → LogsFault fault log' log''
+    → HoldsSince log log' (AsksSoFar before s b.took) → Decides s now (Ok next.Undecided) → now.ended ≡ false → decided_items_now now ≡ Unknown → Keeps left' left'' → LogsFault fault log' log''
     → Reads before now left left'' log log'' (Err fault)
 reads_fault before s now left left' left'' log log' log'' (faults.Bad offset code) b t d going unknown k n = absurd n
 reads_fault before s now left left' left'' log log' log'' faults.Failed b t d going unknown k n = record {
@@ -74,7 +74,7 @@ reads_fault before s now left left' left'' log log' log'' faults.Failed b t d go
   asked = due_failed (Option Placed) before s now left left' log log' log'' b d going unknown n t;
   passed = b.passed ++ d.passed;
   bytes = passes_more before s now b.took b.passed d.passed b.bytes d.bytes;
-  place = offset_more before s now b.passed d.passed b.place d.offset;
+  offset = offset_more before s now b.passed d.passed b.offset d.offset;
   limit = d.limit ∙ b.limit;
   stays = λ ended. let (none, over) = b.stays ended in (none, d.ended ∙ over);
   answers = λ ends more may. same_items before s now left left' ends more b d may;
@@ -85,7 +85,7 @@ reads_fault before s now left left' left'' log log' log'' faults.NoMemory b t d 
   asked = rw n (due_now before s now b.took log log' (Err faults.NoMemory) (λ failed. cc) d.ended t);
   passed = b.passed ++ d.passed;
   bytes = passes_more before s now b.took b.passed d.passed b.bytes d.bytes;
-  place = offset_more before s now b.passed d.passed b.place d.offset;
+  offset = offset_more before s now b.passed d.passed b.offset d.offset;
   limit = d.limit ∙ b.limit;
   stays = λ ended. let (none, over) = b.stays ended in (none, d.ended ∙ over);
   answers = λ ends more may. same_items before s now left left' ends more b d may;

@@ -15,7 +15,7 @@ pub record SoFar (before after : State) (left left' : Option (List ℕ)) : Type 
   pub consumed : Consumes left left' took
   pub passed : List ℕ
   pub bytes : before.pending ++ took ≡ passed ++ after.pending
-  pub place : after.at ≡ before.at + length passed
+  pub offset : after.at ≡ before.at + length passed
   pub limit : after.limit ≡ before.limit
   pub stays : before.ended ≡ true → (took ≡ []) × (after.ended ≡ true)
   pub same : (ends : Bool) (more : List ℕ) → MayFollow after ends more → items_after before ends (took ++ more) ≡ items_after after ends more
@@ -31,7 +31,7 @@ so_far_start s left = record {
   consumed = Consumes-nil left;
   passed = [];
   bytes = append-nil s.pending;
-  place = sym (add-zero s.at);
+  offset = sym (add-zero s.at);
   limit = refl;
   stays = λ ended. (refl, ended);
   same = λ ends more may. refl;
@@ -60,7 +60,7 @@ so_far_more before s now after left left' left'' log log' b d going g = record {
   passed = b.passed ++ d.passed;
   bytes = sym (append_assoc before.pending b.took g.got) ∙ ap (λ bytes. bytes ++ g.got) (passes_more before s now b.took b.passed d.passed b.bytes d.bytes)
       ∙ append_assoc (b.passed ++ d.passed) now.pending g.got ∙ ap (λ bytes. (b.passed ++ d.passed) ++ bytes) (sym g.pending);
-  place = g.at ∙ offset_more before s now b.passed d.passed b.place d.offset;
+  offset = g.at ∙ offset_more before s now b.passed d.passed b.offset d.offset;
   limit = g.limit ∙ d.limit ∙ b.limit;
   stays = λ ended. both_ends now.ended going (d.ended ∙ (b.stays ended).1);
   same = λ ends more may.

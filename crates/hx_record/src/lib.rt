@@ -29,3 +29,4 @@ mod window;
 pub use events::{Event, Next, Placed};
 pub use fault::RecordFault;
 pub use reader::Reader;
+pub use refusal::RecordRefusal;

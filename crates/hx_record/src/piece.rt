@@ -1,13 +1,14 @@
 ghost use Rattle.std.specs.Prelude.{◌≡◌, ◌+◌, ◌^◌, ◌<◌, ◌≤◌, length, take, IfOk, OnErr};
-ghost use Rattle.hx_record.specs.Piece.{behind, request, of_line, last_line, line_len, piece};
-ghost use Rattle.hx_record.specs.Record.{tail_of};
-ghost use Rattle.hx_record.specs.Said.{what_is_said};
+ghost use Rattle.hx_record.specs.Beginning.{beginning_at, request_beginning, line_beginning, last_line_beginning, line_length, beginning_of, Open, Undecided};
+ghost use Rattle.hx_record.specs.Record.{continuation_of};
+ghost use Rattle.hx_record.specs.LineView.{result_meaning};
+ghost use Rattle.hx_record.specs.PieceView.{continuation, piece_beginning};
 ghost use Rattle.hx_record.specs.Parts.{IsFound, IsWait};
 
 use crate::events::Event;
 use crate::find::first_at;
 use crate::line::{Line, read_line};
-use crate::refusal::Refusal;
+use crate::refusal::RecordRefusal;
 use hx_text::{NoMemory, Octets, without_cr};
 use std::alloc::Global;
 
@@ -35,7 +36,7 @@ pub(crate) enum Piece {
     /// Nothing: the record ends.
     Finish,
     /// What is refused, so many bytes on.
-    Fault { skip: usize, refusal: Refusal },
+    Fault { skip: usize, refusal: RecordRefusal },
     /// A line of so many bytes that says nothing.
     Skip { used: usize },
     /// An event of so many bytes.
@@ -54,7 +55,7 @@ fn found(alloc: Global, used: usize, id: u32, bytes: &[u8]) -> Result<Piece, NoM
 }
 
 /// The request of `len` bytes behind a line of `used` bytes, which `rest` follows.
-#[tactic(auto, unfolding(crate::specs::Piece::request))]
+#[tactic(auto, unfolding(crate::specs::Beginning::request_beginning))]
 fn read_request(
     alloc: Global,
     tail: Tail,
@@ -64,14 +65,14 @@ fn read_request(
     rest: &[u8],
 ) -> Result<Piece, NoMemory>
     requires { used + length rest.now < 2 ^ 64 }
-    ensures ok { IfOk result (λ p. p ≡ request tail id len used rest.now) }
-    ensures err { OnErr result (IsFound (request tail id len used rest.now)) }
+    ensures ok { IfOk result (λ p. piece_beginning p ≡ request_beginning (continuation tail) id len used rest.now) }
+    ensures err { OnErr result (IsFound (request_beginning (continuation tail) id len used rest.now)) }
 {
     if len < rest.len() {
         if rest[len] != b'\n' {
             return Ok(Piece::Fault {
                 skip: used + len,
-                refusal: Refusal::BadLine,
+                refusal: RecordRefusal::BadLine,
             });
         }
         let (bytes, _) = rest.split_at(len);
@@ -83,7 +84,7 @@ fn read_request(
         Tail::Ends if len == rest.len() => found(alloc, used + len, id, rest),
         Tail::Ends => Ok(Piece::Fault {
             skip: 0,
-            refusal: Refusal::CutRequest,
+            refusal: RecordRefusal::CutRequest,
         }),
     }
 }
@@ -92,13 +93,13 @@ fn read_request(
 fn line_piece(
     alloc: Global,
     tail: Tail,
-    line: Result<Line<'_>, Refusal>,
+    line: Result<Line<'_>, RecordRefusal>,
     used: usize,
     rest: &[u8],
 ) -> Result<Piece, NoMemory>
     requires { used + length rest.now < 2 ^ 64 }
-    ensures ok { IfOk result (λ p. p ≡ of_line tail (what_is_said line.entry) used rest.now) }
-    ensures err { OnErr result (IsFound (of_line tail (what_is_said line.entry) used rest.now)) }
+    ensures ok { IfOk result (λ p. piece_beginning p ≡ line_beginning (continuation tail) (result_meaning line.entry) used rest.now) }
+    ensures err { OnErr result (IsFound (line_beginning (continuation tail) (result_meaning line.entry) used rest.now)) }
 {
     let event = match line {
         Err(refusal) => return Ok(Piece::Fault { skip: 0, refusal }),
@@ -131,8 +132,8 @@ fn line_piece(
 }
 
 fn read_last(alloc: Global, tail: Tail, bytes: &[u8]) -> Result<Piece, NoMemory>
-    ensures ok { IfOk result (λ p. p ≡ behind tail (last_line bytes.now)) }
-    ensures err { OnErr result (IsFound (behind tail (last_line bytes.now))) }
+    ensures ok { IfOk result (λ p. piece_beginning p ≡ beginning_at (continuation tail) (last_line_beginning bytes.now)) }
+    ensures err { OnErr result (IsFound (beginning_at (continuation tail) (last_line_beginning bytes.now))) }
 {
     match tail {
         Tail::Open => Ok(Piece::Undecided),
@@ -147,21 +148,21 @@ fn read_last(alloc: Global, tail: Tail, bytes: &[u8]) -> Result<Piece, NoMemory>
 
 /// What the bytes begin with, whose first line has `len` bytes. Memory is wanted for an event
 /// alone.
-#[tactic(auto, unfolding(crate::specs::Piece::piece))]
+#[tactic(auto, unfolding(crate::specs::Beginning::beginning_of))]
 pub(crate) fn read_piece(
     alloc: Global,
     tail: Tail,
     bytes: &[u8],
     len: usize,
 ) -> Result<Piece, NoMemory>
-    requires { len ≡ line_len bytes.now }
-    ensures ok { IfOk result (λ p. p ≡ piece tail bytes.now) }
-    ensures err { OnErr result (IsFound (piece tail bytes.now)) }
+    requires { len ≡ line_length bytes.now }
+    ensures ok { IfOk result (λ p. piece_beginning p ≡ beginning_of (continuation tail) bytes.now) }
+    ensures err { OnErr result (IsFound (beginning_of (continuation tail) bytes.now)) }
 {
     if len > LINE_MAX {
         return Ok(Piece::Fault {
             skip: 0,
-            refusal: Refusal::LineTooLong,
+            refusal: RecordRefusal::LineTooLong,
         });
     }
     if len >= bytes.len() {
@@ -176,8 +177,8 @@ pub(crate) fn read_piece(
 /// bytes. They don't tell it.
 #[tactic(auto, using(crate::proofs::WaitLemmas::wait_line, crate::proofs::WaitLemmas::wait_request, crate::proofs::WaitLemmas::wait_none))]
 pub(crate) fn wanted(bytes: &[u8], len: usize) -> usize
-    requires first { len ≡ line_len bytes.now }
-    requires undecided { piece Tail.Open bytes.now ≡ Piece.Undecided }
+    requires first { len ≡ line_length bytes.now }
+    requires undecided { beginning_of Open bytes.now ≡ Undecided }
     ensures { IsWait bytes.now result }
 {
     if len >= bytes.len() {
@@ -201,10 +202,10 @@ pub(crate) fn piece_under(
     scanned: usize,
     wait: usize,
 ) -> Result<Piece, NoMemory>
-    requires scanned { scanned ≤ line_len pending.now }
+    requires scanned { scanned ≤ line_length pending.now }
     requires wait { IsWait pending.now wait }
-    ensures ok { IfOk result (λ p. p ≡ piece (tail_of ended room pending.now) (take room pending.now)) }
-    ensures err { OnErr result (IsFound (piece (tail_of ended room pending.now) (take room pending.now))) }
+    ensures ok { IfOk result (λ p. piece_beginning p ≡ beginning_of (continuation_of ended room pending.now) (take room pending.now)) }
+    ensures err { OnErr result (IsFound (beginning_of (continuation_of ended room pending.now) (take room pending.now))) }
 {
     if pending.len() as u64 > room {
         let (front, _) = pending.split_at(room as usize);
@@ -222,9 +223,9 @@ pub(crate) fn piece_under(
 /// Where the search for the LF goes on, and how many bytes are wanted at least, where the pending
 /// bytes decide nothing.
 pub(crate) fn waits(pending: &[u8], scanned: usize) -> (usize, usize)
-    requires scanned { scanned ≤ line_len pending.now }
-    requires undecided { piece Tail.Open pending.now ≡ Piece.Undecided }
-    ensures scanned { result.0 ≤ line_len pending.now }
+    requires scanned { scanned ≤ line_length pending.now }
+    requires undecided { beginning_of Open pending.now ≡ Undecided }
+    ensures scanned { result.0 ≤ line_length pending.now }
     ensures wait { IsWait pending.now result.1 }
 {
     let len = first_at(b'\n', pending, scanned);

@@ -4,12 +4,13 @@ ghost use Rattle.hx_outside.specs.Count.{Rose};
 ghost use Rattle.hx_record.specs.Record.{Unknown, Bad};
 ghost use Rattle.hx_record.specs.State.{State, decided_items_now, remaining_work};
 ghost use Rattle.hx_record.specs.Reading.{Reads, Decides, Fills, HasEvent, IsEvent, LogsFault};
-ghost use Rattle.hx_record.specs.Parts.{IsFound, piece_now, passed_by};
+ghost use Rattle.hx_record.specs.PieceView.{piece_beginning};
+ghost use Rattle.hx_record.specs.Parts.{IsFound, beginning_now, state_past};
 
 use crate::events::{Next, Placed};
 use crate::fault::RecordFault;
 use crate::piece::{Piece, piece_under, waits};
-use crate::refusal::Refusal;
+use crate::refusal::RecordRefusal;
 use crate::window::Window;
 use hx_outside::Source;
 use hx_text::NoMemory;
@@ -147,7 +148,7 @@ impl Reader {
                     let offset = self.limit();
                     return Err(RecordFault::Bad {
                         offset,
-                        code: Refusal::TooLong.code(),
+                        code: RecordRefusal::TooLong.code(),
                     });
                 }
                 Piece::Fault { skip, refusal } => {
@@ -202,7 +203,7 @@ impl Reader {
     fn advance(&mut self, used: usize)
         requires pending { used ≤ length self.old.pending }
         requires limit { self.old.at + used ≤ self.old.limit }
-        ensures { self.new ≡ passed_by self.old used }
+        ensures { self.new ≡ state_past self.old used }
     {
         let _limit = self.limit;
         self.window.pass(used);
@@ -215,8 +216,8 @@ impl Reader {
     fn judge(&mut self) -> Result<Piece, NoMemory>
         ensures same { self.new ≡ self.old }
         ensures place { self.old.at ≤ self.old.limit }
-        ensures ok { IfOk result (λ piece. piece ≡ piece_now self.old) }
-        ensures err { OnErr result (IsFound (piece_now self.old)) }
+        ensures ok { IfOk result (λ piece. piece_beginning piece ≡ beginning_now self.old) }
+        ensures err { OnErr result (IsFound (beginning_now self.old)) }
     {
         let pending = self.window.bytes();
         let room = self.limit - self.at;

@@ -2,7 +2,7 @@ ghost use Rattle.std.specs.Prelude.{◌≡◌, ◌+◌, ◌-◌, ◌<◌, ◌≤
 ghost use Rattle.std.specs.Io.KnownBytes.{ReadConsumes, Keeps};
 ghost use Rattle.hx_outside.specs.Count.{Rose};
 ghost use Rattle.hx_outside.specs.Log.{Logs, bytes_read};
-ghost use Rattle.hx_record.specs.Parts.{Took};
+ghost use Rattle.hx_record.specs.Parts.{AppendsRead};
 
 use hx_outside::{Failed, Source};
 use std::alloc::{AllocError, Global};
@@ -21,13 +21,13 @@ pub(crate) struct Window {
 }
 
 impl Model for Window {
-    ghost use Rattle.hx_record.specs.Held.{Held};
+    ghost use Rattle.hx_record.specs.Room.{BytesWithRoom};
 
-    ghost Value = { Held };
+    ghost Value = { BytesWithRoom };
 
-    ghost use Rattle.hx_record.specs.Window.{held_of, IsWindow};
+    ghost use Rattle.hx_record.specs.Window.{window_bytes, IsWindow};
 
-    ghost view = { held_of };
+    ghost view = { window_bytes };
 
     ghost invariant = { IsWindow };
 }
@@ -74,7 +74,7 @@ impl Window {
     pub(crate) fn read<S: Source>(&mut self, source: &mut S) -> Result<usize, Failed>
         requires { 0 < self.old.room }
         ensures ok { IfOk result (λ count.
-            Took (S.left source.old) (S.left source.new) (S.log source.old) (S.log source.new)
+            AppendsRead (S.left source.old) (S.left source.new) (S.log source.old) (S.log source.new)
             self.old.bytes self.new.bytes count) }
         ensures err { OnErr result (self.new.bytes ≡ self.old.bytes) }
         ensures kept { OnErr result (Keeps (S.left source.old) (S.left source.new)) }

@@ -3,7 +3,7 @@ use Rattle.std.specs.Io.KnownBytes.{IsAtEnd}
 use Rattle.hx_outside.specs.Log.{HoldsSince}
 use Rattle.hx_record.specs.State.{remaining_work}
 use Rattle.hx_record.proofs.ReadLemmas.{SoFar, LeftAlone}
-use Rattle.hx_record.proofs.AskLemmas.{Told}
+use Rattle.hx_record.proofs.AskLemmas.{AsksSoFar}
 use Rattle.hx_record.proofs.reader.Reader.next_event.Given as goal
 
 abbrev pub invariant-reads : goal.invariant-reads
@@ -14,7 +14,7 @@ invariant-reads g l =
     record {
       so_far : SoFar l.fn.self l.self (left l.fn.source) (left l.source);
       left_alone : LeftAlone l.fn.self l.self l.fn.source l.source;
-      asked : HoldsSince (log l.fn.source) (log l.source) (Told l.fn.self l.self so_far.took);
+      asked : HoldsSince (log l.fn.source) (log l.source) (AsksSoFar l.fn.self l.self so_far.took);
       ended : l.self.ended ≡ true → IsAtEnd (left l.source);
       later : faults l.fn.source ≤ faults l.source;
     }
