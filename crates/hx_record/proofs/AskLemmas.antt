@@ -56,7 +56,7 @@ failure_other [] result other gave = other
 failure_other (None ∷ reads) result other gave = absurd gave
 failure_other (Some first ∷ reads) result other gave = failure_other reads result other gave
 
--- one that failed behind them, and a result that tells it
+-- one that failed after them, and a result that says so
 failure_last : (A : Type 0) (reads : Log) → Gave reads → FailureIsAnswered {A = A} (Err faults.Failed) (reads ++ (None ∷ []))
 failure_last A [] gave = (refl, refl)
 failure_last A (None ∷ reads) gave = absurd gave

@@ -1,4 +1,5 @@
--- What the bytes that a reader has decide: lines that say nothing are passed, and the piece behind them is the answer.
+-- What the bytes that a reader has decide: lines that say nothing are passed, and the item after
+-- them is the answer.
 use Rattle.std.proofs.Common.{◌≡◌, ℕ, ◌+◌, ◌-◌, ◌<◌, ◌≤◌, Bool, true, false, List, [], ◌++◌, length, take, drop, Ok, Err, refl, sym, ap, subst, ◌∙◌, arith, lt-ltb, inl, inr, length-take-le, length-drop, length-append, append_assoc, add-zero, take-append-drop}
 use Rattle.std.proofs.lemmas.Bool.{cases_lt, le-ltb}
 use Rattle.hx_record.specs.declared.events.Event.{Event}
@@ -13,7 +14,7 @@ use Rattle.hx_record.specs.Reading.{Decides, HasEvent}
 use Rattle.hx_record.specs.Parts.{IsFound, beginning_now, state_past}
 use Rattle.hx_record.proofs.PieceLemmas.{Takes}
 use Rattle.hx_record.proofs.PendingLemmas.{undecided_open}
-use Rattle.hx_record.proofs.StateLemmas.{now_takes, now_decided, skip_passes, found_passes, undecided_now, skip_behind, found_behind, finish_behind, fault_behind, long_behind}
+use Rattle.hx_record.proofs.StateLemmas.{now_takes, now_decided, skip_passes, found_passes, undecided_now, skip_after, found_after, finish_after, fault_after, long_after}
 
 -- lines that say nothing were passed, and the items are the same, whatever follows
 pub record PassesLines (before s : State) : Type 0 where
@@ -44,7 +45,7 @@ lines_skip before s used p e =
       offset = moved.1;
       limit = p.limit;
       ended = p.ended;
-      same = λ ends more may. p.same ends more may ∙ skip_behind s ends more used may e;
+      same = λ ends more may. p.same ends more may ∙ skip_after s ends more used may e;
     }
 
 -- ---- the answers
@@ -59,7 +60,7 @@ decides_event before s used event p e =
       offset = moved.1;
       limit = p.limit;
       ended = p.ended;
-      answers = λ ends more may. p.same ends more may ∙ found_behind s ends more used event may e;
+      answers = λ ends more may. p.same ends more may ∙ found_after s ends more used event may e;
     }
 
 pub decides_end : (before s : State) → PassesLines before s → beginning_now s ≡ Finish → Decides before s (Ok next.End)
@@ -69,7 +70,7 @@ decides_end before s p e = record {
   offset = p.offset;
   limit = p.limit;
   ended = p.ended;
-  answers = λ ends more may. let done = finish_behind s ends more may e in (p.same ends more may ∙ done, done);
+  answers = λ ends more may. let done = finish_after s ends more may e in (p.same ends more may ∙ done, done);
 }
 
 pub decides_undecided : (before s : State) → PassesLines before s → Decides before s (Ok next.Undecided)
@@ -100,7 +101,7 @@ decides_fault before s skip refusal p e = record {
   offset = p.offset;
   limit = p.limit;
   ended = p.ended;
-  answers = λ ends more may. let bad = fault_behind s ends more skip refusal may e in (p.same ends more may ∙ bad, bad);
+  answers = λ ends more may. let bad = fault_after s ends more skip refusal may e in (p.same ends more may ∙ bad, bad);
 }
 
 pub decides_long : (before s : State) → PassesLines before s → beginning_now s ≡ TooLong → Decides before s (Err (faults.Bad s.limit 4))
@@ -110,7 +111,7 @@ decides_long before s p e = record {
   offset = p.offset;
   limit = p.limit;
   ended = p.ended;
-  answers = λ ends more may. let bad = long_behind s ends more may e in (p.same ends more may ∙ bad, bad);
+  answers = λ ends more may. let bad = long_after s ends more may e in (p.same ends more may ∙ bad, bad);
 }
 
 -- ---- what else is known
@@ -126,7 +127,7 @@ has_event limit (Found used event) at rest found = tt
 pub found_event : (s : State) → IsFound (beginning_now s) → HasEvent (decided_items_now s)
 found_event s found = rw (now_decided s) (has_event s.limit (beginning_now s) s.at _ found)
 
--- undecided bytes have no end behind them, and are within the limit
+-- undecided bytes have no end after them, and are within the limit
 pub undecided_now_open : (s : State) → beginning_now s ≡ Undecided → (s.ended ≡ false) × (length s.pending ≤ s.limit - s.at)
 undecided_now_open s e =
     let is_open = undecided_open s.ended (s.limit - s.at) s.pending e in

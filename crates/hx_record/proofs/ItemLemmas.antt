@@ -28,7 +28,7 @@ follow_same limit tail n (Fault skip refusal) at f g h same = refl
 follow_same limit tail n (Skip used) at f g h same = same used h.0 h.1
 follow_same limit tail n (Found used event) at f g h same = ap (λ rest. Then (record { offset = at; event = event }) rest) (same used h.0 h.1)
 
--- the items are those of the first piece, and then those behind it
+-- the items are the first one, and then those after it
 pub items_step : (limit : ℕ) (tail : Continuation) (bytes : List ℕ) (at : ℕ) → items limit tail bytes at 0 ≡ items_of_beginning limit (beginning_of tail bytes) at (λ used. items limit tail (drop used bytes) (at + used) 0)
 unfolding items
 items_step limit tail [] at = follow_same limit tail 0 (beginning_of tail []) at _ _ (takes tail []) (λ used some none. absurd (omega arith))
@@ -39,7 +39,8 @@ items_step limit tail (b ∷ bs) at = follow_same limit tail (length (b ∷ bs))
       let less : suc k - 1 ≡ k = omega arith in
       ap (λ n. items limit tail bs (at + 1) n) less ∙ items_skip limit tail bs (at + 1) k (omega arith) ∙ ap (λ place. items limit tail (drop k bs) place 0) (omega arith)
 
--- what stands behind the front of a record that the limit leaves room for stands behind the rest of that front too
+-- what follows the prefix of a record that the limit leaves room for follows the rest of
+-- that front too
 continuation_of-drop : (ends : Bool) (room used : ℕ) (bytes : List ℕ) → used ≤ room → used ≤ length bytes → continuation_of ends (room - used) (drop used bytes) ≡ continuation_of ends room bytes
 continuation_of-drop ends room used bytes within inside =
     let rest : length (drop used bytes) ≡ length bytes - used = length-drop used bytes in

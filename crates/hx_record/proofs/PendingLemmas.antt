@@ -25,7 +25,7 @@ waiting pending wait wanted few =
     let whole : pending ++ [] ≡ pending = append-nil pending in
     rw whole at (wanted [] (rw whole few))
 
--- bytes that come behind leave the wait and the search as they are
+-- bytes that come after leave the wait and the search as they are
 pub wait_more : (pending got : List ℕ) (wait : ℕ) → IsWait pending wait → IsWait (pending ++ got) wait
 wait_more pending got wait wanted more few = rw append_assoc (wanted (got ++ more) (rw (← append_assoc pending got more) few))
 

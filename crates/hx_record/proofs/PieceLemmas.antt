@@ -28,8 +28,8 @@ piece_last tail bytes short all = rw (le-ltb 65536 (line_length bytes) short, le
 
 -- the first line, cut off as the code does
 pub line_first : (tail : Continuation) (bytes : List ℕ) (len : ℕ) (line : Result LineMeaning RecordRefusal) (rest : List ℕ) → len ≡ line_length bytes → len ≤ 65536 → len < length bytes → line ≡ line_meaning (strip_last 13 (take len bytes)) → rest ≡ drop 1 (drop len bytes) → line_beginning tail line (len + 1) rest ≡ beginning_of tail bytes
-line_first tail bytes len line rest first short inside says behind_it =
-    rw (piece_whole tail bytes (omega arith) (omega arith), says, behind_it, drop-drop, first) refl
+line_first tail bytes len line rest first short inside says after_it =
+    rw (piece_whole tail bytes (omega arith) (omega arith), says, after_it, drop-drop, first) refl
 
 -- ---- what a piece takes of so many bytes, and which piece needs which tail
 
@@ -41,10 +41,10 @@ Takes tail n (Fault skip refusal) = skip ≤ n
 Takes tail n (Skip used) = (0 < used) × (used ≤ n)
 Takes tail n (Found used event) = (0 < used) × (used ≤ n)
 
-behind_takes : (tail : Continuation) (n : ℕ) (p : Beginning) → Takes Ends n p → Takes tail n (beginning_at tail p)
-behind_takes Ends n p h = h
-behind_takes Beyond n p h = refl
-behind_takes Open n p h = refl
+at_takes : (tail : Continuation) (n : ℕ) (p : Beginning) → Takes Ends n p → Takes tail n (beginning_at tail p)
+at_takes Ends n p h = h
+at_takes Beyond n p h = refl
+at_takes Open n p h = refl
 
 request_takes : (tail : Continuation) (id len used : ℕ) (rest : List ℕ) (n : ℕ) → 0 < used → used + length rest ≤ n → Takes tail n (request_beginning tail id len used rest)
 unfolding request_beginning
@@ -53,7 +53,7 @@ request_takes tail id len used rest n some fits = elim (cases_lt len (length res
     | inl lf ↦ rw (eq-eqb (get_or rest len 0) 10 lf) (omega arith, omega arith)
     | inr other ↦ rw (ne_eqb (get_or rest len 0) 10 other) (omega arith)
   ])
-  | inr beyond ↦ rw (le-ltb len (length rest) beyond) (behind_takes tail n _ (elim (cases_eq (length rest) len) [
+  | inr beyond ↦ rw (le-ltb len (length rest) beyond) (at_takes tail n _ (elim (cases_eq (length rest) len) [
     | inl whole ↦ rw (eq-eqb (length rest) len whole) (omega arith, omega arith)
     | inr cut ↦ rw (ne_eqb (length rest) len cut) (omega arith)
   ]))
@@ -77,7 +77,7 @@ takes tail bytes = elim (cases_lt 65536 (line_length bytes)) [
   | inl long ↦ rw (piece_long tail bytes long) (omega arith)
   | inr short ↦ elim (cases_lt (line_length bytes) (length bytes)) [
     | inl inside ↦ rw (piece_whole tail bytes short inside) (line_takes tail _ (line_length bytes + 1) (drop (line_length bytes + 1) bytes) (length bytes) (omega arith) (omega (arith, length-drop (line_length bytes + 1) bytes)))
-    | inr all ↦ rw (piece_last tail bytes short all) (behind_takes tail (length bytes) _ (last_takes bytes))
+    | inr all ↦ rw (piece_last tail bytes short all) (at_takes tail (length bytes) _ (last_takes bytes))
   ]
 ]
 

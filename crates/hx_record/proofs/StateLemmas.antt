@@ -29,7 +29,7 @@ pending_decides false ends room pending more may known =
           rw longer (piece_decided (continuation_of ends room (pending ++ more)) pending (take (room - length pending) more) (λ e. known (now ∙ e)) ∙ sym now)
     ]
 
--- the items behind a reader, by the piece that its pending bytes begin with
+-- the items that are left, by what its pending bytes begin with
 now_step : (s : State) (ends : Bool) (more : List ℕ) → MayFollow s ends more → beginning_now s ≢ Undecided → items_after s ends more ≡ items_of_beginning s.limit (beginning_now s) s.at (λ used. items_from ends (s.at + used) (drop used (s.pending ++ more)) s.limit)
 now_step s ends more may known =
     rest_step ends s.at (s.pending ++ more) s.limit ∙ ap (λ p. items_of_beginning s.limit p s.at (λ used. items_from ends (s.at + used) (drop used (s.pending ++ more)) s.limit)) (pending_decides s.ended ends (s.limit - s.at) s.pending more may known)
@@ -86,25 +86,25 @@ fault_now s skip refusal e = now_decided s ∙ rw e refl
 pub long_now : (s : State) → beginning_now s ≡ TooLong → decided_items_now s ≡ Bad s.limit 4
 long_now s e = now_decided s ∙ rw e refl
 
--- the items behind the reader, whatever follows
-pub skip_behind : (s : State) (ends : Bool) (more : List ℕ) (used : ℕ) → MayFollow s ends more → beginning_now s ≡ Skip used → items_after s ends more ≡ items_after (state_past s used) ends more
-skip_behind s ends more used may e =
+-- the items that are left, whatever follows
+pub skip_after : (s : State) (ends : Bool) (more : List ℕ) (used : ℕ) → MayFollow s ends more → beginning_now s ≡ Skip used → items_after s ends more ≡ items_after (state_past s used) ends more
+skip_after s ends more used may e =
     let fits = (skip_passes s used e).1 in
     now_step s ends more may (λ none. let no_skip : Skip used ≡ Undecided = sym e ∙ none in cc) ∙ rw (e, drop-append-le used s.pending more fits) refl
 
-pub found_behind : (s : State) (ends : Bool) (more : List ℕ) (used : ℕ) (event : Event) → MayFollow s ends more → beginning_now s ≡ Found used event → items_after s ends more ≡ Then (record { offset = s.at; event = event }) (items_after (state_past s used) ends more)
-found_behind s ends more used event may e =
+pub found_after : (s : State) (ends : Bool) (more : List ℕ) (used : ℕ) (event : Event) → MayFollow s ends more → beginning_now s ≡ Found used event → items_after s ends more ≡ Then (record { offset = s.at; event = event }) (items_after (state_past s used) ends more)
+found_after s ends more used event may e =
     let fits = (found_passes s used event e).1 in
     now_step s ends more may (λ none. let no_event : Found used event ≡ Undecided = sym e ∙ none in cc) ∙ rw (e, drop-append-le used s.pending more fits) refl
 
-pub finish_behind : (s : State) (ends : Bool) (more : List ℕ) → MayFollow s ends more → beginning_now s ≡ Finish → items_after s ends more ≡ Done
-finish_behind s ends more may e =
+pub finish_after : (s : State) (ends : Bool) (more : List ℕ) → MayFollow s ends more → beginning_now s ≡ Finish → items_after s ends more ≡ Done
+finish_after s ends more may e =
     now_step s ends more may (λ none. let no_end : Finish ≡ Undecided = sym e ∙ none in cc) ∙ rw e refl
 
-pub fault_behind : (s : State) (ends : Bool) (more : List ℕ) (skip : ℕ) (refusal : RecordRefusal) → MayFollow s ends more → beginning_now s ≡ Fault skip refusal → items_after s ends more ≡ Bad (s.at + skip) (code_of refusal)
-fault_behind s ends more skip refusal may e =
+pub fault_after : (s : State) (ends : Bool) (more : List ℕ) (skip : ℕ) (refusal : RecordRefusal) → MayFollow s ends more → beginning_now s ≡ Fault skip refusal → items_after s ends more ≡ Bad (s.at + skip) (code_of refusal)
+fault_after s ends more skip refusal may e =
     now_step s ends more may (λ none. let no_fault : Fault skip refusal ≡ Undecided = sym e ∙ none in cc) ∙ rw e refl
 
-pub long_behind : (s : State) (ends : Bool) (more : List ℕ) → MayFollow s ends more → beginning_now s ≡ TooLong → items_after s ends more ≡ Bad s.limit 4
-long_behind s ends more may e =
+pub long_after : (s : State) (ends : Bool) (more : List ℕ) → MayFollow s ends more → beginning_now s ≡ TooLong → items_after s ends more ≡ Bad s.limit 4
+long_after s ends more may e =
     now_step s ends more may (λ none. let no_length : TooLong ≡ Undecided = sym e ∙ none in cc) ∙ rw e refl

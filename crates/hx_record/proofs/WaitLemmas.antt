@@ -22,7 +22,7 @@ request_open : (id len used : ℕ) (rest : List ℕ) → length rest ≤ len →
 unfolding request_beginning
 request_open id len used rest few = rw (le-ltb len (length rest) few) refl
 
--- behind a line that asks for a request, its bytes and one more are wanted
+-- after a line that asks for a request, its bytes and one more are wanted
 pub wait_request : (bytes : List ℕ) (id len line : ℕ) → beginning_of Open bytes ≡ Undecided → line ≡ line_length bytes → line < length bytes → Ok (Announces id len) ≡ line_meaning (strip_last 13 (take line bytes)) → IsWait bytes (line + len + 2)
 wait_request bytes id len line undecided first inside says more few = elim (cases_lt 65536 (line_length bytes)) [
   | inl long ↦ let no_fault : Fault 0 refusals.LineTooLong ≡ Undecided = sym (piece_long Open bytes long) ∙ undecided in cc

@@ -25,8 +25,8 @@ AreDue s [] = ⊤
 AreDue s (read ∷ reads) =
     (s.ended ≡ false) × (decided_items_now s ≡ Unknown) × AreDue (state_after_read s read) reads
 
--- a read that failed is the last of its call, which then answers that it failed, and answers so only
--- then
+-- a read that failed is the last of its call, which then answers that it failed, and answers so
+-- only then
 abbrev pub FailureIsAnswered : {A : Type 0} → Result A RecordFault → Log → Type 0
 FailureIsAnswered result [] = result ≢ Err Failed
 FailureIsAnswered result (None ∷ reads) = (reads ≡ []) × (result ≡ Err Failed)

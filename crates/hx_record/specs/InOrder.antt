@@ -1,5 +1,5 @@
--- The items of a record as a relation: the rest of a record is cut into a first line or event and a rest, and so on up
--- to its end, to what is refused, or to where more bytes decide.
+-- The items of a record as a relation: the rest of a record is cut into a first line or event and a
+-- rest, and so on up to its end, to what is refused, or to where more bytes decide.
 use Rattle.std.specs.Prelude.{◌≡◌, ℕ, ◌+◌, List, ◌++◌, length, Bool}
 use Rattle.hx_record.specs.declared.events.Event.{Event}
 use Rattle.hx_record.specs.declared.refusal.RecordRefusal.{RecordRefusal}
@@ -8,8 +8,8 @@ use Rattle.hx_record.specs.Beginning.{Undecided, TooLong, Finish, Fault, Skip, F
 use Rattle.hx_record.specs.RefusalCode.{code_of}
 use Rattle.hx_record.specs.Record.{Items, Unknown, Done, Bad, Then, beginning_under}
 
--- These are the items of the rest of a record at this offset, under the limit, where the record ends
--- after the bytes or it isn't known what follows them.
+-- These are the items of the rest of a record at this offset, under the limit, where the record
+-- ends after the bytes or it isn't known what follows them.
 pub data AreItems (ends : Bool) (limit : ℕ) : ℕ → List ℕ → Items → Type 0 where
   passes : (at : ℕ) (bytes line rest : List ℕ) (others : Items)
       → bytes ≡ line ++ rest → beginning_under ends at bytes limit ≡ Skip (length line)

@@ -24,7 +24,8 @@ abbrev ◌>>=◌ : {A B : Type 0} → Result A RecordRefusal → (A → Result B
 Err refusal >>= f = Err refusal
 Ok a >>= f = f a
 
--- The words of a line: what its spaces cut it into. Two spaces in a row have an empty word between them.
+-- The words of a line: what its spaces cut it into. Two spaces in a row have an empty word between
+-- them.
 abbrev pub line_words : List ℕ → List (List ℕ)
 line_words line = slice_split (λ b. b == space) line
 

@@ -9,7 +9,8 @@ use Rattle.hx_record.specs.declared.line.Line.TheVariants as lines
 -- what a line says that was read
 abbrev pub meaning_read : Line → LineMeaning
 meaning_read lines.Skip = Nothing
-meaning_read (lines.Conn id src src_port dst dst_port) = Says (events.Conn id src src_port dst dst_port)
+meaning_read (lines.Conn id src src_port dst dst_port) =
+    Says (events.Conn id src src_port dst dst_port)
 meaning_read (lines.Req id len) = Announces id len
 meaning_read (lines.Close id) = Says (events.Close id)
 meaning_read (lines.Cli session text) = Says (events.Cli session text.now)

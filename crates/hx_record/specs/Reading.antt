@@ -17,7 +17,8 @@ use Rattle.hx_record.specs.Asking.{WereDue}
 abbrev pub Answers : Items → Items → Result (Option Placed) RecordFault → Type 0
 Answers before after (Ok (Some event)) = before ≡ Then event after
 Answers before after (Ok None) = (before ≡ Done) × (after ≡ Done)
-Answers before after (Err (faults.Bad offset code)) = (before ≡ Bad offset code) × (after ≡ Bad offset code)
+Answers before after (Err (faults.Bad offset code)) =
+    (before ≡ Bad offset code) × (after ≡ Bad offset code)
 Answers before after (Err faults.Failed) = after ≡ before
 Answers before after (Err faults.NoMemory) = after ≡ before
 
@@ -28,7 +29,8 @@ pub record Reads (before after : State) (left left' : Option (List ℕ)) (log lo
   pub took : List ℕ
   pub consumed : Consumes left left' took
   pub asked : HoldsSince log log'
-      (WereDue before (record before { pending = before.pending ++ took; ended = after.ended }) result)
+      (WereDue before
+      (record before { pending = before.pending ++ took; ended = after.ended }) result)
   pub passed : List ℕ
   pub bytes : before.pending ++ took ≡ passed ++ after.pending
   pub offset : after.at ≡ before.at + length passed
@@ -47,18 +49,19 @@ abbrev pub IsEvent : Next → Type 0
 IsEvent (Event event) = Unit {0}
 IsEvent _ = ⊥
 
--- What a call answers that reads nothing, with the items before it and after it: as `Answers` has it,
--- and where more bytes are needed the items stay. No source fails.
+-- What a call answers that reads nothing, with the items before it and after it: as `Answers` has
+-- it, and where more bytes are needed the items stay. No source fails.
 abbrev pub AnswersNext : Items → Items → Result Next RecordFault → Type 0
 AnswersNext before after (Ok (Event event)) = before ≡ Then event after
 AnswersNext before after (Ok End) = (before ≡ Done) × (after ≡ Done)
 AnswersNext before after (Ok Undecided) = after ≡ before
-AnswersNext before after (Err (faults.Bad offset code)) = (before ≡ Bad offset code) × (after ≡ Bad offset code)
+AnswersNext before after (Err (faults.Bad offset code)) =
+    (before ≡ Bad offset code) × (after ≡ Bad offset code)
 AnswersNext before after (Err faults.Failed) = ⊥
 AnswersNext before after (Err faults.NoMemory) = after ≡ before
 
--- What a call does that reads nothing: it passes over a prefix of the bytes that the reader has, and
--- answers, whatever follows.
+-- What a call does that reads nothing: it passes over a prefix of the bytes that the reader has,
+-- and answers, whatever follows.
 pub record Decides (before after : State) (result : Result Next RecordFault) : Type 0 where
   pub passed : List ℕ
   pub bytes : before.pending ≡ passed ++ after.pending

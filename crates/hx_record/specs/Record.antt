@@ -1,5 +1,5 @@
--- The items of a record: its events, each with its offset, and how it ends. `InOrder` says as a relation what
--- these functions compute, and a law ties the two.
+-- The items of a record: its events, each with its offset, and how it ends. `InOrder` says as a
+-- relation what these functions compute, and a law ties the two.
 use Rattle.std.specs.Prelude.{ℕ, zero, suc, ◌+◌, ◌-◌, List, [], ◌∷◌, length, take, Bool, true, false, nat_lt, if◌then◌else◌}
 use Rattle.hx_record.specs.declared.events.Placed.{Placed}
 use Rattle.hx_record.specs.declared.refusal.RecordRefusal.TheVariants as refusals
@@ -14,8 +14,8 @@ pub data Items : Type 0 where
   Bad : (offset code : ℕ) → Items
   Then : (event : Placed) (rest : Items) → Items
 
--- The items of bytes at the offset `at` that begin so, where the bytes after the first `used` have the
--- items `rest used`. A record that is too long is refused at the limit.
+-- The items of bytes at the offset `at` that begin so, where the bytes after the first `used` have
+-- the items `rest used`. A record that is too long is refused at the limit.
 abbrev pub items_of_beginning : ℕ → Beginning → ℕ → (ℕ → Items) → Items
 items_of_beginning limit Undecided at rest = Unknown
 items_of_beginning limit TooLong at rest = Bad limit (code_of refusals.TooLong)
@@ -30,17 +30,18 @@ unfoldable pub items : ℕ → Continuation → List ℕ → ℕ → ℕ → Ite
 items limit next [] at skip = items_of_beginning limit (beginning_of next []) at (λ used. Unknown)
 items limit next (b ∷ bs) at (suc skip) = items limit next bs (at + 1) skip
 items limit next (b ∷ bs) at zero =
-    items_of_beginning limit (beginning_of next (b ∷ bs)) at (λ used. items limit next bs (at + 1) (used - 1))
+    items_of_beginning limit (beginning_of next (b ∷ bs)) at
+    (λ used. items limit next bs (at + 1) (used - 1))
 
--- What follows the bytes that the limit leaves `room` for: the byte at the limit, if it is there, and
--- else the record's end where `ends`, or it isn't known.
+-- What follows the bytes that the limit leaves `room` for: the byte at the limit, if it is there,
+-- and else the record's end where `ends`, or it isn't known.
 abbrev pub continuation_of : Bool → ℕ → List ℕ → Continuation
 continuation_of ends room bytes =
     if nat_lt room (length bytes) then Beyond else if ends then Ends else Open
 
 -- The items of the rest of a record at the offset `at`, under a limit on the whole record. Where
--- `ends`, the record ends after these bytes; else it isn't known what follows them, and these are the
--- items that they decide whatever it is.
+-- `ends`, the record ends after these bytes; else it isn't known what follows them, and these are
+-- the items that they decide whatever it is.
 unfoldable pub items_from : Bool → ℕ → List ℕ → ℕ → Items
 items_from ends at bytes limit =
     items limit (continuation_of ends (limit - at) bytes) (take (limit - at) bytes) at 0

@@ -10,8 +10,8 @@ pub record State : Type 0 where
   pub pending : List ℕ
   pub ended : Bool
 
--- the items that are left, where `more` follows the pending bytes, and the record ends after it where
--- `ends`
+-- the items that are left, where `more` follows the pending bytes, and the record ends after it
+-- where `ends`
 abbrev pub items_after : State → Bool → List ℕ → Items
 items_after s ends more = items_from ends s.at (s.pending ++ more) s.limit
 

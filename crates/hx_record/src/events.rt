@@ -27,7 +27,7 @@ pub enum Event {
     },
 }
 
-/// An event, and the place in the record at which its line begins.
+/// An event, and the offset in the record at which its line begins.
 #[derive(Debug, Drop)]
 pub struct Placed {
     pub offset: u64,

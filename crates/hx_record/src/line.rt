@@ -22,7 +22,7 @@ pub(crate) enum Line<'a> {
         dst: Ip,
         dst_port: u16,
     },
-    /// The `len` bytes behind the line are a request.
+    /// The `len` bytes after the line are a request.
     Req {
         id: u32,
         len: u32,
@@ -59,7 +59,7 @@ fn address(word: &[u8]) -> Result<Ip, RecordRefusal>
     read_ip(word).ok_or(RecordRefusal::BadLine)
 }
 
-/// The text before the first space, and what stands behind it, where there is one.
+/// The text before the first space, and what follows it, where there is one.
 fn cut(text: &[u8]) -> (&[u8], Option<&[u8]>)
     ensures { line_words text.now ≡ result.0.now ∷ words_after (option_copied result.1) }
 {
@@ -69,11 +69,12 @@ fn cut(text: &[u8]) -> (&[u8], Option<&[u8]>)
     }
 }
 
-/// The next word, and what stands behind it. Refused where none is left.
+/// The next word, and what follows it. Refused where none is left.
 fn word(rest: Option<&[u8]>) -> Result<(&[u8], Option<&[u8]>), RecordRefusal>
     ensures { MatchResult result
         (λ p. words_after (option_copied rest.entry) ≡ p.0.now ∷ words_after (option_copied p.1))
-        (λ refusal. (words_after (option_copied rest.entry) ≡ []) × (refusal ≡ RecordRefusal.BadLine)) }
+        (λ refusal. (words_after (option_copied rest.entry) ≡ [])
+        × (refusal ≡ RecordRefusal.BadLine)) }
 {
     match rest {
         Some(text) => Ok(cut(text)),
@@ -86,7 +87,8 @@ fn word(rest: Option<&[u8]>) -> Result<(&[u8], Option<&[u8]>), RecordRefusal>
 fn no_word(rest: Option<&[u8]>) -> Result<(), RecordRefusal>
     ensures { MatchResult result
         (λ _. words_after (option_copied rest.entry) ≡ [])
-        (λ refusal. IsSomeWords (words_after (option_copied rest.entry)) × (refusal ≡ RecordRefusal.BadLine)) }
+        (λ refusal. IsSomeWords (words_after (option_copied rest.entry))
+        × (refusal ≡ RecordRefusal.BadLine)) }
 {
     match rest {
         Some(_) => Err(RecordRefusal::BadLine),

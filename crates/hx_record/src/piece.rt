@@ -15,7 +15,7 @@ use std::alloc::Global;
 /// How many bytes a line has at most before its LF.
 const LINE_MAX: usize = 65_536;
 
-/// What stands behind the bytes of a record.
+/// What follows the bytes of a record that are given.
 #[derive(Clone, Copy)]
 pub(crate) enum Tail {
     /// The record's end.
@@ -29,9 +29,9 @@ pub(crate) enum Tail {
 /// What the bytes of a record begin with.
 #[derive(Drop)]
 pub(crate) enum Piece {
-    /// More bytes are wanted to tell it.
+    /// More bytes decide it.
     Undecided,
-    /// The byte at the limit is wanted, and is there.
+    /// The byte at the limit is needed, and is there.
     TooLong,
     /// Nothing: the record ends.
     Finish,
@@ -54,7 +54,7 @@ fn found(alloc: Global, used: usize, id: u32, bytes: &[u8]) -> Result<Piece, NoM
     })
 }
 
-/// The request of `len` bytes behind a line of `used` bytes, which `rest` follows.
+/// The request of `len` bytes after a line of `used` bytes, which `rest` follows.
 #[tactic(auto, unfolding(crate::specs::Beginning::request_beginning))]
 fn read_request(
     alloc: Global,
@@ -65,8 +65,10 @@ fn read_request(
     rest: &[u8],
 ) -> Result<Piece, NoMemory>
     requires { used + length rest.now < 2 ^ 64 }
-    ensures ok { IfOk result (λ p. piece_beginning p ≡ request_beginning (continuation tail) id len used rest.now) }
-    ensures err { OnErr result (IsFound (request_beginning (continuation tail) id len used rest.now)) }
+    ensures ok { IfOk result (λ p.
+        piece_beginning p ≡ request_beginning (continuation tail) id len used rest.now) }
+    ensures err { OnErr result (IsFound
+        (request_beginning (continuation tail) id len used rest.now)) }
 {
     if len < rest.len() {
         if rest[len] != b'\n' {
@@ -98,8 +100,10 @@ fn line_piece(
     rest: &[u8],
 ) -> Result<Piece, NoMemory>
     requires { used + length rest.now < 2 ^ 64 }
-    ensures ok { IfOk result (λ p. piece_beginning p ≡ line_beginning (continuation tail) (result_meaning line.entry) used rest.now) }
-    ensures err { OnErr result (IsFound (line_beginning (continuation tail) (result_meaning line.entry) used rest.now)) }
+    ensures ok { IfOk result (λ p. piece_beginning p
+        ≡ line_beginning (continuation tail) (result_meaning line.entry) used rest.now) }
+    ensures err { OnErr result (IsFound
+        (line_beginning (continuation tail) (result_meaning line.entry) used rest.now)) }
 {
     let event = match line {
         Err(refusal) => return Ok(Piece::Fault { skip: 0, refusal }),
@@ -132,8 +136,10 @@ fn line_piece(
 }
 
 fn read_last(alloc: Global, tail: Tail, bytes: &[u8]) -> Result<Piece, NoMemory>
-    ensures ok { IfOk result (λ p. piece_beginning p ≡ beginning_at (continuation tail) (last_line_beginning bytes.now)) }
-    ensures err { OnErr result (IsFound (beginning_at (continuation tail) (last_line_beginning bytes.now))) }
+    ensures ok { IfOk result (λ p.
+        piece_beginning p ≡ beginning_at (continuation tail) (last_line_beginning bytes.now)) }
+    ensures err { OnErr result (IsFound
+        (beginning_at (continuation tail) (last_line_beginning bytes.now))) }
 {
     match tail {
         Tail::Open => Ok(Piece::Undecided),
@@ -146,7 +152,7 @@ fn read_last(alloc: Global, tail: Tail, bytes: &[u8]) -> Result<Piece, NoMemory>
     }
 }
 
-/// What the bytes begin with, whose first line has `len` bytes. Memory is wanted for an event
+/// What the bytes begin with, whose first line has `len` bytes. Memory is taken for an event
 /// alone.
 #[tactic(auto, unfolding(crate::specs::Beginning::beginning_of))]
 pub(crate) fn read_piece(
@@ -168,13 +174,13 @@ pub(crate) fn read_piece(
     if len >= bytes.len() {
         return read_last(alloc, tail, bytes);
     }
-    let (line, behind) = bytes.split_at(len);
-    let (_, rest) = behind.split_at(1);
+    let (line, after) = bytes.split_at(len);
+    let (_, rest) = after.split_at(1);
     line_piece(alloc, tail, read_line(without_cr(line)), len + 1, rest)
 }
 
-/// How many bytes are wanted at least to tell what these begin with, whose first line has `len`
-/// bytes. They don't tell it.
+/// How many bytes at least decide what these begin with, whose first line has `len` bytes. These
+/// don't decide it.
 #[tactic(auto, using(crate::proofs::WaitLemmas::wait_line, crate::proofs::WaitLemmas::wait_request, crate::proofs::WaitLemmas::wait_none))]
 pub(crate) fn wanted(bytes: &[u8], len: usize) -> usize
     requires first { len ≡ line_length bytes.now }
@@ -204,13 +210,15 @@ pub(crate) fn piece_under(
 ) -> Result<Piece, NoMemory>
     requires scanned { scanned ≤ line_length pending.now }
     requires wait { IsWait pending.now wait }
-    ensures ok { IfOk result (λ p. piece_beginning p ≡ beginning_of (continuation_of ended room pending.now) (take room pending.now)) }
-    ensures err { OnErr result (IsFound (beginning_of (continuation_of ended room pending.now) (take room pending.now))) }
+    ensures ok { IfOk result (λ p. piece_beginning p
+        ≡ beginning_of (continuation_of ended room pending.now) (take room pending.now)) }
+    ensures err { OnErr result (IsFound
+        (beginning_of (continuation_of ended room pending.now) (take room pending.now))) }
 {
     if pending.len() as u64 > room {
-        let (front, _) = pending.split_at(room as usize);
-        let len = first_at(b'\n', front, scanned.min(front.len()));
-        return read_piece(alloc, Tail::Beyond, front, len);
+        let (within, _) = pending.split_at(room as usize);
+        let len = first_at(b'\n', within, scanned.min(within.len()));
+        return read_piece(alloc, Tail::Beyond, within, len);
     }
     if !ended && pending.len() < wait {
         return Ok(Piece::Undecided);
@@ -220,8 +228,8 @@ pub(crate) fn piece_under(
     read_piece(alloc, tail, pending, len)
 }
 
-/// Where the search for the LF goes on, and how many bytes are wanted at least, where the pending
-/// bytes decide nothing.
+/// Where the search for the LF goes on, and how many bytes at least decide something, where the
+/// pending bytes decide nothing.
 pub(crate) fn waits(pending: &[u8], scanned: usize) -> (usize, usize)
     requires scanned { scanned ≤ line_length pending.now }
     requires undecided { beginning_of Open pending.now ≡ Undecided }

@@ -20,8 +20,8 @@ use std::marker::Model;
 /// Reads a record from a source, one event a call.
 ///
 /// Contracts see a reader as its limit on the record, how many bytes it has passed, the bytes that
-/// it took and has not passed, and whether a read told the record's end. What is left of the record
-/// is those bytes and then what the source has left, so each call of one reader is lent the same
+/// it took and has not passed, and whether a read found the record's end. What is left of the
+/// record is those bytes and then what the source has left, so each call of one reader is lent the same
 /// source.
 #[derive(Drop)]
 pub struct Reader {
@@ -63,11 +63,11 @@ impl Reader {
         }
     }
 
-    /// The next event of the record, and the place at which its line begins. None at the record's
+    /// The next event of the record, and the offset at which its line begins. None at the record's
     /// end.
     ///
     /// `source` is the same at each call of one reader. It is read only where the bytes that it
-    /// gave don't tell the next item, and no more once it told its end. `Bad` where the record is
+    /// gave don't decide the next item, and no more once it gave its end. `Bad` where the record is
     /// refused: each later call answers the same. `Failed` exactly where a read failed, which the
     /// source counts, and `NoMemory` where memory runs out: nothing that was read is lost, and a
     /// later call goes on from there.
@@ -90,7 +90,7 @@ impl Reader {
         ensures undecided { result ≡ Err RecordFault.Failed
             → (self.new.ended ≡ false) × (decided_items_now self.new ≡ Unknown) }
 
-        // `reads` says of each read that it was due, for a source that tells its log. These say of
+        // `reads` says of each read that it was due, for a source whose log is known. These say of
         // any source that it is left alone where none is due when the call begins.
         ensures unasked { decided_items_now self.old ≢ Unknown → source.new ≡ source.old }
         ensures over { self.old.ended ≡ true → source.new ≡ source.old }
@@ -110,7 +110,7 @@ impl Reader {
         }
     }
 
-    /// The next event of the record where the bytes that were read decide it, and the place at
+    /// The next event of the record where the bytes that were read decide it, and the offset at
     /// which its line begins. Lines that say nothing are passed over. `End` at the record's end,
     /// and `Undecided` where a caller goes on by `fill`. No source is read.
     ///
@@ -139,7 +139,7 @@ impl Reader {
                 Piece::Undecided => return Ok(Next::Undecided),
                 Piece::Skip { used } => self.advance(used),
                 Piece::Found { used, event } => {
-                    let offset = self.place(0);
+                    let offset = self.offset_past(0);
                     self.advance(used);
                     return Ok(Next::Event(Placed { offset, event }));
                 }
@@ -152,7 +152,7 @@ impl Reader {
                     });
                 }
                 Piece::Fault { skip, refusal } => {
-                    let offset = self.place(skip);
+                    let offset = self.offset_past(skip);
                     return Err(RecordFault::Bad {
                         offset,
                         code: refusal.code(),
@@ -169,7 +169,8 @@ impl Reader {
         ensures ok { OnOk result (Fills self.old self.new (S.left source.old) (S.left source.new)
             (S.log source.old) (S.log source.new)) }
         ensures err { OnErr result (self.new ≡ self.old) }
-        ensures log { IfErr result (λ fault. LogsFault fault (S.log source.old) (S.log source.new)) }
+        ensures log { IfErr result (λ fault.
+            LogsFault fault (S.log source.old) (S.log source.new)) }
         ensures kept { OnErr result (Keeps (S.left source.old) (S.left source.new)) }
         ensures later { S.faults source.old ≤ S.faults source.new }
         ensures failed { result ≡ Err RecordFault.Failed
@@ -191,7 +192,7 @@ impl Reader {
         self.limit
     }
 
-    fn place(&self, skip: usize) -> u64
+    fn offset_past(&self, skip: usize) -> u64
         requires { self.now.at + skip ≤ self.now.limit }
         ensures { result ≡ self.now.at + skip }
     {
@@ -212,10 +213,10 @@ impl Reader {
         self.wait = 0;
     }
 
-    /// What the pending bytes begin with. Memory is wanted for an event alone.
+    /// What the pending bytes begin with. Memory is taken for an event alone.
     fn judge(&mut self) -> Result<Piece, NoMemory>
         ensures same { self.new ≡ self.old }
-        ensures place { self.old.at ≤ self.old.limit }
+        ensures within { self.old.at ≤ self.old.limit }
         ensures ok { IfOk result (λ piece. piece_beginning piece ≡ beginning_now self.old) }
         ensures err { OnErr result (IsFound (beginning_now self.old)) }
     {

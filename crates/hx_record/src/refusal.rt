@@ -4,10 +4,10 @@ ghost use Rattle.hx_record.specs.RefusalCode.{code_of};
 /// Why the bytes of a record are refused.
 #[derive(Clone, Copy, Debug, PartialEq, Eq)]
 pub enum RecordRefusal {
-    /// An unknown first word, a wrong number of words, no address where one is wanted, or a byte
-    /// other than LF behind a request.
+    /// An unknown first word, a wrong number of words, no address where one is needed, or a byte
+    /// other than LF after a request.
     BadLine,
-    /// No number where one is wanted, or one above its limit.
+    /// No number where one is needed, or one above its limit.
     BadNumber,
     /// The record ends before the bytes of a request do.
     CutRequest,
@@ -18,7 +18,7 @@ pub enum RecordRefusal {
 }
 
 impl RecordRefusal {
-    /// The number by which a refusal is told.
+    /// The code of the refusal, as `RecordFault` has it.
     pub fn code(self) -> u32
         ensures { result ≡ code_of self }
     {

@@ -29,7 +29,7 @@ pub returns-in-Undecided-clause-within : goal.returns-in-Undecided-clause-within
 returns-in-Undecided-clause-within c undecided =
     let e = sym c.in_ok-judge.ensures.ok ∙ ap piece_beginning c.in-Undecided.is in
     let fits = (undecided_now_open c.lines.self e).1 in
-    let within = c.judge.ensures.place in
+    let within = c.judge.ensures.within in
     rw c.judge.ensures.same (omega arith)
 
 pub advance-requires-clause-pending : goal.advance-requires-clause-pending
@@ -40,17 +40,17 @@ advance-requires-clause-pending c =
 pub advance-requires-clause-limit : goal.advance-requires-clause-limit
 advance-requires-clause-limit c =
     let e = sym c.in_ok-judge.ensures.ok ∙ ap piece_beginning c.in-Skip.is in
-    rw c.judge.ensures.same ((skip_passes c.lines.self c.in-Skip.used e).2 c.judge.ensures.place)
+    rw c.judge.ensures.same ((skip_passes c.lines.self c.in-Skip.used e).2 c.judge.ensures.within)
 
 pub lines-smaller : goal.lines-smaller
 lines-smaller c =
     let e = sym c.in_ok-judge.ensures.ok ∙ ap piece_beginning c.in-Skip.is in
-    rw (c.advance.ensures, c.judge.ensures.same) (work_skip c.lines.self c.in-Skip.used c.judge.ensures.place e)
+    rw (c.advance.ensures, c.judge.ensures.same) (work_skip c.lines.self c.in-Skip.used c.judge.ensures.within e)
 
 pub lines-preserved : goal.lines-preserved
 lines-preserved c =
     let e = sym c.in_ok-judge.ensures.ok ∙ ap piece_beginning c.in-Skip.is in
-    let less = work_skip c.lines.self c.in-Skip.used c.judge.ensures.place e in
+    let less = work_skip c.lines.self c.in-Skip.used c.judge.ensures.within e in
     let so_far = c.lines.invariant in
     rw (c.advance.ensures, c.judge.ensures.same) (record {
       passes = lines_skip c.args.self.now c.lines.self c.in-Skip.used so_far.passes e;
@@ -66,33 +66,33 @@ advance-requires-in-Found-clause-pending c =
 pub advance-requires-in-Found-clause-limit : goal.advance-requires-in-Found-clause-limit
 advance-requires-in-Found-clause-limit c =
     let e = sym c.in_ok-judge.ensures.ok ∙ ap piece_beginning c.in-Found.is in
-    rw c.judge.ensures.same ((found_passes c.lines.self c.in-Found.used c.in-Found.event e).2 c.judge.ensures.place)
+    rw c.judge.ensures.same ((found_passes c.lines.self c.in-Found.used c.in-Found.event e).2 c.judge.ensures.within)
 
 pub returns-in-Found-clause-decides : goal.returns-in-Found-clause-decides
 returns-in-Found-clause-decides c =
     let e = sym c.in_ok-judge.ensures.ok ∙ ap piece_beginning c.in-Found.is in
-    rw (c.place-offset.ensures, c.advance-in-Found.ensures, c.judge.ensures.same, add-zero) (decides_event c.args.self.now c.lines.self c.in-Found.used c.in-Found.event c.lines.invariant.passes e)
+    rw (c.offset_past-offset.ensures, c.advance-in-Found.ensures, c.judge.ensures.same, add-zero) (decides_event c.args.self.now c.lines.self c.in-Found.used c.in-Found.event c.lines.invariant.passes e)
 
 pub returns-in-Found-clause-moves : goal.returns-in-Found-clause-moves
 returns-in-Found-clause-moves c =
     let e = sym c.in_ok-judge.ensures.ok ∙ ap piece_beginning c.in-Found.is in
     let passes = found_passes c.lines.self c.in-Found.used c.in-Found.event e in
     let some = passes.0 in
-    let within = passes.2 c.judge.ensures.place in
+    let within = passes.2 c.judge.ensures.within in
     let later = c.lines.invariant.later in
     rw (c.advance-in-Found.ensures, c.judge.ensures.same) (λ event. (omega arith, within))
 
 pub returns-in-Found-clause-less : goal.returns-in-Found-clause-less
 returns-in-Found-clause-less c =
     let e = sym c.in_ok-judge.ensures.ok ∙ ap piece_beginning c.in-Found.is in
-    let less = work_found c.lines.self c.in-Found.used c.in-Found.event c.judge.ensures.place e in
+    let less = work_found c.lines.self c.in-Found.used c.in-Found.event c.judge.ensures.within e in
     let so_far = c.lines.invariant.work in
     rw (c.advance-in-Found.ensures, c.judge.ensures.same) (λ event. omega (arith, less, so_far))
 
 pub returns-in-Found-clause-no_more : goal.returns-in-Found-clause-no_more
 returns-in-Found-clause-no_more c =
     let e = sym c.in_ok-judge.ensures.ok ∙ ap piece_beginning c.in-Found.is in
-    let less = work_found c.lines.self c.in-Found.used c.in-Found.event c.judge.ensures.place e in
+    let less = work_found c.lines.self c.in-Found.used c.in-Found.event c.judge.ensures.within e in
     let so_far = c.lines.invariant.work in
     rw (c.advance-in-Found.ensures, c.judge.ensures.same) (omega (arith, less, so_far))
 
@@ -111,12 +111,12 @@ returns-in-TooLong-clause-decides c =
     let e = sym c.in_ok-judge.ensures.ok ∙ ap piece_beginning c.in-TooLong.is in
     rw (c.limit-offset.ensures, c.code.ensures, c.judge.ensures.same) (decides_long c.args.self.now c.lines.self c.lines.invariant.passes e)
 
-pub place-offset-requires-in-Fault : goal.place-offset-requires-in-Fault
-place-offset-requires-in-Fault c =
+pub offset_past-offset-requires-in-Fault : goal.offset_past-offset-requires-in-Fault
+offset_past-offset-requires-in-Fault c =
     let e = sym c.in_ok-judge.ensures.ok ∙ ap piece_beginning c.in-Fault.is in
-    rw c.judge.ensures.same (fault_within c.lines.self c.in-Fault.skip c.in-Fault.refusal e c.judge.ensures.place)
+    rw c.judge.ensures.same (fault_within c.lines.self c.in-Fault.skip c.in-Fault.refusal e c.judge.ensures.within)
 
 pub returns-in-Fault-clause-decides : goal.returns-in-Fault-clause-decides
 returns-in-Fault-clause-decides c =
     let e = sym c.in_ok-judge.ensures.ok ∙ ap piece_beginning c.in-Fault.is in
-    rw (c.place-offset-in-Fault.ensures, c.code-in-Fault.ensures, c.judge.ensures.same) (decides_fault c.args.self.now c.lines.self c.in-Fault.skip c.in-Fault.refusal c.lines.invariant.passes e)
+    rw (c.offset_past-offset-in-Fault.ensures, c.code-in-Fault.ensures, c.judge.ensures.same) (decides_fault c.args.self.now c.lines.self c.in-Fault.skip c.in-Fault.refusal c.lines.invariant.passes e)
