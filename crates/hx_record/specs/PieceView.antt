@@ -1,5 +1,4 @@
 -- What the code finds in the pending bytes, in the words of the definitions.
-use Rattle.std.specs.Prelude.{ℕ}
 use Rattle.hx_record.specs.Beginning.{Continuation, Beginning}
 use Rattle.hx_record.specs.Beginning as beginnings
 use Rattle.hx_record.specs.declared.piece.Tail.{Tail}

@@ -1,4 +1,4 @@
-ghost use Rattle.std.specs.Prelude.{◌≡◌, ◌+◌, ◌-◌, ◌<◌, ◌≤◌, ◌++◌, [], length, take, drop, IfOk, OnOk, OnErr, None, vec_len};
+ghost use Rattle.std.specs.Prelude.{◌≡◌, ◌+◌, ◌-◌, ◌<◌, ◌≤◌, [], length, take, drop, IfOk, OnOk, OnErr, None, vec_len};
 ghost use Rattle.std.specs.Io.KnownBytes.{ReadConsumes, Keeps};
 ghost use Rattle.hx_outside.specs.Count.{Rose};
 ghost use Rattle.hx_outside.specs.Log.{Logs, bytes_read};
