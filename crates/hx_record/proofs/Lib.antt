@@ -6,7 +6,8 @@ pub mod WaitLemmas
 pub mod PendingLemmas
 pub mod WindowLemmas
 pub mod StateLemmas
+pub mod DecisionLemmas
 pub mod ReadLemmas
 pub mod AskLemmas
 pub mod AnswerLemmas
-pub mod OrderLemmas
+pub mod LawLemmas

@@ -3,16 +3,14 @@ use Rattle.std.proofs.Common.{◌≡◌, ℕ, ◌+◌, ◌<◌, ◌≤◌, List,
 use Rattle.std.specs.Io.BufRead.{strip_last}
 use Rattle.std.proofs.lemmas.Bool.{cases_lt, le-ltb}
 use Rattle.std.proofs.lemmas.List.{take-append-le}
-use Rattle.hx_record.specs.declared.refusal.Refusal.TheVariants as refusals
-use Rattle.hx_record.specs.declared.piece.Tail.TheVariants.{Open}
-use Rattle.hx_record.specs.declared.piece.Piece.TheVariants.{Undecided, Fault}
-use Rattle.hx_record.specs.Line.{Announces, line_says}
-use Rattle.hx_record.specs.Piece.{request, line_len, piece}
-use Rattle.hx_record.proofs.PieceLemmas.{piece_long, piece_whole, line_len-append}
+use Rattle.hx_record.specs.declared.refusal.RecordRefusal.TheVariants as refusals
+use Rattle.hx_record.specs.Beginning.{Open, Undecided, Fault, request_beginning, line_length, beginning_of}
+use Rattle.hx_record.specs.Line.{Announces, line_meaning}
+use Rattle.hx_record.proofs.PieceLemmas.{piece_long, piece_whole, line_length-append}
 use Rattle.hx_record.specs.Parts.{IsWait}
 
 -- without an LF one byte more is wanted
-pub wait_line : (bytes : List ℕ) → piece Open bytes ≡ Undecided → IsWait bytes (length bytes + 1)
+pub wait_line : (bytes : List ℕ) → beginning_of Open bytes ≡ Undecided → IsWait bytes (length bytes + 1)
 wait_line bytes undecided [] few = rw append-nil undecided
 wait_line bytes undecided (b ∷ bs) few = absurd (omega (arith, length-append bytes (b ∷ bs)))
 
@@ -20,20 +18,20 @@ wait_line bytes undecided (b ∷ bs) few = absurd (omega (arith, length-append b
 pub wait_none : (bytes : List ℕ) → IsWait bytes 0
 wait_none bytes more few = absurd (omega arith)
 
-request_open : (id len used : ℕ) (rest : List ℕ) → length rest ≤ len → request Open id len used rest ≡ Undecided
-unfolding request
+request_open : (id len used : ℕ) (rest : List ℕ) → length rest ≤ len → request_beginning Open id len used rest ≡ Undecided
+unfolding request_beginning
 request_open id len used rest few = rw (le-ltb len (length rest) few) refl
 
--- behind a line that asks for a request, its bytes and one more are wanted
-pub wait_request : (bytes : List ℕ) (id len line : ℕ) → piece Open bytes ≡ Undecided → line ≡ line_len bytes → line < length bytes → Ok (Announces id len) ≡ line_says (strip_last 13 (take line bytes)) → IsWait bytes (line + len + 2)
-wait_request bytes id len line undecided first inside says more few = elim (cases_lt 65536 (line_len bytes)) [
+-- after a line that asks for a request, its bytes and one more are wanted
+pub wait_request : (bytes : List ℕ) (id len line : ℕ) → beginning_of Open bytes ≡ Undecided → line ≡ line_length bytes → line < length bytes → Ok (Announces id len) ≡ line_meaning (strip_last 13 (take line bytes)) → IsWait bytes (line + len + 2)
+wait_request bytes id len line undecided first inside says more few = elim (cases_lt 65536 (line_length bytes)) [
   | inl long ↦ let no_fault : Fault 0 refusals.LineTooLong ≡ Undecided = sym (piece_long Open bytes long) ∙ undecided in cc
   | inr short ↦
-      let within : line_len bytes < length bytes = omega arith in
-      let same = line_len-append bytes more within in
+      let within : line_length bytes < length bytes = omega arith in
+      let same = line_length-append bytes more within in
       let size = length-append bytes more in
       let whole = piece_whole Open (bytes ++ more) (omega arith) (omega arith) in
-      let front : take (line_len bytes) (bytes ++ more) ≡ take (line_len bytes) bytes = take-append-le (line_len bytes) bytes more (omega arith) in
-      let said : line_says (strip_last 13 (take (line_len bytes) bytes)) ≡ Ok (Announces id len) = rw (← first) (sym says) in
-      whole ∙ rw (same, front, said) (request_open id len (line_len bytes + 1) (drop (line_len bytes + 1) (bytes ++ more)) (omega (arith, length-drop (line_len bytes + 1) (bytes ++ more))))
+      let front : take (line_length bytes) (bytes ++ more) ≡ take (line_length bytes) bytes = take-append-le (line_length bytes) bytes more (omega arith) in
+      let meaning_read : line_meaning (strip_last 13 (take (line_length bytes) bytes)) ≡ Ok (Announces id len) = rw (← first) (sym says) in
+      whole ∙ rw (same, front, meaning_read) (request_open id len (line_length bytes + 1) (drop (line_length bytes + 1) (bytes ++ more)) (omega (arith, length-drop (line_length bytes + 1) (bytes ++ more))))
 ]

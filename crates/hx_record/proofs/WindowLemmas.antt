@@ -1,4 +1,4 @@
--- Bytes that move within a buffer, and bytes that are read behind them.
+-- Bytes that move within a buffer, and bytes that are read after them.
 use Rattle.std.proofs.Common.{◌≡◌, ℕ, ◌+◌, ◌-◌, ◌≤◌, List, [], ◌++◌, length, take, drop, ap, ◌∙◌, arith, length-drop, length-take-le, append-nil}
 use Rattle.std.specs.List.{copy_within}
 use Rattle.std.proofs.lemmas.Slice.{between_is}
@@ -19,7 +19,7 @@ moved old new start end order inside copied =
     let size : length (take n (drop start old)) ≡ n = length-take-le n (drop start old) (omega (arith, length-drop start old)) in
     ap (take n) copied ∙ take-append-le n (take n (drop start old)) (drop (0 + n) old) (omega arith) ∙ take_all n (take n (drop start old)) (omega arith) ∙ between_is old start end
 
--- bytes that were read behind the others
+-- bytes that were read after the others
 pub grown : (old new : List ℕ) (start end count : ℕ) → start ≤ end → end + count ≤ length new → take end new ≡ take end old → drop start (take (end + count) new) ≡ drop start (take end old) ++ take count (drop end new)
 grown old new start end count order inside same =
     let size : length (take end new) ≡ end = length-take-le end new (omega arith) in

@@ -4,7 +4,7 @@ use Rattle.std.specs.Option.{unwrap_or}
 use Rattle.std.specs.List.{onto_first, join_with_byte}
 use Rattle.std.proofs.lemmas.List.Splits.{join_with_byte-slice_split}
 use Rattle.hx_record.specs.Line.{line_words}
-use Rattle.hx_record.specs.Said.{words_after, IsSomeWords}
+use Rattle.hx_record.specs.LineView.{words_after, IsSomeWords}
 
 -- a text has a word, if it is only an empty one
 pub words_are_some : (text : List ℕ) → IsSomeWords (line_words text)

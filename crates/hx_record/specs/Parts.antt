@@ -1,55 +1,35 @@
 -- What the parts of a reader do.
-use Rattle.std.specs.Prelude.{◌≡◌, ℕ, ◌+◌, ◌<◌, List, [], ◌++◌, length, drop, true, false, Option, None, Some}
+use Rattle.std.specs.Prelude.{◌≡◌, ℕ, ◌+◌, ◌<◌, List, ◌++◌, length, drop, Option, Some}
 use Rattle.std.specs.Io.KnownBytes.{Consumes, IsAtEnd}
 use Rattle.hx_outside.specs.Log.{Log, Logs}
-use Rattle.hx_record.specs.declared.fault.RecordFault.{RecordFault}
-use Rattle.hx_record.specs.declared.fault.RecordFault.TheVariants as faults
-use Rattle.hx_record.specs.declared.piece.Tail.TheVariants.{Open}
-use Rattle.hx_record.specs.declared.piece.Piece.{Piece}
-use Rattle.hx_record.specs.declared.piece.Piece.TheVariants.{Undecided, Found}
-use Rattle.hx_record.specs.Piece.{piece}
-use Rattle.hx_record.specs.Record.{first_piece}
+use Rattle.hx_record.specs.Beginning.{Open, Beginning, Undecided, Found, beginning_of}
+use Rattle.hx_record.specs.Record.{beginning_under}
 use Rattle.hx_record.specs.State.{State}
 
 -- the bytes begin with an event
-abbrev pub IsFound : Piece → Type 0
+abbrev pub IsFound : Beginning → Type 0
 IsFound (Found used event) = Unit {0}
 IsFound _ = ⊥
 
--- While there are fewer bytes than `wait`, these ones in front, nothing is decided.
+-- While there are fewer bytes than `wait`, of which these are a prefix, nothing is decided.
 abbrev pub IsWait : List ℕ → ℕ → Type 0
-IsWait bytes wait = (more : List ℕ) → length (bytes ++ more) < wait → piece Open (bytes ++ more) ≡ Undecided
+IsWait bytes wait = (more : List ℕ) → length (bytes ++ more) < wait
+    → beginning_of Open (bytes ++ more) ≡ Undecided
 
 -- what the pending bytes begin with
-abbrev pub piece_now : State → Piece
-piece_now s = first_piece s.ended s.at s.pending s.limit
+abbrev pub beginning_now : State → Beginning
+beginning_now s = beginning_under s.ended s.at s.pending s.limit
 
 -- so many bytes further
-abbrev pub passed_by : State → ℕ → State
-passed_by s used = record s { at = s.at + used; pending = drop used s.pending }
+abbrev pub state_past : State → ℕ → State
+state_past s used = record s { at = s.at + used; pending = drop used s.pending }
 
--- a read took so many bytes, and put them behind those that were there: none only at the end
-pub record Took (left left' : Option (List ℕ)) (log log' : Option Log) (before after : List ℕ) (count : ℕ) : Type 0 where
+-- a read took so many bytes, and put them after those that were there: none only at the end
+pub record AppendsRead (left left' : Option (List ℕ)) (log log' : Option Log)
+    (before after : List ℕ) (count : ℕ) : Type 0 where
   pub got : List ℕ
   pub consumed : Consumes left left' got
   pub logged : Logs log log' (Some got)
   pub bytes : after ≡ before ++ got
   pub size : length got ≡ count
   pub end : count ≡ 0 → IsAtEnd left'
-
--- a read took bytes, one at least, or told the record's end
-pub record Grows (before after : State) (left left' : Option (List ℕ)) (log log' : Option Log) : Type 0 where
-  pub got : List ℕ
-  pub consumed : Consumes left left' got
-  pub logged : Logs log log' (Some got)
-  pub limit : after.limit ≡ before.limit
-  pub at : after.at ≡ before.at
-  pub pending : after.pending ≡ before.pending ++ got
-  pub some : after.ended ≡ false → 0 < length got
-  pub ended : after.ended ≡ true → (got ≡ []) × IsAtEnd left'
-
--- a fault is none of the record: a read that failed, which is in the log, or memory that ran out, with no read
-abbrev pub Notes : RecordFault → Option Log → Option Log → Type 0
-Notes (faults.Bad offset code) old new = ⊥
-Notes faults.Failed old new = Logs old new None
-Notes faults.NoMemory old new = new ≡ old

@@ -27,9 +27,20 @@ pub enum Event {
     },
 }
 
-/// An event, and the place in the record at which its line begins.
+/// An event, and the offset in the record at which its line begins.
 #[derive(Debug, Drop)]
 pub struct Placed {
     pub offset: u64,
     pub event: Event,
+}
+
+/// What a reader answers without reading its source.
+#[derive(Debug, Drop)]
+pub enum Next {
+    /// The next event.
+    Event(Placed),
+    /// The record ends.
+    End,
+    /// More bytes decide what comes next.
+    Undecided,
 }

@@ -1,9 +1,9 @@
 ghost use Rattle.std.specs.Prelude.{◌≡◌, [], ◌∷◌, MatchResult, IfOk, ◌≤◌, ◌-◌, ◌^◌};
 ghost use Rattle.std.specs.Option.{option_copied};
-ghost use Rattle.hx_record.specs.Line.{line_words, number_of_word, address_of_word, line_says, words_say, conn_says, req_says, close_says, cli_says};
-ghost use Rattle.hx_record.specs.Said.{what_is_said, words_after, IsSomeWords};
+ghost use Rattle.hx_record.specs.Line.{line_words, number_of_word, address_of_word, line_meaning, words_meaning, conn_meaning, req_meaning, close_meaning, cli_meaning};
+ghost use Rattle.hx_record.specs.LineView.{result_meaning, words_after, IsSomeWords};
 
-use crate::refusal::Refusal;
+use crate::refusal::RecordRefusal;
 use hx_text::{Ip, cut_at, read_ip, read_number};
 
 /// How many bytes a request has at most.
@@ -22,7 +22,7 @@ pub(crate) enum Line<'a> {
         dst: Ip,
         dst_port: u16,
     },
-    /// The `len` bytes behind the line are a request.
+    /// The `len` bytes after the line are a request.
     Req {
         id: u32,
         len: u32,
@@ -38,28 +38,28 @@ pub(crate) enum Line<'a> {
     },
 }
 
-fn number(word: &[u8], most: u32) -> Result<u32, Refusal>
+fn number(word: &[u8], most: u32) -> Result<u32, RecordRefusal>
     ensures value { result ≡ number_of_word most word.now }
     ensures within { IfOk result (λ n. n ≤ most) }
 {
-    let n = read_number(word, u64::from(most)).ok_or(Refusal::BadNumber)?;
+    let n = read_number(word, u64::from(most)).ok_or(RecordRefusal::BadNumber)?;
     Ok(n as u32)
 }
 
-fn port(word: &[u8]) -> Result<u16, Refusal>
+fn port(word: &[u8]) -> Result<u16, RecordRefusal>
     ensures { result ≡ number_of_word (2 ^ 16 - 1) word.now }
 {
     let port = number(word, 0xffff)?;
     Ok(port as u16)
 }
 
-fn address(word: &[u8]) -> Result<Ip, Refusal>
+fn address(word: &[u8]) -> Result<Ip, RecordRefusal>
     ensures { result ≡ address_of_word word.now }
 {
-    read_ip(word).ok_or(Refusal::BadLine)
+    read_ip(word).ok_or(RecordRefusal::BadLine)
 }
 
-/// The text before the first space, and what stands behind it, where there is one.
+/// The text before the first space, and what follows it, where there is one.
 fn cut(text: &[u8]) -> (&[u8], Option<&[u8]>)
     ensures { line_words text.now ≡ result.0.now ∷ words_after (option_copied result.1) }
 {
@@ -69,34 +69,36 @@ fn cut(text: &[u8]) -> (&[u8], Option<&[u8]>)
     }
 }
 
-/// The next word, and what stands behind it. Refused where none is left.
-fn word(rest: Option<&[u8]>) -> Result<(&[u8], Option<&[u8]>), Refusal>
+/// The next word, and what follows it. Refused where none is left.
+fn word(rest: Option<&[u8]>) -> Result<(&[u8], Option<&[u8]>), RecordRefusal>
     ensures { MatchResult result
         (λ p. words_after (option_copied rest.entry) ≡ p.0.now ∷ words_after (option_copied p.1))
-        (λ refusal. (words_after (option_copied rest.entry) ≡ []) × (refusal ≡ Refusal.BadLine)) }
+        (λ refusal. (words_after (option_copied rest.entry) ≡ [])
+        × (refusal ≡ RecordRefusal.BadLine)) }
 {
     match rest {
         Some(text) => Ok(cut(text)),
-        None => Err(Refusal::BadLine),
+        None => Err(RecordRefusal::BadLine),
     }
 }
 
 /// Refused where a word is left.
 #[tactic(auto, using(crate::proofs::WordLemmas::words_are_some))]
-fn no_word(rest: Option<&[u8]>) -> Result<(), Refusal>
+fn no_word(rest: Option<&[u8]>) -> Result<(), RecordRefusal>
     ensures { MatchResult result
         (λ _. words_after (option_copied rest.entry) ≡ [])
-        (λ refusal. IsSomeWords (words_after (option_copied rest.entry)) × (refusal ≡ Refusal.BadLine)) }
+        (λ refusal. IsSomeWords (words_after (option_copied rest.entry))
+        × (refusal ≡ RecordRefusal.BadLine)) }
 {
     match rest {
-        Some(_) => Err(Refusal::BadLine),
+        Some(_) => Err(RecordRefusal::BadLine),
         None => Ok(()),
     }
 }
 
-#[tactic(auto, unfolding(crate::specs::Line::conn_says))]
-fn read_conn(rest: Option<&[u8]>) -> Result<Line<'_>, Refusal>
-    ensures { what_is_said result ≡ conn_says (words_after (option_copied rest.entry)) }
+#[tactic(auto, unfolding(crate::specs::Line::conn_meaning))]
+fn read_conn(rest: Option<&[u8]>) -> Result<Line<'_>, RecordRefusal>
+    ensures { result_meaning result ≡ conn_meaning (words_after (option_copied rest.entry)) }
 {
     let (id, rest) = word(rest)?;
     let (src, rest) = word(rest)?;
@@ -118,9 +120,9 @@ fn read_conn(rest: Option<&[u8]>) -> Result<Line<'_>, Refusal>
     })
 }
 
-#[tactic(auto, unfolding(crate::specs::Line::req_says))]
-fn read_req(rest: Option<&[u8]>) -> Result<Line<'_>, Refusal>
-    ensures { what_is_said result ≡ req_says (words_after (option_copied rest.entry)) }
+#[tactic(auto, unfolding(crate::specs::Line::req_meaning))]
+fn read_req(rest: Option<&[u8]>) -> Result<Line<'_>, RecordRefusal>
+    ensures { result_meaning result ≡ req_meaning (words_after (option_copied rest.entry)) }
 {
     let (id, rest) = word(rest)?;
     let (len, rest) = word(rest)?;
@@ -130,9 +132,9 @@ fn read_req(rest: Option<&[u8]>) -> Result<Line<'_>, Refusal>
     Ok(Line::Req { id, len })
 }
 
-#[tactic(auto, unfolding(crate::specs::Line::close_says))]
-fn read_close(rest: Option<&[u8]>) -> Result<Line<'_>, Refusal>
-    ensures { what_is_said result ≡ close_says (words_after (option_copied rest.entry)) }
+#[tactic(auto, unfolding(crate::specs::Line::close_meaning))]
+fn read_close(rest: Option<&[u8]>) -> Result<Line<'_>, RecordRefusal>
+    ensures { result_meaning result ≡ close_meaning (words_after (option_copied rest.entry)) }
 {
     let (id, rest) = word(rest)?;
     no_word(rest)?;
@@ -140,9 +142,9 @@ fn read_close(rest: Option<&[u8]>) -> Result<Line<'_>, Refusal>
     Ok(Line::Close { id })
 }
 
-#[tactic(auto, unfolding(crate::specs::Line::cli_says), using(crate::proofs::WordLemmas::words_joined))]
-fn read_cli(rest: Option<&[u8]>) -> Result<Line<'_>, Refusal>
-    ensures { what_is_said result ≡ cli_says (words_after (option_copied rest.entry)) }
+#[tactic(auto, unfolding(crate::specs::Line::cli_meaning), using(crate::proofs::WordLemmas::words_joined))]
+fn read_cli(rest: Option<&[u8]>) -> Result<Line<'_>, RecordRefusal>
+    ensures { result_meaning result ≡ cli_meaning (words_after (option_copied rest.entry)) }
 {
     let (session, text) = word(rest)?;
     let session = number(session, u32::MAX)?;
@@ -152,9 +154,9 @@ fn read_cli(rest: Option<&[u8]>) -> Result<Line<'_>, Refusal>
     })
 }
 
-#[tactic(auto, unfolding(crate::specs::Line::words_say))]
-fn read_words(line: &[u8]) -> Result<Line<'_>, Refusal>
-    ensures { what_is_said result ≡ words_say (line_words line.now) }
+#[tactic(auto, unfolding(crate::specs::Line::words_meaning))]
+fn read_words(line: &[u8]) -> Result<Line<'_>, RecordRefusal>
+    ensures { result_meaning result ≡ words_meaning (line_words line.now) }
 {
     let (name, rest) = cut(line);
     if name == b"conn".as_slice() {
@@ -166,14 +168,14 @@ fn read_words(line: &[u8]) -> Result<Line<'_>, Refusal>
     } else if name == b"cli".as_slice() {
         read_cli(rest)
     } else {
-        Err(Refusal::BadLine)
+        Err(RecordRefusal::BadLine)
     }
 }
 
 /// What a line says, which is given without its ending.
-#[tactic(auto, unfolding(crate::specs::Line::line_says))]
-pub(crate) fn read_line(line: &[u8]) -> Result<Line<'_>, Refusal>
-    ensures { what_is_said result ≡ line_says line.now }
+#[tactic(auto, unfolding(crate::specs::Line::line_meaning))]
+pub(crate) fn read_line(line: &[u8]) -> Result<Line<'_>, RecordRefusal>
+    ensures { result_meaning result ≡ line_meaning line.now }
 {
     match line {
         [] | [b'#', ..] => Ok(Line::Skip),

@@ -1,20 +1,21 @@
 ghost use Rattle.std.specs.Prelude.{◌≡◌, ◌+◌, ◌^◌, ◌<◌, ◌≤◌, length, take, IfOk, OnErr};
-ghost use Rattle.hx_record.specs.Piece.{behind, request, of_line, last_line, line_len, piece};
-ghost use Rattle.hx_record.specs.Record.{tail_of};
-ghost use Rattle.hx_record.specs.Said.{what_is_said};
+ghost use Rattle.hx_record.specs.Beginning.{beginning_at, request_beginning, line_beginning, last_line_beginning, line_length, beginning_of, Open, Undecided};
+ghost use Rattle.hx_record.specs.Record.{continuation_of};
+ghost use Rattle.hx_record.specs.LineView.{result_meaning};
+ghost use Rattle.hx_record.specs.PieceView.{continuation, piece_beginning};
 ghost use Rattle.hx_record.specs.Parts.{IsFound, IsWait};
 
 use crate::events::Event;
 use crate::find::first_at;
 use crate::line::{Line, read_line};
-use crate::refusal::Refusal;
+use crate::refusal::RecordRefusal;
 use hx_text::{NoMemory, Octets, without_cr};
 use std::alloc::Global;
 
 /// How many bytes a line has at most before its LF.
 const LINE_MAX: usize = 65_536;
 
-/// What stands behind the bytes of a record.
+/// What follows the bytes of a record that are given.
 #[derive(Clone, Copy)]
 pub(crate) enum Tail {
     /// The record's end.
@@ -28,14 +29,14 @@ pub(crate) enum Tail {
 /// What the bytes of a record begin with.
 #[derive(Drop)]
 pub(crate) enum Piece {
-    /// More bytes are wanted to tell it.
+    /// More bytes decide it.
     Undecided,
-    /// The byte at the limit is wanted, and is there.
+    /// The byte at the limit is needed, and is there.
     TooLong,
     /// Nothing: the record ends.
     Finish,
     /// What is refused, so many bytes on.
-    Fault { skip: usize, refusal: Refusal },
+    Fault { skip: usize, refusal: RecordRefusal },
     /// A line of so many bytes that says nothing.
     Skip { used: usize },
     /// An event of so many bytes.
@@ -53,8 +54,8 @@ fn found(alloc: Global, used: usize, id: u32, bytes: &[u8]) -> Result<Piece, NoM
     })
 }
 
-/// The request of `len` bytes behind a line of `used` bytes, which `rest` follows.
-#[tactic(auto, unfolding(crate::specs::Piece::request))]
+/// The request of `len` bytes after a line of `used` bytes, which `rest` follows.
+#[tactic(auto, unfolding(crate::specs::Beginning::request_beginning))]
 fn read_request(
     alloc: Global,
     tail: Tail,
@@ -64,14 +65,16 @@ fn read_request(
     rest: &[u8],
 ) -> Result<Piece, NoMemory>
     requires { used + length rest.now < 2 ^ 64 }
-    ensures ok { IfOk result (λ p. p ≡ request tail id len used rest.now) }
-    ensures err { OnErr result (IsFound (request tail id len used rest.now)) }
+    ensures ok { IfOk result (λ p.
+        piece_beginning p ≡ request_beginning (continuation tail) id len used rest.now) }
+    ensures err { OnErr result (IsFound
+        (request_beginning (continuation tail) id len used rest.now)) }
 {
     if len < rest.len() {
         if rest[len] != b'\n' {
             return Ok(Piece::Fault {
                 skip: used + len,
-                refusal: Refusal::BadLine,
+                refusal: RecordRefusal::BadLine,
             });
         }
         let (bytes, _) = rest.split_at(len);
@@ -83,7 +86,7 @@ fn read_request(
         Tail::Ends if len == rest.len() => found(alloc, used + len, id, rest),
         Tail::Ends => Ok(Piece::Fault {
             skip: 0,
-            refusal: Refusal::CutRequest,
+            refusal: RecordRefusal::CutRequest,
         }),
     }
 }
@@ -92,13 +95,15 @@ fn read_request(
 fn line_piece(
     alloc: Global,
     tail: Tail,
-    line: Result<Line<'_>, Refusal>,
+    line: Result<Line<'_>, RecordRefusal>,
     used: usize,
     rest: &[u8],
 ) -> Result<Piece, NoMemory>
     requires { used + length rest.now < 2 ^ 64 }
-    ensures ok { IfOk result (λ p. p ≡ of_line tail (what_is_said line.entry) used rest.now) }
-    ensures err { OnErr result (IsFound (of_line tail (what_is_said line.entry) used rest.now)) }
+    ensures ok { IfOk result (λ p. piece_beginning p
+        ≡ line_beginning (continuation tail) (result_meaning line.entry) used rest.now) }
+    ensures err { OnErr result (IsFound
+        (line_beginning (continuation tail) (result_meaning line.entry) used rest.now)) }
 {
     let event = match line {
         Err(refusal) => return Ok(Piece::Fault { skip: 0, refusal }),
@@ -131,8 +136,10 @@ fn line_piece(
 }
 
 fn read_last(alloc: Global, tail: Tail, bytes: &[u8]) -> Result<Piece, NoMemory>
-    ensures ok { IfOk result (λ p. p ≡ behind tail (last_line bytes.now)) }
-    ensures err { OnErr result (IsFound (behind tail (last_line bytes.now))) }
+    ensures ok { IfOk result (λ p.
+        piece_beginning p ≡ beginning_at (continuation tail) (last_line_beginning bytes.now)) }
+    ensures err { OnErr result (IsFound
+        (beginning_at (continuation tail) (last_line_beginning bytes.now))) }
 {
     match tail {
         Tail::Open => Ok(Piece::Undecided),
@@ -145,39 +152,39 @@ fn read_last(alloc: Global, tail: Tail, bytes: &[u8]) -> Result<Piece, NoMemory>
     }
 }
 
-/// What the bytes begin with, whose first line has `len` bytes. Memory is wanted for an event
+/// What the bytes begin with, whose first line has `len` bytes. Memory is taken for an event
 /// alone.
-#[tactic(auto, unfolding(crate::specs::Piece::piece))]
+#[tactic(auto, unfolding(crate::specs::Beginning::beginning_of))]
 pub(crate) fn read_piece(
     alloc: Global,
     tail: Tail,
     bytes: &[u8],
     len: usize,
 ) -> Result<Piece, NoMemory>
-    requires { len ≡ line_len bytes.now }
-    ensures ok { IfOk result (λ p. p ≡ piece tail bytes.now) }
-    ensures err { OnErr result (IsFound (piece tail bytes.now)) }
+    requires { len ≡ line_length bytes.now }
+    ensures ok { IfOk result (λ p. piece_beginning p ≡ beginning_of (continuation tail) bytes.now) }
+    ensures err { OnErr result (IsFound (beginning_of (continuation tail) bytes.now)) }
 {
     if len > LINE_MAX {
         return Ok(Piece::Fault {
             skip: 0,
-            refusal: Refusal::LineTooLong,
+            refusal: RecordRefusal::LineTooLong,
         });
     }
     if len >= bytes.len() {
         return read_last(alloc, tail, bytes);
     }
-    let (line, behind) = bytes.split_at(len);
-    let (_, rest) = behind.split_at(1);
+    let (line, after) = bytes.split_at(len);
+    let (_, rest) = after.split_at(1);
     line_piece(alloc, tail, read_line(without_cr(line)), len + 1, rest)
 }
 
-/// How many bytes are wanted at least to tell what these begin with, whose first line has `len`
-/// bytes. They don't tell it.
+/// How many bytes at least decide what these begin with, whose first line has `len` bytes. These
+/// don't decide it.
 #[tactic(auto, using(crate::proofs::WaitLemmas::wait_line, crate::proofs::WaitLemmas::wait_request, crate::proofs::WaitLemmas::wait_none))]
 pub(crate) fn wanted(bytes: &[u8], len: usize) -> usize
-    requires first { len ≡ line_len bytes.now }
-    requires undecided { piece Tail.Open bytes.now ≡ Piece.Undecided }
+    requires first { len ≡ line_length bytes.now }
+    requires undecided { beginning_of Open bytes.now ≡ Undecided }
     ensures { IsWait bytes.now result }
 {
     if len >= bytes.len() {
@@ -201,15 +208,17 @@ pub(crate) fn piece_under(
     scanned: usize,
     wait: usize,
 ) -> Result<Piece, NoMemory>
-    requires scanned { scanned ≤ line_len pending.now }
+    requires scanned { scanned ≤ line_length pending.now }
     requires wait { IsWait pending.now wait }
-    ensures ok { IfOk result (λ p. p ≡ piece (tail_of ended room pending.now) (take room pending.now)) }
-    ensures err { OnErr result (IsFound (piece (tail_of ended room pending.now) (take room pending.now))) }
+    ensures ok { IfOk result (λ p. piece_beginning p
+        ≡ beginning_of (continuation_of ended room pending.now) (take room pending.now)) }
+    ensures err { OnErr result (IsFound
+        (beginning_of (continuation_of ended room pending.now) (take room pending.now))) }
 {
     if pending.len() as u64 > room {
-        let (front, _) = pending.split_at(room as usize);
-        let len = first_at(b'\n', front, scanned.min(front.len()));
-        return read_piece(alloc, Tail::Beyond, front, len);
+        let (within, _) = pending.split_at(room as usize);
+        let len = first_at(b'\n', within, scanned.min(within.len()));
+        return read_piece(alloc, Tail::Beyond, within, len);
     }
     if !ended && pending.len() < wait {
         return Ok(Piece::Undecided);
@@ -219,12 +228,12 @@ pub(crate) fn piece_under(
     read_piece(alloc, tail, pending, len)
 }
 
-/// Where the search for the LF goes on, and how many bytes are wanted at least, where the pending
-/// bytes decide nothing.
+/// Where the search for the LF goes on, and how many bytes at least decide something, where the
+/// pending bytes decide nothing.
 pub(crate) fn waits(pending: &[u8], scanned: usize) -> (usize, usize)
-    requires scanned { scanned ≤ line_len pending.now }
-    requires undecided { piece Tail.Open pending.now ≡ Piece.Undecided }
-    ensures scanned { result.0 ≤ line_len pending.now }
+    requires scanned { scanned ≤ line_length pending.now }
+    requires undecided { beginning_of Open pending.now ≡ Undecided }
+    ensures scanned { result.0 ≤ line_length pending.now }
     ensures wait { IsWait pending.now result.1 }
 {
     let len = first_at(b'\n', pending, scanned);

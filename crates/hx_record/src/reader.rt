@@ -2,14 +2,15 @@ ghost use Rattle.std.specs.Prelude.{◌≡◌, ◌≢◌, ℕ, ◌+◌, ◌-◌,
 ghost use Rattle.std.specs.Io.KnownBytes.{Keeps, IsAtEnd};
 ghost use Rattle.hx_outside.specs.Count.{Rose};
 ghost use Rattle.hx_record.specs.Record.{Unknown, Bad};
-ghost use Rattle.hx_record.specs.State.{State, decided_items_now};
-ghost use Rattle.hx_record.specs.Reading.{Reads};
-ghost use Rattle.hx_record.specs.Parts.{IsFound, piece_now, passed_by, Grows, Notes};
+ghost use Rattle.hx_record.specs.State.{State, decided_items_now, remaining_work};
+ghost use Rattle.hx_record.specs.Reading.{Reads, Decides, Fills, HasEvent, IsEvent, LogsFault};
+ghost use Rattle.hx_record.specs.PieceView.{piece_beginning};
+ghost use Rattle.hx_record.specs.Parts.{IsFound, beginning_now, state_past};
 
-use crate::events::Placed;
+use crate::events::{Next, Placed};
 use crate::fault::RecordFault;
 use crate::piece::{Piece, piece_under, waits};
-use crate::refusal::Refusal;
+use crate::refusal::RecordRefusal;
 use crate::window::Window;
 use hx_outside::Source;
 use hx_text::NoMemory;
@@ -19,8 +20,8 @@ use std::marker::Model;
 /// Reads a record from a source, one event a call.
 ///
 /// Contracts see a reader as its limit on the record, how many bytes it has passed, the bytes that
-/// it took and has not passed, and whether a read told the record's end. What is left of the record
-/// is those bytes and then what the source has left, so each call of one reader is lent the same
+/// it took and has not passed, and whether a read found the record's end. What is left of the
+/// record is those bytes and then what the source has left, so each call of one reader is lent the same
 /// source.
 #[derive(Drop)]
 pub struct Reader {
@@ -62,11 +63,11 @@ impl Reader {
         }
     }
 
-    /// The next event of the record, and the place at which its line begins. None at the record's
+    /// The next event of the record, and the offset at which its line begins. None at the record's
     /// end.
     ///
     /// `source` is the same at each call of one reader. It is read only where the bytes that it
-    /// gave don't tell the next item, and no more once it told its end. `Bad` where the record is
+    /// gave don't decide the next item, and no more once it gave its end. `Bad` where the record is
     /// refused: each later call answers the same. `Failed` exactly where a read failed, which the
     /// source counts, and `NoMemory` where memory runs out: nothing that was read is lost, and a
     /// later call goes on from there.
@@ -89,7 +90,7 @@ impl Reader {
         ensures undecided { result ≡ Err RecordFault.Failed
             → (self.new.ended ≡ false) × (decided_items_now self.new ≡ Unknown) }
 
-        // `reads` says of each read that it was due, for a source that tells its log. These say of
+        // `reads` says of each read that it was due, for a source whose log is known. These say of
         // any source that it is left alone where none is due when the call begins.
         ensures unasked { decided_items_now self.old ≢ Unknown → source.new ≡ source.old }
         ensures over { self.old.ended ≡ true → source.new ≡ source.old }
@@ -100,28 +101,58 @@ impl Reader {
         ensures stuck { (offset code : ℕ) → result ≡ Err (RecordFault.Bad offset code)
             → decided_items_now self.new ≡ Bad offset code }
     {
-        'pieces: loop {
+        'reads: loop {
+            match self.next_decided()? {
+                Next::Event(placed) => return Ok(Some(placed)),
+                Next::End => return Ok(None),
+                Next::Undecided => self.fill(source)?,
+            }
+        }
+    }
+
+    /// The next event of the record where the bytes that were read decide it, and the offset at
+    /// which its line begins. Lines that say nothing are passed over. `End` at the record's end,
+    /// and `Undecided` where a caller goes on by `fill`. No source is read.
+    ///
+    /// `Bad` where the record is refused: each later call answers the same. `NoMemory` where memory
+    /// runs out, which only an event takes: a later call goes on from there. Never `Failed`.
+    pub fn next_decided(&mut self) -> Result<Next, RecordFault>
+        // Which bytes were passed, and that the answer is the first item of what is left, whatever
+        // follows.
+        ensures decides { Decides self.old self.new result }
+        ensures moves { IfOk result (λ next. IsEvent next
+            → (self.old.at < self.new.at) × (self.new.at ≤ self.new.limit)) }
+        ensures end { result ≡ Ok Next.End → self.new.ended ≡ true }
+        ensures undecided { result ≡ Ok Next.Undecided
+            → (self.new.ended ≡ false) × (decided_items_now self.new ≡ Unknown) }
+        ensures memory { result ≡ Err RecordFault.NoMemory → HasEvent (decided_items_now self.new) }
+
+        // A caller that goes on while there are events, and fills between them, comes to an end.
+        ensures less { IfOk result (λ next. IsEvent next
+            → remaining_work self.new < remaining_work self.old) }
+        ensures no_more { remaining_work self.new ≤ remaining_work self.old }
+        ensures within { result ≡ Ok Next.Undecided
+            → self.new.at + length self.new.pending ≤ self.new.limit }
+    {
+        'lines: loop {
             match self.judge()? {
-                Piece::Undecided => match self.fill(source) {
-                    Ok(()) => {}
-                    Err(fault) => return Err(fault),
-                },
+                Piece::Undecided => return Ok(Next::Undecided),
                 Piece::Skip { used } => self.advance(used),
                 Piece::Found { used, event } => {
-                    let offset = self.place(0);
+                    let offset = self.offset_past(0);
                     self.advance(used);
-                    return Ok(Some(Placed { offset, event }));
+                    return Ok(Next::Event(Placed { offset, event }));
                 }
-                Piece::Finish => return Ok(None),
+                Piece::Finish => return Ok(Next::End),
                 Piece::TooLong => {
                     let offset = self.limit();
                     return Err(RecordFault::Bad {
                         offset,
-                        code: Refusal::TooLong.code(),
+                        code: RecordRefusal::TooLong.code(),
                     });
                 }
                 Piece::Fault { skip, refusal } => {
-                    let offset = self.place(skip);
+                    let offset = self.offset_past(skip);
                     return Err(RecordFault::Bad {
                         offset,
                         code: refusal.code(),
@@ -131,13 +162,37 @@ impl Reader {
         }
     }
 
+    /// Reads `source` once: takes the bytes that it gives, or its end. After `Failed`, which the
+    /// source counts, and after `NoMemory`, where nothing was read, the reader is as before.
+    pub fn fill<S: Source>(&mut self, source: &mut S) -> Result<(), RecordFault>
+        requires { self.old.ended ≡ false }
+        ensures ok { OnOk result (Fills self.old self.new (S.left source.old) (S.left source.new)
+            (S.log source.old) (S.log source.new)) }
+        ensures err { OnErr result (self.new ≡ self.old) }
+        ensures log { IfErr result (λ fault.
+            LogsFault fault (S.log source.old) (S.log source.new)) }
+        ensures kept { OnErr result (Keeps (S.left source.old) (S.left source.new)) }
+        ensures later { S.faults source.old ≤ S.faults source.new }
+        ensures failed { result ≡ Err RecordFault.Failed
+            → Rose (S.faults source.old) (S.faults source.new) }
+        ensures less { OnOk result (self.old.at + length self.old.pending ≤ self.old.limit
+            → remaining_work self.new < remaining_work self.old) }
+    {
+        self.window.reserve()?;
+        let count = self.window.read(source)?;
+        if count == 0 {
+            self.ended = true;
+        }
+        Ok(())
+    }
+
     fn limit(&self) -> u64
         ensures { result ≡ self.now.limit }
     {
         self.limit
     }
 
-    fn place(&self, skip: usize) -> u64
+    fn offset_past(&self, skip: usize) -> u64
         requires { self.now.at + skip ≤ self.now.limit }
         ensures { result ≡ self.now.at + skip }
     {
@@ -149,7 +204,7 @@ impl Reader {
     fn advance(&mut self, used: usize)
         requires pending { used ≤ length self.old.pending }
         requires limit { self.old.at + used ≤ self.old.limit }
-        ensures { self.new ≡ passed_by self.old used }
+        ensures { self.new ≡ state_past self.old used }
     {
         let _limit = self.limit;
         self.window.pass(used);
@@ -158,12 +213,12 @@ impl Reader {
         self.wait = 0;
     }
 
-    /// What the pending bytes begin with. Memory is wanted for an event alone.
+    /// What the pending bytes begin with. Memory is taken for an event alone.
     fn judge(&mut self) -> Result<Piece, NoMemory>
         ensures same { self.new ≡ self.old }
-        ensures place { self.old.at ≤ self.old.limit }
-        ensures ok { IfOk result (λ piece. piece ≡ piece_now self.old) }
-        ensures err { OnErr result (IsFound (piece_now self.old)) }
+        ensures within { self.old.at ≤ self.old.limit }
+        ensures ok { IfOk result (λ piece. piece_beginning piece ≡ beginning_now self.old) }
+        ensures err { OnErr result (IsFound (beginning_now self.old)) }
     {
         let pending = self.window.bytes();
         let room = self.limit - self.at;
@@ -181,25 +236,5 @@ impl Reader {
             self.wait = wait;
         }
         Ok(piece)
-    }
-
-    /// Takes bytes from the source, or the record's end. After an `Err` nothing was taken.
-    fn fill<S: Source>(&mut self, source: &mut S) -> Result<(), RecordFault>
-        requires { self.old.ended ≡ false }
-        ensures ok { OnOk result (Grows self.old self.new (S.left source.old) (S.left source.new)
-            (S.log source.old) (S.log source.new)) }
-        ensures err { OnErr result (self.new ≡ self.old) }
-        ensures log { IfErr result (λ fault. Notes fault (S.log source.old) (S.log source.new)) }
-        ensures kept { OnErr result (Keeps (S.left source.old) (S.left source.new)) }
-        ensures later { S.faults source.old ≤ S.faults source.new }
-        ensures failed { result ≡ Err RecordFault.Failed
-            → Rose (S.faults source.old) (S.faults source.new) }
-    {
-        self.window.reserve()?;
-        let count = self.window.read(source)?;
-        if count == 0 {
-            self.ended = true;
-        }
-        Ok(())
     }
 }

@@ -1,13 +1,13 @@
 ghost use Rattle.std.specs.Prelude.{◌≡◌};
-ghost use Rattle.hx_record.specs.Refusal.{code_of};
+ghost use Rattle.hx_record.specs.RefusalCode.{code_of};
 
 /// Why the bytes of a record are refused.
 #[derive(Clone, Copy, Debug, PartialEq, Eq)]
-pub(crate) enum Refusal {
-    /// An unknown first word, a wrong number of words, no address where one is wanted, or a byte
-    /// other than LF behind a request.
+pub enum RecordRefusal {
+    /// An unknown first word, a wrong number of words, no address where one is needed, or a byte
+    /// other than LF after a request.
     BadLine,
-    /// No number where one is wanted, or one above its limit.
+    /// No number where one is needed, or one above its limit.
     BadNumber,
     /// The record ends before the bytes of a request do.
     CutRequest,
@@ -17,17 +17,17 @@ pub(crate) enum Refusal {
     LineTooLong,
 }
 
-impl Refusal {
-    /// The number by which a refusal is told.
-    pub(crate) fn code(self) -> u32
+impl RecordRefusal {
+    /// The code of the refusal, as `RecordFault` has it.
+    pub fn code(self) -> u32
         ensures { result ≡ code_of self }
     {
         match self {
-            Refusal::BadLine => 1,
-            Refusal::BadNumber => 2,
-            Refusal::CutRequest => 3,
-            Refusal::TooLong => 4,
-            Refusal::LineTooLong => 5,
+            RecordRefusal::BadLine => 1,
+            RecordRefusal::BadNumber => 2,
+            RecordRefusal::CutRequest => 3,
+            RecordRefusal::TooLong => 4,
+            RecordRefusal::LineTooLong => 5,
         }
     }
 }

@@ -1,8 +1,8 @@
-ghost use Rattle.std.specs.Prelude.{◌≡◌, ◌+◌, ◌-◌, ◌<◌, ◌≤◌, ◌++◌, [], length, take, drop, IfOk, OnOk, OnErr, None, vec_len};
+ghost use Rattle.std.specs.Prelude.{◌≡◌, ◌+◌, ◌-◌, ◌<◌, ◌≤◌, [], length, take, drop, IfOk, OnOk, OnErr, None, vec_len};
 ghost use Rattle.std.specs.Io.KnownBytes.{ReadConsumes, Keeps};
 ghost use Rattle.hx_outside.specs.Count.{Rose};
 ghost use Rattle.hx_outside.specs.Log.{Logs, bytes_read};
-ghost use Rattle.hx_record.specs.Parts.{Took};
+ghost use Rattle.hx_record.specs.Parts.{AppendsRead};
 
 use hx_outside::{Failed, Source};
 use std::alloc::{AllocError, Global};
@@ -12,7 +12,7 @@ use std::marker::Model;
 const GROWTH: usize = 65_536;
 
 /// The bytes that were read and not yet used, in a buffer that is used again. Contracts see the
-/// bytes, and how much room stands behind them.
+/// bytes, and how much room follows them.
 #[derive(Drop)]
 pub(crate) struct Window {
     buf: Vec<u8>,
@@ -21,13 +21,13 @@ pub(crate) struct Window {
 }
 
 impl Model for Window {
-    ghost use Rattle.hx_record.specs.Held.{Held};
+    ghost use Rattle.hx_record.specs.Room.{BytesWithRoom};
 
-    ghost Value = { Held };
+    ghost Value = { BytesWithRoom };
 
-    ghost use Rattle.hx_record.specs.Window.{held_of, IsWindow};
+    ghost use Rattle.hx_record.specs.Window.{window_bytes, IsWindow};
 
-    ghost view = { held_of };
+    ghost view = { window_bytes };
 
     ghost invariant = { IsWindow };
 }
@@ -57,24 +57,24 @@ impl Window {
         self.start += used;
     }
 
-    /// Makes room behind the bytes, which move to the buffer's front.
+    /// Makes room after the bytes, which move to the buffer's start.
     pub(crate) fn reserve(&mut self) -> Result<(), AllocError>
         ensures bytes { self.new.bytes ≡ self.old.bytes }
         ensures room { OnOk result (0 < self.new.room) }
     {
         if self.start > 0 {
-            move_front(&mut self.buf, self.start, self.end);
+            move_to_start(&mut self.buf, self.start, self.end);
             self.end -= self.start;
             self.start = 0;
         }
         make_room(&mut self.buf, self.end)
     }
 
-    /// Reads into the room behind the bytes, and answers how many came.
+    /// Reads into the room after the bytes, and answers how many came.
     pub(crate) fn read<S: Source>(&mut self, source: &mut S) -> Result<usize, Failed>
         requires { 0 < self.old.room }
         ensures ok { IfOk result (λ count.
-            Took (S.left source.old) (S.left source.new) (S.log source.old) (S.log source.new)
+            AppendsRead (S.left source.old) (S.left source.new) (S.log source.old) (S.log source.new)
             self.old.bytes self.new.bytes count) }
         ensures err { OnErr result (self.new.bytes ≡ self.old.bytes) }
         ensures kept { OnErr result (Keeps (S.left source.old) (S.left source.new)) }
@@ -82,15 +82,15 @@ impl Window {
         ensures later { S.faults source.old ≤ S.faults source.new }
         ensures failed { OnErr result (Rose (S.faults source.old) (S.faults source.new)) }
     {
-        let count = read_behind(&mut self.buf, self.end, source)?;
+        let count = read_after(&mut self.buf, self.end, source)?;
         self.end += count;
         Ok(count)
     }
 }
 
-/// Moves the bytes from `start` to `end` to the front.
+/// Moves the bytes from `start` to `end` to the start.
 #[tactic(auto, using(crate::proofs::WindowLemmas::moved))]
-fn move_front(buf: &mut Vec<u8>, start: usize, end: usize)
+fn move_to_start(buf: &mut Vec<u8>, start: usize, end: usize)
     requires order { start ≤ end }
     requires within { end ≤ vec_len buf.old }
     ensures moved { take (end - start) buf.new.items ≡ drop start (take end buf.old.items) }
@@ -99,10 +99,10 @@ fn move_front(buf: &mut Vec<u8>, start: usize, end: usize)
     buf.copy_within(start..end, 0);
 }
 
-/// Makes room behind the first `end` bytes. Where memory runs out the buffer is as it was.
+/// Makes room after the first `end` bytes. Where memory runs out the buffer is as it was.
 fn make_room(buf: &mut Vec<u8>, end: usize) -> Result<(), AllocError>
     requires { end ≤ vec_len buf.old }
-    ensures front { take end buf.new.items ≡ take end buf.old.items }
+    ensures prefix { take end buf.new.items ≡ take end buf.old.items }
     ensures len { vec_len buf.old ≤ vec_len buf.new }
     ensures room { OnOk result (end < vec_len buf.new) }
 {
@@ -113,15 +113,16 @@ fn make_room(buf: &mut Vec<u8>, end: usize) -> Result<(), AllocError>
     buf.resize(len + len.max(GROWTH), 0)
 }
 
-/// Reads into the room behind the first `end` bytes, and answers how many bytes came.
-fn read_behind<S: Source>(buf: &mut Vec<u8>, end: usize, source: &mut S) -> Result<usize, Failed>
+/// Reads into the room after the first `end` bytes, and answers how many bytes came.
+fn read_after<S: Source>(buf: &mut Vec<u8>, end: usize, source: &mut S) -> Result<usize, Failed>
     requires { end < length buf.old.items }
-    ensures front { take end buf.new.items ≡ take end buf.old.items }
+    ensures prefix { take end buf.new.items ≡ take end buf.old.items }
     ensures len { length buf.new.items ≡ length buf.old.items }
     ensures within { IfOk result (λ count. end + count ≤ length buf.new.items) }
     ensures bytes { ReadConsumes (S.left source.old) (S.left source.new) result
         (drop end buf.new.items) }
-    ensures log { Logs (S.log source.old) (S.log source.new) (bytes_read result (drop end buf.new.items)) }
+    ensures log { Logs (S.log source.old) (S.log source.new)
+        (bytes_read result (drop end buf.new.items)) }
     ensures later { S.faults source.old ≤ S.faults source.new }
     ensures failed { OnErr result (Rose (S.faults source.old) (S.faults source.new)) }
 {

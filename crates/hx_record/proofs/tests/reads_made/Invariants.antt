@@ -1,5 +1,0 @@
-use Rattle.std.proofs.Common.{◌≡◌, true, []}
-use Rattle.hx_record.proofs.tests.reads_made.Given as goal
-
-abbrev pub invariant-calls : goal.invariant-calls
-invariant-calls l = l.reader.ended ≡ true → l.source.inner.left ≡ []
