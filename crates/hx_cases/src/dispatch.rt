@@ -4,8 +4,8 @@ use crate::http::read_head_case;
 use crate::line::{expanded, words};
 use crate::lists::{cookies_case, hdr_values_case, params_case};
 use crate::outside::{
-    dir_files_case, mem_files_case, read_to_end_case, reads_case, std_sink_case, std_source_case,
-    write_all_case, writes_case,
+    dir_files_case, mem_files_case, read_to_end_case, reads_case, std_reads_case, std_sink_case,
+    std_source_case, write_all_case, writes_case,
 };
 use crate::record::record_case;
 use crate::sample::{cast_case, items_case, own_case, same_case, samples_case, vars_case};
@@ -108,6 +108,7 @@ fn call<R: rt::Files>(
         b"record" => record_case(alloc, out, args, false),
         b"record_reads" => record_case(alloc, out, args, true),
         b"reads" => reads_case(alloc, out, args),
+        b"std_reads" => std_reads_case(alloc, out, args),
         b"read_to_end" => read_to_end_case(alloc, out, args),
         b"std_source" => std_source_case(alloc, out, args),
         b"writes" => writes_case(alloc, out, args),

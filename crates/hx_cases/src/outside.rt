@@ -33,12 +33,28 @@ pub fn reads_case(alloc: Global, out: &mut String, args: &[Vec<u8>]) -> Result<(
         return Err(CaseFault::BadArguments);
     };
     let source = mem_source(alloc, piece.as_slice(), fails.as_slice(), text.as_slice())?;
-    let mut source = LogSource::new(alloc, source);
-    let mut buf = vec![in alloc; b'.'; size(room.as_slice())?]?;
-    if buf.is_empty() {
+    show_reads(alloc, out, source, count.as_slice(), room.as_slice())
+}
+
+/// `std_reads COUNT ROOM TEXT`: the same of a reader of std.
+pub fn std_reads_case(alloc: Global, out: &mut String, args: &[Vec<u8>]) -> Result<(), CaseFault> {
+    let [count, room, text] = args else {
         return Err(CaseFault::BadArguments);
-    }
-    for _ in 0..number(count.as_slice())? {
+    };
+    let source = StdSource::new(text.as_slice());
+    show_reads(alloc, out, source, count.as_slice(), room.as_slice())
+}
+
+fn show_reads<S: Source + Drop>(
+    alloc: Global,
+    out: &mut String,
+    source: S,
+    count: &[u8],
+    room: &[u8],
+) -> Result<(), CaseFault> {
+    let mut source = LogSource::new(alloc, source);
+    let mut buf = vec![in alloc; b'.'; size(room)?]?;
+    for _ in 0..number(count)? {
         show_read(out, &mut source, &mut buf)?;
     }
     let Some(log) = source.log() else {
