@@ -1,0 +1,5 @@
+use Rattle.std.proofs.Common.{◌≡◌, true, []}
+use Rattle.hx_cases.proofs.record.show_reads.Given as goal
+
+abbrev pub invariant-calls : goal.invariant-calls
+invariant-calls l = l.reader.ended ≡ true → l.source.inner.left ≡ []
