@@ -1,6 +1,6 @@
 use crate::fault::CaseFault;
 use crate::fetch::{connection_case, fetch_case, request_case};
-use crate::http::read_head_case;
+use crate::http::{read_head_case, read_head_in_case};
 use crate::line::{expanded, words};
 use crate::lists::{cookies_case, hdr_values_case, params_case};
 use crate::outside::{
@@ -8,7 +8,10 @@ use crate::outside::{
     std_source_case, write_all_case, writes_case,
 };
 use crate::record::record_case;
-use crate::sample::{cast_case, items_case, own_case, same_case, samples_case, vars_case};
+use crate::sample::{
+    cast_case, items_case, lone_case, own_case, same_case, sample_texts_case, samples_case,
+    vars_case,
+};
 use crate::state::State;
 use crate::text::{
     compare_case, compare_names_case, cut_at_case, map4to6_case, print_i64_case, print_ip_case,
@@ -102,6 +105,7 @@ fn call<R: rt::Files>(
         b"cookies" => cookies_case(out, args),
         b"params" => params_case(out, args),
         b"read_head" => read_head_case(alloc, out, args),
+        b"read_head_in" => read_head_in_case(alloc, out, args),
         b"split" => split_case(alloc, out, args),
         b"calls" => calls_case(alloc, out, args),
         b"next_call" => next_call_case(alloc, out, args),
@@ -120,6 +124,8 @@ fn call<R: rt::Files>(
         b"own" => own_case(alloc, out, args),
         b"same" => same_case(alloc, out, args),
         b"samples" => samples_case(alloc, out, args),
+        b"sample_texts" => sample_texts_case(alloc, out, args),
+        b"lone" => lone_case(alloc, out, args),
         b"vars" => vars_case(alloc, &mut state.vars, out, args),
         b"items" => items_case(alloc, out, args),
         b"request" => request_case(alloc, state, args),

@@ -2,7 +2,8 @@
 
 use crate::fault::CaseFault;
 use crate::line::{show, show_option, show_pair};
-use hx_http::{HeadFault, Message, read_head};
+use hx_http::{HeadFault, Message, read_head, read_head_in};
+use hx_text::Octets;
 use std::alloc::Global;
 use std::fmt::Write;
 
@@ -12,7 +13,24 @@ pub fn read_head_case(alloc: Global, out: &mut String, args: &[Vec<u8>]) -> Resu
     let [bytes] = args else {
         return Err(CaseFault::BadArguments);
     };
-    match read_head(alloc, bytes.as_slice()) {
+    show_head(out, read_head(alloc, bytes.as_slice()))
+}
+
+/// `read_head_in BYTES`: what `read_head` answers, of bytes that are handed over.
+pub fn read_head_in_case(
+    alloc: Global,
+    out: &mut String,
+    args: &[Vec<u8>],
+) -> Result<(), CaseFault> {
+    let [bytes] = args else {
+        return Err(CaseFault::BadArguments);
+    };
+    let bytes = Octets::copy(alloc, bytes.as_slice())?;
+    show_head(out, read_head_in(alloc, bytes))
+}
+
+fn show_head(out: &mut String, read: Result<(Message, usize), HeadFault>) -> Result<(), CaseFault> {
+    match read {
         Ok((message, len)) => {
             write!(out, "{len} ")?;
             show_parts(out, &message)?;

@@ -76,6 +76,37 @@ pub fn samples_case(alloc: Global, out: &mut String, args: &[Vec<u8>]) -> Result
     show_all(out, samples, args.len())
 }
 
+/// `sample_texts KIND TEXT ..`: the texts, pushed as values of that kind and taken until none is
+/// left.
+pub fn sample_texts_case(
+    alloc: Global,
+    out: &mut String,
+    args: &[Vec<u8>],
+) -> Result<(), CaseFault> {
+    let [to, texts @ ..] = args else {
+        return Err(CaseFault::BadArguments);
+    };
+    let to = kind(to.as_slice())?;
+    let mut samples = Samples::for_texts(alloc, to, texts.len())?;
+    for text in texts {
+        samples.push_text(text.as_slice(), to)?;
+    }
+    show_all(out, samples, texts.len())
+}
+
+/// `lone SAMPLE SAMPLE ..`: the first sample as a list, with the others pushed, taken until none is
+/// left.
+pub fn lone_case(alloc: Global, out: &mut String, args: &[Vec<u8>]) -> Result<(), CaseFault> {
+    let [first, others @ ..] = args else {
+        return Err(CaseFault::BadArguments);
+    };
+    let mut samples = Samples::lone(alloc, occurrence(first.as_slice())?);
+    for text in others {
+        samples.push(occurrence(text.as_slice())?)?;
+    }
+    show_all(out, samples, args.len())
+}
+
 /// Takes all of at most that many occurrences, and writes them.
 pub fn show_all(out: &mut String, mut samples: Samples<'_>, most: usize) -> Result<(), CaseFault> {
     for _ in 0..most {

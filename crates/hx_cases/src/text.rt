@@ -154,7 +154,7 @@ pub fn push_all_case(alloc: Global, out: &mut String, args: &[Vec<u8>]) -> Resul
     for other in others {
         octets.push_all(other.as_slice())?;
     }
-    show(out, octets.as_slice())
+    show(out, octets.into_vec().as_slice())
 }
 
 fn order_text(order: Ordering) -> &'static str {
