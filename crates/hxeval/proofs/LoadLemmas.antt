@@ -1,7 +1,7 @@
 -- Lemmas on the loading of lines one after the other.
 use Rattle.std.proofs.Common.{◌≡◌, ℕ, ◌+◌, List, [], ◌++◌, length, Option, None, Some, Result, Ok, Err, refl}
 use Rattle.hxeval.specs.Rules.{Rule}
-use Rattle.hxeval.specs.declared.load.Refusal.{Refusal}
+use Rattle.hxeval.specs.Configuration.{Refusal}
 
 -- rules so far, and then those of the lines behind
 abbrev pub behind_rules : List Rule → Result (List Rule) Refusal → Result (List Rule) Refusal

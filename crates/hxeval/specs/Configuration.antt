@@ -10,7 +10,11 @@ use Rattle.hx_words.specs.Words.{words_of}
 use Rattle.hx_words.specs.declared.WordFault.{WordFault}
 use Rattle.hxeval.specs.Rules.{Rule}
 use Rattle.hxeval.specs.Statement.{rule_of}
-use Rattle.hxeval.specs.declared.load.Refusal.{Refusal}
+
+-- the first line of a configuration with a fault, counted from 1, and the code of its fault
+pub record Refusal : Type 0 where
+  pub line : ℕ
+  pub code : ℕ
 
 -- the code of a statement that isn't supported
 abbrev pub unsupported : ℕ

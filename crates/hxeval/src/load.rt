@@ -1,7 +1,6 @@
-ghost use Rattle.std.specs.Prelude.{◌≡◌, IfOk, Ok, Err};
+ghost use Rattle.std.specs.Prelude.{◌≡◌, ℕ, IfOk, Ok, Err};
 ghost use Rattle.hx_base.specs.Pairs.{pairs_of};
 ghost use Rattle.hxeval.specs.Configuration.{line_rule, loaded};
-ghost use Rattle.hxeval.specs.declared.load.Refusal.{Refusal};
 
 use crate::bytes::cut;
 use crate::rules::{Rule, Rules};
@@ -14,18 +13,12 @@ use thiserror::Error;
 /// The code of a line that spells no statement.
 const UNSUPPORTED: u32 = 9;
 
-/// A line of a configuration, counted from 1, and the code of its fault.
-#[derive(Clone, Copy, Debug, PartialEq, Eq)]
-pub struct Refusal {
-    pub line: u64,
-    pub code: u32,
-}
-
 /// Why a configuration was not loaded.
 #[derive(Clone, Copy, Debug, PartialEq, Eq, Error)]
 pub enum LoadFault {
+    /// This line, counted from 1, has a fault with this code.
     #[error("the configuration is refused")]
-    Refused(Refusal),
+    Refused { line: u64, code: u32 },
     #[error("out of memory")]
     NoMemory,
 }
@@ -49,8 +42,8 @@ impl From<NoMemory> for LoadFault {
 #[tactic(auto, using(crate::proofs::LoadLemmas::behind_rules_nil), unfolding(crate::specs::Configuration::loaded))]
 pub fn load(alloc: Global, env: &[(Vec<u8>, Vec<u8>)], config: &[u8]) -> Result<Rules, LoadFault>
     ensures accepted { IfOk result (λ rules. loaded (pairs_of env.now) config.now ≡ Ok rules) }
-    ensures refused { (refusal : Refusal) → result ≡ Err (LoadFault.Refused refusal)
-        → loaded (pairs_of env.now) config.now ≡ Err refusal }
+    ensures refused { (line code : ℕ) → result ≡ Err (LoadFault.Refused line code)
+        → loaded (pairs_of env.now) config.now ≡ Err (record { line = line; code = code }) }
 {
     let mut rules = Rules::new(alloc);
     let mut number = 0u64;
@@ -75,8 +68,8 @@ fn line_rule(
     number: u64,
 ) -> Result<Option<Rule>, LoadFault>
     ensures accepted { IfOk result (λ rule. line_rule (pairs_of env.now) line.now ≡ Ok rule) }
-    ensures refused { (refusal : Refusal) → result ≡ Err (LoadFault.Refused refusal)
-        → (refusal.line ≡ number) × (line_rule (pairs_of env.now) line.now ≡ Err refusal.code) }
+    ensures refused { (at code : ℕ) → result ≡ Err (LoadFault.Refused at code)
+        → (at ≡ number) × (line_rule (pairs_of env.now) line.now ≡ Err code) }
 {
     match split(alloc, env, line) {
         Ok(words) => {
@@ -85,17 +78,17 @@ fn line_rule(
             }
             match rule_of(alloc, words.as_slice())? {
                 Some(rule) => Ok(Some(rule)),
-                None => Err(LoadFault::Refused(Refusal {
+                None => Err(LoadFault::Refused {
                     line: number,
                     code: UNSUPPORTED,
-                })),
+                }),
             }
         }
         Err(fault) => match fault.code() {
-            Some(code) => Err(LoadFault::Refused(Refusal {
+            Some(code) => Err(LoadFault::Refused {
                 line: number,
                 code: u32::from(code),
-            })),
+            }),
             None => Err(LoadFault::NoMemory),
         },
     }
