@@ -1,5 +1,6 @@
--- What a person is told on standard error of a run that ended. The names and reasons of codes, and the texts of
--- statuses, are tables of the program: what is defined here is the sentence in which they stand.
+-- What a person reads on standard error of a run that ended. The names and reasons of codes, and the
+-- texts of statuses, are tables of the program: what is defined here is the sentence in which they
+-- stand.
 use Rattle.std.specs.Prelude.{ℕ, Bool, ◌==◌, ◌&&◌, List, [], ◌∷◌, ◌++◌, codes, flat_map, map, unwrap_or, if◌then◌else◌}
 use Rattle.std.specs.Borrow.{Bor}
 use Rattle.std.specs.Str.{bytes_eq}
@@ -16,7 +17,8 @@ all_of parts = flat_map (λ part. part.now) parts
 abbrev pub given_name : List (List ℕ) → List ℕ
 given_name words = unwrap_or (config_name words) (codes "the configuration")
 
--- the text before the first byte of this value and the text after it; without such a byte, the whole text and nothing
+-- the text before the first byte of this value and the text after it; without such a byte, the
+-- whole text and nothing
 abbrev pub cut_or_end : ℕ → List ℕ → List ℕ × List ℕ
 cut_or_end byte text = unwrap_or (cut_of byte text) (text, [])
 
@@ -28,7 +30,8 @@ place_of line = (cut_or_end space (cut_or_end space line).1).0
 abbrev pub code_of : List ℕ → List ℕ
 code_of line = (cut_or_end line_feed (cut_or_end space (cut_or_end space line).1).1).0
 
--- the name and the reason of a code, by the first row that begins with it; without one, those of an unknown code
+-- the name and the reason of a code, by the first row that begins with it; without one, those of an
+-- unknown code
 abbrev pub meaning_of : List (List ℕ × List ℕ × List ℕ) → List ℕ → List ℕ × List ℕ
 meaning_of [] code = (UNKNOWN_CODE.0.now, UNKNOWN_CODE.1.now)
 meaning_of (row ∷ rows) code = if bytes_eq row.0 code then (row.1, row.2) else meaning_of rows code
@@ -42,21 +45,25 @@ refusal_text subject separator place code meaning =
 -- `hxeval: NAME:LINE: REASON (CODE NAME)`
 abbrev pub config_refused : (name line code : List ℕ) → List ℕ
 config_refused name line code =
-    refusal_text name (codes ":") line code (meaning_of (map (λ row. (row.0.now, row.1.now, row.2.now)) CONFIG_CODES) code)
+    refusal_text name (codes ":") line code
+    (meaning_of (map (λ row. (row.0.now, row.1.now, row.2.now)) CONFIG_CODES) code)
 
 -- `hxeval: record, byte OFFSET: REASON (CODE NAME)`
 abbrev pub record_refused : (offset code : List ℕ) → List ℕ
 record_refused offset code =
-    refusal_text (codes "record") (codes ", byte ") offset code (meaning_of (map (λ row. (row.0.now, row.1.now, row.2.now)) RECORD_CODES) code)
+    refusal_text (codes "record") (codes ", byte ") offset code
+    (meaning_of (map (λ row. (row.0.now, row.1.now, row.2.now)) RECORD_CODES) code)
 
 -- what is said of a status, by the first row that begins with it; without one, another text
 abbrev pub status_text : (other : List ℕ) → List (ℕ × List ℕ) → ℕ → List ℕ
 status_text other [] status = other
-status_text other (row ∷ rows) status = if row.0 == status then row.1 else status_text other rows status
+status_text other (row ∷ rows) status =
+    if row.0 == status then row.1 else status_text other rows status
 
--- what is told of a run with this status, where its configuration has this name, the reading of which may have failed,
--- and this was the last line that it wrote
-unfoldable pub explanation : ℕ → (name : List ℕ) → (file_failed : Bool) → (last_line : List ℕ) → List ℕ
+-- what is said of a run with this status, where its configuration has this name, the reading of
+-- which may have failed, and this was the last line that it wrote
+unfoldable pub explanation
+    : ℕ → (name : List ℕ) → (file_failed : Bool) → (last_line : List ℕ) → List ℕ
 explanation status name file_failed last_line =
     if status == 3 then config_refused name (place_of last_line) (code_of last_line) else
     (if status == 4 then record_refused (place_of last_line) (code_of last_line) else

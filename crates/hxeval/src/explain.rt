@@ -19,8 +19,16 @@ type Row = (&'static [u8], &'static [u8], &'static [u8]);
 /// The codes of a configuration that is refused.
 const CONFIG_CODES: [Row; 5] = [
     (b"1", b"OpenQuote", b"the line ends inside a quote"),
-    (b"2", b"BadEscape", b"\\x needs two hexadecimal digits after it"),
-    (b"3", b"BadVariable", b"$ in double quotes needs NAME or {NAME} after it"),
+    (
+        b"2",
+        b"BadEscape",
+        b"\\x needs two hexadecimal digits after it",
+    ),
+    (
+        b"3",
+        b"BadVariable",
+        b"$ in double quotes needs NAME or {NAME} after it",
+    ),
     (b"4", b"TooManyWords", b"the line has more than 256 words"),
     (b"9", b"Unsupported", b"unknown or unsupported statement"),
 ];
@@ -34,12 +42,32 @@ const RECORD_CODES: [Row; 7] = [
         b"unknown or unsupported event, words missing or too many, a word that is no address, \
           or another byte than a line feed after a request",
     ),
-    (b"2", b"BadNumber", b"a number of this line isn't digits, or is above its limit"),
-    (b"3", b"CutRequest", b"the record ends inside the request that begins here"),
-    (b"4", b"TooLong", b"the record goes on after 4294967296 bytes"),
+    (
+        b"2",
+        b"BadNumber",
+        b"a number of this line isn't digits, or is above its limit",
+    ),
+    (
+        b"3",
+        b"CutRequest",
+        b"the record ends inside the request that begins here",
+    ),
+    (
+        b"4",
+        b"TooLong",
+        b"the record goes on after 4294967296 bytes",
+    ),
     (b"5", b"LineTooLong", b"this line has more than 65536 bytes"),
-    (b"6", b"UnknownConn", b"the connection of this line isn't open"),
-    (b"7", b"ConnOpen", b"the connection of this line is open already"),
+    (
+        b"6",
+        b"UnknownConn",
+        b"the connection of this line isn't open",
+    ),
+    (
+        b"7",
+        b"ConnOpen",
+        b"the connection of this line is open already",
+    ),
 ];
 
 /// The name and the reason of any other code.
@@ -59,7 +87,10 @@ const STATUS_TEXTS: [(u8, &[u8]); 5] = [
           5 a file or the record can't be read, 6 an answer can't be written, 7 out of memory.\n",
     ),
     (5, b"hxeval: the record can't be read from standard input\n"),
-    (6, b"hxeval: the answers can't be written to standard output\n"),
+    (
+        6,
+        b"hxeval: the answers can't be written to standard output\n",
+    ),
     (7, b"hxeval: out of memory\n"),
 ];
 
@@ -151,9 +182,10 @@ fn refusal<'t>(
     last_line: &'t [u8],
     rows: &'static [Row],
 ) -> Parts<'t>
-    ensures { all_of result ≡ refusal_text subject.now separator.now (place_of last_line.now)
-        (code_of last_line.now)
-        (meaning_of (map (λ row. (row.0.now, row.1.now, row.2.now)) rows.now) (code_of last_line.now)) }
+    ensures { let code = code_of last_line.now in
+        let texts = map (λ row. (row.0.now, row.1.now, row.2.now)) rows.now in
+        all_of result ≡ refusal_text subject.now separator.now (place_of last_line.now) code
+        (meaning_of texts code) }
 {
     let code = code(last_line);
     let (name, reason) = meaning_of(rows, code);
@@ -243,23 +275,103 @@ mod tests {
             (0, false, b"9 pass -\n", b""),
             (1, false, b"", b"hxeval: ended with an unknown status\n"),
             (2, false, b"", STATUS_TEXTS[1].1),
-            (3, false, b"config 12 1\n", b"hxeval: deny.cfg:12: the line ends inside a quote (1 OpenQuote)\n"),
-            (3, false, b"config 1 2\n", b"hxeval: deny.cfg:1: \\x needs two hexadecimal digits after it (2 BadEscape)\n"),
-            (3, false, b"config 1 3\n", b"hxeval: deny.cfg:1: $ in double quotes needs NAME or {NAME} after it (3 BadVariable)\n"),
-            (3, false, b"config 1 4\n", b"hxeval: deny.cfg:1: the line has more than 256 words (4 TooManyWords)\n"),
-            (3, false, b"config 3 9\n", b"hxeval: deny.cfg:3: unknown or unsupported statement (9 Unsupported)\n"),
-            (3, false, b"config 3 17\n", b"hxeval: deny.cfg:3: unknown code (17 Unknown)\n"),
-            (4, false, b"record 38 1\n", b"hxeval: record, byte 38: unknown or unsupported event, words missing or too many, a word that is no address, or another byte than a line feed after a request (1 BadLine)\n"),
-            (4, false, b"record 0 2\n", b"hxeval: record, byte 0: a number of this line isn't digits, or is above its limit (2 BadNumber)\n"),
-            (4, false, b"record 38 3\n", b"hxeval: record, byte 38: the record ends inside the request that begins here (3 CutRequest)\n"),
-            (4, false, b"record 4294967296 4\n", b"hxeval: record, byte 4294967296: the record goes on after 4294967296 bytes (4 TooLong)\n"),
-            (4, false, b"record 0 5\n", b"hxeval: record, byte 0: this line has more than 65536 bytes (5 LineTooLong)\n"),
-            (4, false, b"record 9 6\n", b"hxeval: record, byte 9: the connection of this line isn't open (6 UnknownConn)\n"),
-            (4, false, b"record 9 7\n", b"hxeval: record, byte 9: the connection of this line is open already (7 ConnOpen)\n"),
-            (4, false, b"record 9 9\n", b"hxeval: record, byte 9: unknown code (9 Unknown)\n"),
+            (
+                3,
+                false,
+                b"config 12 1\n",
+                b"hxeval: deny.cfg:12: the line ends inside a quote (1 OpenQuote)\n",
+            ),
+            (
+                3,
+                false,
+                b"config 1 2\n",
+                b"hxeval: deny.cfg:1: \\x needs two hexadecimal digits after it (2 BadEscape)\n",
+            ),
+            (
+                3,
+                false,
+                b"config 1 3\n",
+                b"hxeval: deny.cfg:1: $ in double quotes needs NAME or {NAME} after it (3 BadVariable)\n",
+            ),
+            (
+                3,
+                false,
+                b"config 1 4\n",
+                b"hxeval: deny.cfg:1: the line has more than 256 words (4 TooManyWords)\n",
+            ),
+            (
+                3,
+                false,
+                b"config 3 9\n",
+                b"hxeval: deny.cfg:3: unknown or unsupported statement (9 Unsupported)\n",
+            ),
+            (
+                3,
+                false,
+                b"config 3 17\n",
+                b"hxeval: deny.cfg:3: unknown code (17 Unknown)\n",
+            ),
+            (
+                4,
+                false,
+                b"record 38 1\n",
+                b"hxeval: record, byte 38: unknown or unsupported event, words missing or too many, a word that is no address, or another byte than a line feed after a request (1 BadLine)\n",
+            ),
+            (
+                4,
+                false,
+                b"record 0 2\n",
+                b"hxeval: record, byte 0: a number of this line isn't digits, or is above its limit (2 BadNumber)\n",
+            ),
+            (
+                4,
+                false,
+                b"record 38 3\n",
+                b"hxeval: record, byte 38: the record ends inside the request that begins here (3 CutRequest)\n",
+            ),
+            (
+                4,
+                false,
+                b"record 4294967296 4\n",
+                b"hxeval: record, byte 4294967296: the record goes on after 4294967296 bytes (4 TooLong)\n",
+            ),
+            (
+                4,
+                false,
+                b"record 0 5\n",
+                b"hxeval: record, byte 0: this line has more than 65536 bytes (5 LineTooLong)\n",
+            ),
+            (
+                4,
+                false,
+                b"record 9 6\n",
+                b"hxeval: record, byte 9: the connection of this line isn't open (6 UnknownConn)\n",
+            ),
+            (
+                4,
+                false,
+                b"record 9 7\n",
+                b"hxeval: record, byte 9: the connection of this line is open already (7 ConnOpen)\n",
+            ),
+            (
+                4,
+                false,
+                b"record 9 9\n",
+                b"hxeval: record, byte 9: unknown code (9 Unknown)\n",
+            ),
             (5, true, b"", b"hxeval: deny.cfg can't be read\n"),
-            (5, false, b"", b"hxeval: the record can't be read from standard input\n"),
-            (6, false, b"", b"hxeval: the answers can't be written to standard output\n"),
+            (
+                5,
+                false,
+                b"",
+                b"hxeval: the record can't be read from standard input\n",
+            ),
+            (
+                6,
+                false,
+                b"",
+                b"hxeval: the answers can't be written to standard output\n",
+            ),
             (7, false, b"", b"hxeval: out of memory\n"),
         ];
         let words = vec![in alloc; b"run".to_vec(alloc)?, b"deny.cfg".to_vec(alloc)?]?;
