@@ -9,11 +9,11 @@ use Rattle.std.proofs.lemmas.Str.Parse.{tells_digits}
 use Rattle.std.proofs.lemmas.Grind.{flat_map-append}
 use Rattle.std.proofs.lemmas.List.{drop_more}
 use Rattle.hx_text.specs.Address.{cut_of}
-use Rattle.hxeval.specs.Explanation.{all_of, cut_or_end, place_of, code_of, config_refused, record_refused, explanation}
+use Rattle.hxeval.specs.Explanation.{all_of, cut_or_end, location_of, code_of, config_refused, record_refused, explanation}
 use Rattle.hxeval.specs.Replay.{record_line}
 use Rattle.hxeval.specs.Run.{config_line}
 
--- a text is what stands before a part, the part, and what stands behind it
+-- a text is what stands before a part, the part, and what follows it
 pub around_part : (parts : List (Bor (List ℕ))) (i : ℕ) (d : Bor (List ℕ)) → i < length parts
     → all_of parts ≡ all_of (take i parts) ++ (get_or parts i d).now ++ all_of (drop (i + 1) parts)
 around_part parts i d within =
@@ -21,7 +21,7 @@ around_part parts i d within =
     ∙ ap (λ rest. all_of (take i parts) ++ all_of rest) (drop_more parts i d within)
     ∙ sym (append_assoc (all_of (take i parts)) (get_or parts i d).now (all_of (drop (i + 1) parts)))
 
--- ---- the numbers of a refusal, in the words of the line that tells it
+-- ---- the numbers of a refusal, as the last line has them
 
 -- digits are cut off at a byte that is none
 pub cut-digits : (byte : ℕ) (digits rest : List ℕ) → AllDigits 10 digits → byte < 48
@@ -32,7 +32,7 @@ cut-digits byte (d ∷ digits) rest all low =
     let other : (d == byte) ≡ false = ne_eqb d byte (λ same. omega (arith, same, here)) in
     rw (other, cut-digits byte digits rest others low) refl
 
--- what a line tells after its first word is cut into its two numbers
+-- what follows the first word of a last line is cut into its two numbers
 cut_numbers : (m n : ℕ) → m < 2 ^ 64 → cut_or_end 32 (decimal m ++ (codes " " ++ (decimal n ++ codes "\n"))) ≡ (decimal m, decimal n ++ codes "\n")
 cut_numbers m n fits =
     ap (λ (found : Option (List ℕ × List ℕ)). unwrap_or found (decimal m ++ (codes " " ++ (decimal n ++ codes "\n")), []))
@@ -43,30 +43,30 @@ cut_number n fits =
     ap (λ (found : Option (List ℕ × List ℕ)). unwrap_or found (decimal n ++ codes "\n", []))
     (cut-digits 10 (decimal n) [] (decimal_is_IsNumeral n fits).0.1 (omega arith))
 
-pub config_place : (line code : ℕ) → line < 2 ^ 64 → place_of (config_line line code) ≡ decimal line
-config_place line code fits = ap (λ (p : List ℕ × List ℕ). p.0) (cut_numbers line code fits)
+pub config_location : (line code : ℕ) → line < 2 ^ 64 → location_of (config_line line code) ≡ decimal line
+config_location line code fits = ap (λ (p : List ℕ × List ℕ). p.0) (cut_numbers line code fits)
 
 pub config_code : (line code : ℕ) → line < 2 ^ 64 → code < 2 ^ 64 → code_of (config_line line code) ≡ decimal code
 config_code line code fits small =
     ap (λ (p : List ℕ × List ℕ). (cut_or_end 10 p.1).0) (cut_numbers line code fits) ∙ ap (λ (p : List ℕ × List ℕ). p.0) (cut_number code small)
 
-pub record_place : (offset code : ℕ) → offset < 2 ^ 64 → place_of (record_line offset code) ≡ decimal offset
-record_place offset code fits = ap (λ (p : List ℕ × List ℕ). p.0) (cut_numbers offset code fits)
+pub record_location : (offset code : ℕ) → offset < 2 ^ 64 → location_of (record_line offset code) ≡ decimal offset
+record_location offset code fits = ap (λ (p : List ℕ × List ℕ). p.0) (cut_numbers offset code fits)
 
 pub record_code : (offset code : ℕ) → offset < 2 ^ 64 → code < 2 ^ 64 → code_of (record_line offset code) ≡ decimal code
 record_code offset code fits small =
     ap (λ (p : List ℕ × List ℕ). (cut_or_end 10 p.1).0) (cut_numbers offset code fits) ∙ ap (λ (p : List ℕ × List ℕ). p.0) (cut_number code small)
 
-pub config_told : (name : List ℕ) (file_failed : Bool) (last_line : List ℕ) (line code : ℕ) → line < 2 ^ 64 → code < 2 ^ 64
+pub config_explained : (name : List ℕ) (file_failed : Bool) (last_line : List ℕ) (line code : ℕ) → line < 2 ^ 64 → code < 2 ^ 64
     → last_line ≡ config_line line code → explanation 3 name file_failed last_line ≡ config_refused name (decimal line) (decimal code)
 unfolding explanation
-config_told name file_failed last_line line code fits small is =
-    rw (is) (ap (λ place. config_refused name place (code_of (config_line line code))) (config_place line code fits)
+config_explained name file_failed last_line line code fits small is =
+    rw (is) (ap (λ location. config_refused name location (code_of (config_line line code))) (config_location line code fits)
     ∙ ap (config_refused name (decimal line)) (config_code line code fits small))
 
-pub record_told : (name : List ℕ) (file_failed : Bool) (last_line : List ℕ) (offset code : ℕ) → offset < 2 ^ 64 → code < 2 ^ 64
+pub record_explained : (name : List ℕ) (file_failed : Bool) (last_line : List ℕ) (offset code : ℕ) → offset < 2 ^ 64 → code < 2 ^ 64
     → last_line ≡ record_line offset code → explanation 4 name file_failed last_line ≡ record_refused (decimal offset) (decimal code)
 unfolding explanation
-record_told name file_failed last_line offset code fits small is =
-    rw (is) (ap (λ place. record_refused place (code_of (record_line offset code))) (record_place offset code fits)
+record_explained name file_failed last_line offset code fits small is =
+    rw (is) (ap (λ location. record_refused location (code_of (record_line offset code))) (record_location offset code fits)
     ∙ ap (record_refused (decimal offset)) (record_code offset code fits small))

@@ -69,3 +69,5 @@ lines_of_cut text line after is = ap (map (strip_last 13)) (split_cut 10 text li
 
 pub lines_of_uncut : (text : List ℕ) → cut_of 10 text ≡ None → lines_of text ≡ strip_last 13 text ∷ []
 lines_of_uncut text is = ap (map (strip_last 13)) (split_uncut 10 text is)
+
+pub ruleset first_lines = (lines_of_cut, lines_of_uncut, size_of_cut)

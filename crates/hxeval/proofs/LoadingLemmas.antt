@@ -8,6 +8,7 @@ use Rattle.hx_words.specs.declared.WordFault.{WordFault}
 use Rattle.hxeval.specs.Configuration.{Refusal, SpellsRule, SpellsNoRule, HasWordFault, IsRefused, GiveRules, IsFirstRefused, LoadsLines, Loads, rule_or_unsupported, statement_of, statement_of_words, fault_code, line_rule, then_rules, lines_of, loaded_from, loaded}
 use Rattle.hxeval.specs.Rules.{Rule}
 use Rattle.hxeval.specs.Statement.{Spells, rule_of}
+use Rattle.hxeval.proofs.LoadLemmas.{after_no_rules}
 use Rattle.hxeval.proofs.StatementLemmas.{spelled, spells, no_rule}
 
 -- ---- what a line says, from the function to the relation
@@ -164,3 +165,5 @@ only_loads env config found l = only_lines env 1 (lines_of config) found l
 pub one_loading : (env : Env) (config : List ℕ) (found : Result (List Rule) Refusal) → (loaded env config ≡ found) ↔ Loads env config found
 one_loading env config found =
     ((λ is. let P : Result (List Rule) Refusal → Type 0 = λ f. Loads env config f in subst P is (loads env config)), only_loads env config found)
+
+pub ruleset loading = (after_no_rules, loads)

@@ -102,7 +102,7 @@ abbrev pub statement_of_words : Result (List (List ℕ)) WordFault → Result (O
 statement_of_words (Ok words) = statement_of words
 statement_of_words (Err fault) = Err (fault_code fault)
 
--- what a line says; its words are judged before the statement that they spell
+-- what a line says; a fault of its words comes before the statement that they spell
 unfoldable pub line_rule : Env → List ℕ → Result (Option Rule) ℕ
 line_rule env line = statement_of_words (words_of env line)
 

@@ -22,11 +22,11 @@ given_name words = unwrap_or (config_name words) (codes "the configuration")
 abbrev pub cut_or_end : ℕ → List ℕ → List ℕ × List ℕ
 cut_or_end byte text = unwrap_or (cut_of byte text) (text, [])
 
--- the place that a line `WORD PLACE CODE` tells
-abbrev pub place_of : List ℕ → List ℕ
-place_of line = (cut_or_end space (cut_or_end space line).1).0
+-- the line or the offset in a last line `config LINE CODE` or `record OFFSET CODE`
+abbrev pub location_of : List ℕ → List ℕ
+location_of line = (cut_or_end space (cut_or_end space line).1).0
 
--- the code that it tells
+-- the code in it
 abbrev pub code_of : List ℕ → List ℕ
 code_of line = (cut_or_end line_feed (cut_or_end space (cut_or_end space line).1).1).0
 
@@ -36,10 +36,10 @@ abbrev pub meaning_of : List (List ℕ × List ℕ × List ℕ) → List ℕ →
 meaning_of [] code = (UNKNOWN_CODE.0.now, UNKNOWN_CODE.1.now)
 meaning_of (row ∷ rows) code = if bytes_eq row.0 code then (row.1, row.2) else meaning_of rows code
 
--- `hxeval: PLACE: REASON (CODE NAME)`, where the place has two parts
-abbrev pub refusal_text : (subject separator place code : List ℕ) → List ℕ × List ℕ → List ℕ
-refusal_text subject separator place code meaning =
-    codes "hxeval: " ++ (subject ++ (separator ++ (place ++ (codes ": " ++ (meaning.1
+-- `hxeval: SUBJECT LOCATION: REASON (CODE NAME)`, with a separator for the blank
+abbrev pub refusal_text : (subject separator location code : List ℕ) → List ℕ × List ℕ → List ℕ
+refusal_text subject separator location code meaning =
+    codes "hxeval: " ++ (subject ++ (separator ++ (location ++ (codes ": " ++ (meaning.1
     ++ (codes " (" ++ (code ++ (codes " " ++ (meaning.0 ++ codes ")\n")))))))))
 
 -- `hxeval: NAME:LINE: REASON (CODE NAME)`
@@ -65,7 +65,7 @@ status_text other (row ∷ rows) status =
 unfoldable pub explanation
     : ℕ → (name : List ℕ) → (file_failed : Bool) → (last_line : List ℕ) → List ℕ
 explanation status name file_failed last_line =
-    if status == 3 then config_refused name (place_of last_line) (code_of last_line) else
-    (if status == 4 then record_refused (place_of last_line) (code_of last_line) else
+    if status == 3 then config_refused name (location_of last_line) (code_of last_line) else
+    (if status == 4 then record_refused (location_of last_line) (code_of last_line) else
     (if status == 5 && file_failed then codes "hxeval: " ++ (name ++ codes " can't be read\n") else
     status_text UNKNOWN_STATUS.now (map (λ row. (row.0, row.1.now)) STATUS_TEXTS) status))

@@ -6,7 +6,7 @@ ghost use Rattle.hx_outside.specs.Prefixes.{AppendsPrefix};
 ghost use Rattle.hxeval.specs.Replay.{record_line};
 ghost use Rattle.hxeval.specs.Run.{config_line, texts_of};
 ghost use Rattle.hxeval.specs.Explanation.{all_of, explanation, refusal_text, config_refused};
-ghost use Rattle.hxeval.specs.Explanation.{record_refused, meaning_of, status_text, cut_or_end, place_of};
+ghost use Rattle.hxeval.specs.Explanation.{record_refused, meaning_of, status_text, cut_or_end, location_of};
 ghost use Rattle.hxeval.specs.Explanation.{code_of, given_name};
 
 use crate::run::config_name;
@@ -106,8 +106,8 @@ type Parts<'t> = [&'t [u8]; 11];
 /// `words` are those of the command line, `file_failed` says that the configuration couldn't be
 /// read, and `last_line` is the last line that was written.
 ///
-/// A refused configuration is told as `hxeval: NAME:LINE: REASON (CODE NAME OF CODE)`, a refused
-/// record as `hxeval: record, byte OFFSET: REASON (CODE NAME OF CODE)`.
+/// A refused configuration is explained as `hxeval: CONFIG:LINE: REASON (CODE NAME)`, a refused record
+/// as `hxeval: record, byte OFFSET: REASON (CODE NAME)`, where the code has this name and reason.
 ///
 /// `Failed` only where the count of faults of `err` rose, and `NoMemory` where memory ran out: a
 /// prefix of the text was then written.
@@ -123,7 +123,7 @@ pub fn explain<K: Sink>(
     ensures prefix { AppendsPrefix (K.written err.old) (K.written err.new)
         (explanation status (given_name (texts_of words.now)) file_failed last_line.now) }
     ensures failed { IsErrOf result SinkFault.Failed → Rose (K.faults err.old) (K.faults err.new) }
-    // The text of a refusal names the line or the offset, and the code, that the last line tells.
+    // The text of a refusal names the line or the offset, and the code, that the last line has.
     ensures config { (line code : ℕ) → line < 2 ^ 64 → code < 2 ^ 64
         → last_line.now ≡ config_line line code
         → explanation 3 (given_name (texts_of words.now)) file_failed last_line.now
@@ -158,8 +158,8 @@ fn explanation<'t>(status: u8, name: &'t [u8], file_failed: bool, last_line: &'t
     match status {
         3 => refusal(name, b":", last_line, &CONFIG_CODES),
         4 => refusal(b"record", b", byte ", last_line, &RECORD_CODES),
-        5 if file_failed => three(b"hxeval: ", name, b" can't be read\n"),
-        _ => three(
+        5 if file_failed => three_parts(b"hxeval: ", name, b" can't be read\n"),
+        _ => three_parts(
             text_of_status(&STATUS_TEXTS, status, UNKNOWN_STATUS),
             b"",
             b"",
@@ -168,14 +168,14 @@ fn explanation<'t>(status: u8, name: &'t [u8], file_failed: bool, last_line: &'t
 }
 
 /// A text of three parts.
-fn three<'t>(first: &'t [u8], second: &'t [u8], third: &'t [u8]) -> Parts<'t>
+fn three_parts<'t>(first: &'t [u8], second: &'t [u8], third: &'t [u8]) -> Parts<'t>
     ensures { all_of result ≡ first.now ++ (second.now ++ third.now) }
 {
     [first, second, third, b"", b"", b"", b"", b"", b"", b"", b""]
 }
 
-/// Where in the configuration or the record, and why, it is refused, as the last line and the table
-/// of codes tell.
+/// Where in the configuration or the record, and why, it is refused, by the last line and the table
+/// of codes.
 fn refusal<'t>(
     subject: &'t [u8],
     separator: &'t [u8],
@@ -184,7 +184,7 @@ fn refusal<'t>(
 ) -> Parts<'t>
     ensures { let code = code_of last_line.now in
         let texts = map (λ row. (row.0.now, row.1.now, row.2.now)) rows.now in
-        all_of result ≡ refusal_text subject.now separator.now (place_of last_line.now) code
+        all_of result ≡ refusal_text subject.now separator.now (location_of last_line.now) code
         (meaning_of texts code) }
 {
     let code = code(last_line);
@@ -193,7 +193,7 @@ fn refusal<'t>(
         b"hxeval: ",
         subject,
         separator,
-        place(last_line),
+        location(last_line),
         b": ",
         reason,
         b" (",
@@ -236,9 +236,9 @@ fn text_of_status<'t>(
     other
 }
 
-/// The second word of a line, which is the place of a refusal.
-fn place(line: &[u8]) -> &[u8]
-    ensures { result.now ≡ place_of line.now }
+/// The second word of a line, which is the line or the offset of a refusal.
+fn location(line: &[u8]) -> &[u8]
+    ensures { result.now ≡ location_of line.now }
 {
     cut_or_end(b' ', cut_or_end(b' ', line).1).0
 }
@@ -267,6 +267,13 @@ mod tests {
     use hx_outside::MemSink;
     use std::test::Fail;
 
+    const USAGE: &[u8] =
+        b"usage: hxeval run CONFIG\n\nReplays the record on standard input through \
+        the rules of the file CONFIG, and\nwrites one line for each request: whether a rule denies \
+        it or it passes.\n\nExit status: 0 done, 2 wrong words, 3 configuration refused, 4 record \
+        refused,\n5 a file or the record can't be read, 6 an answer can't be written, 7 out of \
+        memory.\n";
+
     /// Each status and each code of both tables, with the last line that was written.
     #[test]
     fn each_status_and_each_code_is_explained(rt: HostRuntime) -> Result<(), Fail> {
@@ -274,7 +281,7 @@ mod tests {
         let cases: [(u8, bool, &[u8], &[u8]); 21] = [
             (0, false, b"9 pass -\n", b""),
             (1, false, b"", b"hxeval: ended with an unknown status\n"),
-            (2, false, b"", STATUS_TEXTS[1].1),
+            (2, false, b"", USAGE),
             (
                 3,
                 false,

@@ -7,7 +7,7 @@ ghost use Rattle.hxeval.specs.LastLine.{start_after, start_after_all};
 use hx_outside::{Sink, SinkFault};
 use std::marker::Model;
 
-/// The most bytes of a line that are looked at: more than a line that tells a refusal can have.
+/// The most bytes of a line that are looked at: more than the last line of a refusal can have.
 const MAX_START_LEN: usize = 64;
 
 /// The beginning of the last line of a text that goes by, seen as those bytes and whether the line
@@ -161,33 +161,18 @@ mod tests {
     fn the_last_line_is_known_however_it_is_written(rt: HostRuntime) -> Result<(), Fail> {
         let mut long = [b'a'; 200];
         long[199] = b'\n';
-        let cases: [(usize, &[&[u8]], &[u8]); 5] = [
-            (
-                1,
-                &[b"1 pass -\n2 deny", b" 403\n", b"record 38 7\n"],
-                b"record 38 7\n",
-            ),
-            (
-                3,
-                &[b"1 pass -\n2 deny", b" 403\n", b"record 38 7\n"],
-                b"record 38 7\n",
-            ),
-            (
-                64,
-                &[b"1 pass -\n2 deny", b" 403\n", b"record 38 7\n"],
-                b"record 38 7\n",
-            ),
-            (7, &[&long], &long[..64]),
-            (7, &[&long, b"config 1 9\n"], b"config 1 9\n"),
-        ];
-        for (piece, texts, last) in cases {
+        for piece in [1, 3, 64] {
             let sink = MemSink::new(rt.alloc(), piece.max(1), Vec::new(rt.alloc()));
             let mut out = LastLine::new(sink);
             assert_eq!(rt; out.line(), b"".as_slice());
-            for text in texts {
-                assert!(rt; write_all(&mut out, text).is_ok());
+            for line in [b"1 pass -\n2 deny".as_slice(), b" 403\n", b"record 38 7\n"] {
+                assert!(rt; write_all(&mut out, line).is_ok());
             }
-            assert_eq!(rt; out.line(), last);
+            assert_eq!(rt; out.line(), b"record 38 7\n".as_slice());
+            assert!(rt; write_all(&mut out, &long).is_ok());
+            assert_eq!(rt; out.line(), [b'a'; 64].as_slice());
+            assert!(rt; write_all(&mut out, b"config 1 9\n").is_ok());
+            assert_eq!(rt; out.line(), b"config 1 9\n".as_slice());
         }
         Ok(())
     }

@@ -20,7 +20,7 @@ pub fn statements()
         → (rule_of words ≡ Some rule) ↔ Spells words rule }
 {}
 
-/// Once a whole line went by, whatever came before it, what is kept is that line's beginning.
+/// Once a whole line went by, what is known is that line's beginning, whatever came before it.
 pub fn last_line()
     ensures { (before : LineStart) (line : List ℕ) → before.ended ≡ true → is_inside line ≡ true
         → start_after_all before (line ++ line_feed ∷ [])

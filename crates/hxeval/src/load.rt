@@ -56,7 +56,7 @@ impl From<NoMemory> for LineFault {
 ///
 /// `Refused` exactly where a line has a fault, with the first one's number and code: 1 to 4 for its
 /// words, 9 where they spell no statement. `NoMemory` says nothing of the configuration.
-#[tactic(auto, using(crate::proofs::LoadLemmas::after_no_rules, crate::proofs::LoadingLemmas::loads), unfolding(crate::specs::Configuration::loaded))]
+#[tactic(auto, using(crate::proofs::LoadingLemmas::loading), unfolding(crate::specs::Configuration::loaded))]
 pub fn load(alloc: Global, env: &[(Vec<u8>, Vec<u8>)], config: &[u8]) -> Result<Rules, LoadFault>
     ensures accepted { IfOk result (λ rules. loaded (pairs_of env.now) config.now ≡ Ok rules) }
     ensures refused { (line code : ℕ) → result ≡ Err (LoadFault.Refused line code)
@@ -84,7 +84,7 @@ pub fn load(alloc: Global, env: &[(Vec<u8>, Vec<u8>)], config: &[u8]) -> Result<
 }
 
 /// The first line of a text, and the text after its line feed, where it has one.
-#[tactic(auto, using(crate::proofs::LoadLemmas::lines_of_cut, crate::proofs::LoadLemmas::size_of_cut, crate::proofs::LoadLemmas::lines_of_uncut))]
+#[tactic(auto, using(crate::proofs::LoadLemmas::first_lines))]
 fn first_line(text: &[u8]) -> (&[u8], Option<&[u8]>)
     ensures lines { lines_of text.now ≡ result.0.now ∷ lines_left (option_copied result.1) }
     ensures shorter { size_left (option_copied result.1) ≤ length text.now }

@@ -231,41 +231,43 @@ mod tests {
         }
     }
 
-    /// The same texts as arguments and as entries of the environment, up to the longest that are
-    /// taken, and one more byte.
+    /// The same texts as arguments and as entries of the environment.
     #[test]
     fn arguments_and_variables_are_read(rt: HostRuntime) -> Result<(), Fail> {
-        let longest = vec![in rt.alloc(); b'='; MAX_TEXT_LEN]?;
-        let cases: [(&[&[u8]], &[&[u8]], &[(&[u8], &[u8])]); 4] = [
-            (&[], &[], &[]),
-            (
-                &[b"hxeval", b"run", b"", b"a\xffb"],
-                &[b"run", b"", b"a\xffb"],
-                &[],
-            ),
-            (
-                &[b"A=x", b"none", b"B=", b"A=y=z", b"=w"],
-                &[b"none", b"B=", b"A=y=z", b"=w"],
-                &[(b"A", b"x"), (b"B", b""), (b"A", b"y=z"), (b"", b"w")],
-            ),
-            (&[b"hxeval", &longest], &[&longest], &[(b"", &longest[1..])]),
+        let texts: [&[u8]; 6] = [b"A=x", b"none", b"B=", b"A=y=z", b"", b"=\xff"];
+        let variables: [(&[u8], &[u8]); 4] = [
+            (b"A", b"x"),
+            (b"B", b""),
+            (b"A", b"y=z"),
+            (b"", b"\xff"),
         ];
-        for (texts, words, pairs) in cases {
-            let memory = MemTexts { texts };
-            let read = arguments(rt.alloc(), &MachineArguments(&memory))?;
-            assert_eq!(rt; read.len(), words.len());
-            for (word, text) in read.iter().zip(words) {
-                assert_eq!(rt; word.as_slice(), *text);
-            }
-            let read = environment(rt.alloc(), &MachineEntries(&memory))?;
-            assert_eq!(rt; read.len(), pairs.len());
-            for (pair, (name, value)) in read.iter().zip(pairs) {
-                assert_eq!(rt; pair.0.as_slice(), *name);
-                assert_eq!(rt; pair.1.as_slice(), *value);
-            }
+        let memory = MemTexts { texts: &texts };
+        let words = arguments(rt.alloc(), &MachineArguments(&memory))?;
+        assert_eq!(rt; words.len(), 5);
+        for (word, text) in words.iter().zip(&texts[1..]) {
+            assert_eq!(rt; word.as_slice(), *text);
         }
-        let longer = vec![in rt.alloc(); b'='; MAX_TEXT_LEN + 1]?;
-        let texts: [&[u8]; 2] = [b"hxeval", &longer];
+        let pairs = environment(rt.alloc(), &MachineEntries(&memory))?;
+        assert_eq!(rt; pairs.len(), 4);
+        for (pair, (name, value)) in pairs.iter().zip(&variables) {
+            assert_eq!(rt; pair.0.as_slice(), *name);
+            assert_eq!(rt; pair.1.as_slice(), *value);
+        }
+        Ok(())
+    }
+
+    /// How many texts there are, with a longest one that is taken or refused.
+    #[test]
+    fn texts_may_be_many_and_as_long_as_linux_hands_over(rt: HostRuntime) -> Result<(), Fail> {
+        let bytes = vec![in rt.alloc(); b'='; MAX_TEXT_LEN + 1]?;
+        let mut texts = vec![in rt.alloc(); &bytes[..3]; 1_000]?;
+        texts.push(&bytes[..MAX_TEXT_LEN])?;
+        let memory = MemTexts { texts: &texts };
+        let words = arguments(rt.alloc(), &memory)?;
+        assert_eq!(rt; words.len(), 1_000);
+        assert_eq!(rt; words[999].as_slice(), &bytes[..MAX_TEXT_LEN]);
+        assert_eq!(rt; environment(rt.alloc(), &memory)?.len(), 1_001);
+        texts.push(&bytes)?;
         let memory = MemTexts { texts: &texts };
         assert!(rt; arguments(rt.alloc(), &memory).err() == Some(MachineFault::TooLong));
         assert!(rt; environment(rt.alloc(), &memory).err() == Some(MachineFault::TooLong));
