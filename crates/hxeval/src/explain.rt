@@ -106,8 +106,8 @@ type Parts<'t> = [&'t [u8]; 11];
 /// `words` are those of the command line, `file_failed` says that the configuration couldn't be
 /// read, and `last_line` is the last line that was written.
 ///
-/// A refused configuration is explained as `hxeval: CONFIG:LINE: REASON (CODE NAME)`, a refused record
-/// as `hxeval: record, byte OFFSET: REASON (CODE NAME)`, where the code has this name and reason.
+/// A refused configuration is explained as `hxeval: CONFIG:LINE: REASON (CODE NAME)`, a refused
+/// record as `hxeval: record, byte OFFSET: REASON (CODE NAME)`, by the code's row in its table.
 ///
 /// `Failed` only where the count of faults of `err` rose, and `NoMemory` where memory ran out: a
 /// prefix of the text was then written.
@@ -267,126 +267,71 @@ mod tests {
     use hx_outside::MemSink;
     use std::test::Fail;
 
-    const USAGE: &[u8] =
-        b"usage: hxeval run CONFIG\n\nReplays the record on standard input through \
-        the rules of the file CONFIG, and\nwrites one line for each request: whether a rule denies \
-        it or it passes.\n\nExit status: 0 done, 2 wrong words, 3 configuration refused, 4 record \
-        refused,\n5 a file or the record can't be read, 6 an answer can't be written, 7 out of \
-        memory.\n";
+    /// Each status, and each code of both tables: the status, whether the configuration couldn't be
+    /// read, and the last line.
+    const RUNS: [(u8, bool, &[u8]); 21] = [
+        (0, false, b"9 pass -\n"),
+        (1, false, b""),
+        (2, false, b""),
+        (3, false, b"config 12 1\n"),
+        (3, false, b"config 1 2\n"),
+        (3, false, b"config 1 3\n"),
+        (3, false, b"config 1 4\n"),
+        (3, false, b"config 3 9\n"),
+        (3, false, b"config 3 17\n"),
+        (4, false, b"record 38 1\n"),
+        (4, false, b"record 0 2\n"),
+        (4, false, b"record 38 3\n"),
+        (4, false, b"record 4294967296 4\n"),
+        (4, false, b"record 0 5\n"),
+        (4, false, b"record 9 6\n"),
+        (4, false, b"record 9 7\n"),
+        (4, false, b"record 9 9\n"),
+        (5, true, b""),
+        (5, false, b""),
+        (6, false, b""),
+        (7, false, b""),
+    ];
 
-    /// Each status and each code of both tables, with the last line that was written.
+    const EXPLAINED: &[u8] = b"hxeval: ended with an unknown status\n\
+        usage: hxeval run CONFIG\n\
+        \n\
+        Replays the record on standard input through the rules of the file CONFIG, and\n\
+        writes one line for each request: whether a rule denies it or it passes.\n\
+        \n\
+        Exit status: 0 done, 2 wrong words, 3 configuration refused, 4 record refused,\n\
+        5 a file or the record can't be read, 6 an answer can't be written, 7 out of memory.\n\
+        hxeval: deny.cfg:12: the line ends inside a quote (1 OpenQuote)\n\
+        hxeval: deny.cfg:1: \\x needs two hexadecimal digits after it (2 BadEscape)\n\
+        hxeval: deny.cfg:1: $ in double quotes needs NAME or {NAME} after it (3 BadVariable)\n\
+        hxeval: deny.cfg:1: the line has more than 256 words (4 TooManyWords)\n\
+        hxeval: deny.cfg:3: unknown or unsupported statement (9 Unsupported)\n\
+        hxeval: deny.cfg:3: unknown code (17 Unknown)\n\
+        hxeval: record, byte 38: unknown or unsupported event, words missing or too many, \
+        a word that is no address, or another byte than a line feed after a request (1 BadLine)\n\
+        hxeval: record, byte 0: a number of this line isn't digits, or is above its limit \
+        (2 BadNumber)\n\
+        hxeval: record, byte 38: the record ends inside the request that begins here \
+        (3 CutRequest)\n\
+        hxeval: record, byte 4294967296: the record goes on after 4294967296 bytes (4 TooLong)\n\
+        hxeval: record, byte 0: this line has more than 65536 bytes (5 LineTooLong)\n\
+        hxeval: record, byte 9: the connection of this line isn't open (6 UnknownConn)\n\
+        hxeval: record, byte 9: the connection of this line is open already (7 ConnOpen)\n\
+        hxeval: record, byte 9: unknown code (9 Unknown)\n\
+        hxeval: deny.cfg can't be read\n\
+        hxeval: the record can't be read from standard input\n\
+        hxeval: the answers can't be written to standard output\n\
+        hxeval: out of memory\n";
+
     #[test]
     fn each_status_and_each_code_is_explained(rt: HostRuntime) -> Result<(), Fail> {
         let alloc = rt.alloc();
-        let cases: [(u8, bool, &[u8], &[u8]); 21] = [
-            (0, false, b"9 pass -\n", b""),
-            (1, false, b"", b"hxeval: ended with an unknown status\n"),
-            (2, false, b"", USAGE),
-            (
-                3,
-                false,
-                b"config 12 1\n",
-                b"hxeval: deny.cfg:12: the line ends inside a quote (1 OpenQuote)\n",
-            ),
-            (
-                3,
-                false,
-                b"config 1 2\n",
-                b"hxeval: deny.cfg:1: \\x needs two hexadecimal digits after it (2 BadEscape)\n",
-            ),
-            (
-                3,
-                false,
-                b"config 1 3\n",
-                b"hxeval: deny.cfg:1: $ in double quotes needs NAME or {NAME} after it (3 BadVariable)\n",
-            ),
-            (
-                3,
-                false,
-                b"config 1 4\n",
-                b"hxeval: deny.cfg:1: the line has more than 256 words (4 TooManyWords)\n",
-            ),
-            (
-                3,
-                false,
-                b"config 3 9\n",
-                b"hxeval: deny.cfg:3: unknown or unsupported statement (9 Unsupported)\n",
-            ),
-            (
-                3,
-                false,
-                b"config 3 17\n",
-                b"hxeval: deny.cfg:3: unknown code (17 Unknown)\n",
-            ),
-            (
-                4,
-                false,
-                b"record 38 1\n",
-                b"hxeval: record, byte 38: unknown or unsupported event, words missing or too many, a word that is no address, or another byte than a line feed after a request (1 BadLine)\n",
-            ),
-            (
-                4,
-                false,
-                b"record 0 2\n",
-                b"hxeval: record, byte 0: a number of this line isn't digits, or is above its limit (2 BadNumber)\n",
-            ),
-            (
-                4,
-                false,
-                b"record 38 3\n",
-                b"hxeval: record, byte 38: the record ends inside the request that begins here (3 CutRequest)\n",
-            ),
-            (
-                4,
-                false,
-                b"record 4294967296 4\n",
-                b"hxeval: record, byte 4294967296: the record goes on after 4294967296 bytes (4 TooLong)\n",
-            ),
-            (
-                4,
-                false,
-                b"record 0 5\n",
-                b"hxeval: record, byte 0: this line has more than 65536 bytes (5 LineTooLong)\n",
-            ),
-            (
-                4,
-                false,
-                b"record 9 6\n",
-                b"hxeval: record, byte 9: the connection of this line isn't open (6 UnknownConn)\n",
-            ),
-            (
-                4,
-                false,
-                b"record 9 7\n",
-                b"hxeval: record, byte 9: the connection of this line is open already (7 ConnOpen)\n",
-            ),
-            (
-                4,
-                false,
-                b"record 9 9\n",
-                b"hxeval: record, byte 9: unknown code (9 Unknown)\n",
-            ),
-            (5, true, b"", b"hxeval: deny.cfg can't be read\n"),
-            (
-                5,
-                false,
-                b"",
-                b"hxeval: the record can't be read from standard input\n",
-            ),
-            (
-                6,
-                false,
-                b"",
-                b"hxeval: the answers can't be written to standard output\n",
-            ),
-            (7, false, b"", b"hxeval: out of memory\n"),
-        ];
         let words = vec![in alloc; b"run".to_vec(alloc)?, b"deny.cfg".to_vec(alloc)?]?;
-        for (status, file_failed, last_line, text) in cases {
-            let mut err = MemSink::new(alloc, 9, Vec::new(alloc));
+        let mut err = MemSink::new(alloc, 9, Vec::new(alloc));
+        for (status, file_failed, last_line) in RUNS {
             explain(&mut err, status, &words, file_failed, last_line)?;
-            assert_eq!(rt; err.bytes(), text);
         }
+        assert_eq!(rt; err.bytes(), EXPLAINED);
         let mut err = MemSink::new(alloc, 9, vec![in alloc; 1u64]?);
         assert!(rt; explain(&mut err, 7, &words, false, b"").is_err());
         Ok(())
