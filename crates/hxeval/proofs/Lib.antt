@@ -1,5 +1,5 @@
-pub mod CutLemmas
 pub mod LoadLemmas
+pub mod LoadingLemmas
 pub mod ReplayLemmas
 pub mod RunLemmas
 pub mod StatusLemmas

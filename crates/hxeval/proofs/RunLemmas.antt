@@ -6,14 +6,13 @@ use Rattle.hx_base.specs.Pairs.{value_at}
 use Rattle.hx_outside.specs.declared.FileFault.{FileFault}
 use Rattle.hx_outside.specs.declared.FileFault.TheVariants as file
 use Rattle.hx_words.specs.Variable.{Env}
-use Rattle.hxeval.specs.Configuration.{loaded}
+use Rattle.hxeval.specs.Configuration.{Refusal, loaded}
 use Rattle.hxeval.specs.Rules.{Rule}
 use Rattle.hxeval.specs.Replay.{Outcome, replayed, start}
 use Rattle.hxeval.specs.Run.{IsConfig, SourceFails, config_line, outcome_of}
 use Rattle.hxeval.specs.RunFault.{Attempted, Leaves, from_file, from_load, from_replay}
 use Rattle.hxeval.specs.Told.{IsRecord, Told, ToldDecided, Ends, answers_of, record_limit}
 use Rattle.hx_record.specs.Record.{decided_items}
-use Rattle.hxeval.specs.declared.load.Refusal.{Refusal}
 use Rattle.hxeval.specs.declared.load.LoadFault.{LoadFault}
 use Rattle.hxeval.specs.declared.load.LoadFault.TheVariants as load
 use Rattle.hxeval.specs.declared.replay.ReplayFault.{ReplayFault}
@@ -66,19 +65,19 @@ unread env held name left old file.NoMemory = unknown env held name left old (Er
 
 -- the configuration isn't loaded
 pub unloaded : (env : Env) (held : Held) (name items : List ℕ) (left old : Known) (fault : LoadFault) → IsConfig held name (Some items)
-    → ((refusal : Refusal) → fault ≡ load.Refused refusal → loaded env items ≡ Err refusal)
+    → ((line code : ℕ) → fault ≡ load.Refused line code → loaded env items ≡ Err (record { line = line; code = code }))
     → Attempted env held name left old old (Err (from_load fault))
 unfolding outcome_of
-unloaded env held name items left old (load.Refused refusal) config refused =
-    let outcome : outcome_of env (Some items) (unwrap_or left []) ≡ record { text = config_line refusal.line refusal.code; status = 3 } =
-    rw (refused refusal refl) refl in
+unloaded env held name items left old (load.Refused line code) config refused =
+    let outcome : outcome_of env (Some items) (unwrap_or left []) ≡ record { text = config_line line code; status = 3 } =
+    rw (refused line code refl) refl in
     record {
       config = Some items;
       bytes = unwrap_or left [];
       of_files = config;
       of_source = record_in_is left;
       wrote = [];
-      rest = config_line refusal.line refusal.code;
+      rest = config_line line code;
       whole = ap (λ (o : Outcome). o.text) outcome;
       appended = Appends-nil old;
       leaves = (ap (λ (o : Outcome). o.status) outcome, refl);

@@ -1,5 +1,5 @@
 -- The rule that words spell, read from the left, is the one that spells them.
-use Rattle.std.proofs.Common.{◌≡◌, ℕ, suc, ◌+◌, ◌-◌, ◌<◌, ◌≤◌, ◌&&◌, Bool, true, false, cond, List, [], ◌∷◌, ◌++◌, length, take, get_or, Option, None, Some, IfSome, arith, refl, sym, ◌∙◌, ap, length-append, ltb}
+use Rattle.std.proofs.Common.{◌≡◌, ℕ, suc, ◌+◌, ◌-◌, ◌<◌, ◌≤◌, ◌&&◌, Bool, true, false, cond, List, [], ◌∷◌, ◌++◌, length, take, get_or, Option, None, Some, arith, refl, sym, ◌∙◌, ap, length-append, ltb}
 use Rattle.std.specs.Prelude.{◌↔◌, codes, option_and_then}
 use Rattle.std.specs.List.{list_all}
 use Rattle.std.specs.Str.{bytes_eq}
@@ -10,7 +10,7 @@ use Rattle.std.proofs.lemmas.List.{length-take-le, take-append-drop}
 use Rattle.std.proofs.lemmas.Option.{same_Some, none-some, cond_some}
 use Rattle.std.proofs.lemmas.Slice.Eq.{bytes_eq-Decides}
 use Rattle.hxeval.specs.Rules.{Rule}
-use Rattle.hxeval.specs.Statement.{Spells, is_value, polarity, polarity_of, behind_word, values_of, condition_of, conditional, rule_with, rule_of}
+use Rattle.hxeval.specs.Statement.{Spells, is_value, polarity, polarity_of, words_after, values_of, condition_of, conditional_rule, rule_with, rule_of}
 
 -- the values before a closing brace are read as they are
 values_of-spelled : (values : List (List ℕ)) → 0 < length values → list_all is_value values ≡ true → values_of (values ++ codes "}" ∷ []) ≡ Some values
@@ -41,10 +41,10 @@ and_then_some : {A B : Type 0} (f : A → Option B) (o : Option A) (y : B) → o
 and_then_some f None y is = absurd (none-some y is)
 and_then_some f (Some x) y is = (x, refl, is)
 
-behind_word_is : (word : List ℕ) (words rest : List (List ℕ)) → behind_word word words ≡ Some rest → words ≡ word ∷ rest
-behind_word_is word [] rest is = absurd (none-some rest is)
-behind_word_is word (first ∷ words) rest is =
-    let (same, behind) = cond_some (bytes_eq first word) words rest is in
+words_after_is : (word : List ℕ) (words rest : List (List ℕ)) → words_after word words ≡ Some rest → words ≡ word ∷ rest
+words_after_is word [] rest is = absurd (none-some rest is)
+words_after_is word (first ∷ words) rest is =
+    let (same, after) = cond_some (bytes_eq first word) words rest is in
     let first_is : first ≡ word = same_bytes first word same in cc
 
 polarity_by : (word : List ℕ) (unless b : Bool) → bytes_eq word (codes "if") ≡ b → polarity_of word ≡ Some unless → word ≡ polarity unless
@@ -52,14 +52,14 @@ polarity_by word unless true same is =
     let found : Some false ≡ Some unless = sym (rw same refl) ∙ is in
     same_bytes word (codes "if") same ∙ ap polarity (same_Some false unless found)
 polarity_by word unless false other is =
-    let behind : cond (bytes_eq word (codes "unless")) (Some true) None ≡ Some unless = rw other at is in
-    let (same, turned) = cond_some (bytes_eq word (codes "unless")) true unless behind in
+    let after : cond (bytes_eq word (codes "unless")) (Some true) None ≡ Some unless = rw other at is in
+    let (same, turned) = cond_some (bytes_eq word (codes "unless")) true unless after in
     same_bytes word (codes "unless") same ∙ ap polarity turned
 
 polarity_is : (word : List ℕ) (unless : Bool) → polarity_of word ≡ Some unless → word ≡ polarity unless
 polarity_is word unless is = polarity_by word unless (bytes_eq word (codes "if")) refl is
 
--- the last of several words stands behind the others
+-- the last of several words follows the others
 last_word : (words : List (List ℕ)) → 0 < length words → words ≡ take (length words - 1) words ++ get_or words (length words - 1) [] ∷ []
 last_word words some =
     let n = length words - 1 in
@@ -83,37 +83,35 @@ rule_with_is (Some unless) (Some values) rule is = let same = same_Some _ rule i
 rule_with_is (Some unless) None rule is = absurd (none-some rule is)
 rule_with_is None values rule is = absurd (none-some rule is)
 
-conditional_is : (words : List (List ℕ)) (rule : Rule) → conditional words ≡ Some rule
+conditional_rule_is : (words : List (List ℕ)) (rule : Rule) → conditional_rule words ≡ Some rule
     → (words ≡ polarity rule.unless ∷ codes "{" ∷ codes "path" ∷ (rule.values ++ codes "}" ∷ [])) × (0 < length rule.values) × (list_all is_value rule.values ≡ true)
-conditional_is [] rule is = absurd (none-some rule is)
-conditional_is (word ∷ words) rule is =
+conditional_rule_is [] rule is = absurd (none-some rule is)
+conditional_rule_is (word ∷ words) rule is =
     let (unless, values) = rule_with_is (polarity_of word) (condition_of words) rule is in
-    let (behind_path, path, values_are) = and_then_some values_of (option_and_then (behind_word (codes "path")) (behind_word (codes "{") words)) rule.values values in
-    let (behind_brace, brace, path_is) = and_then_some (behind_word (codes "path")) (behind_word (codes "{") words) behind_path path in
-    let (closed, some, all) = values_of_is behind_path rule.values values_are in
+    let (after_path, path, values_are) = and_then_some values_of (option_and_then (words_after (codes "path")) (words_after (codes "{") words)) rule.values values in
+    let (after_brace, brace, path_is) = and_then_some (words_after (codes "path")) (words_after (codes "{") words) after_path path in
+    let (closed, some, all) = values_of_is after_path rule.values values_are in
     let first : word ≡ polarity rule.unless = polarity_is word rule.unless unless in
-    let second : words ≡ codes "{" ∷ behind_brace = behind_word_is (codes "{") words behind_brace brace in
-    let third : behind_brace ≡ codes "path" ∷ behind_path = behind_word_is (codes "path") behind_brace behind_path path_is in
+    let second : words ≡ codes "{" ∷ after_brace = words_after_is (codes "{") words after_brace brace in
+    let third : after_brace ≡ codes "path" ∷ after_path = words_after_is (codes "path") after_brace after_path path_is in
     (rw (first, second, third, closed) refl, some, all)
 
 -- the rule that words are read as spells them
 pub spells : (words : List (List ℕ)) (rule : Rule) → rule_of words ≡ Some rule → Spells words rule
 unfolding rule_of
 spells words rule is =
-    let (behind_deny, deny, rest) = and_then_some conditional (option_and_then (behind_word (codes "deny")) (behind_word (codes "http-request") words)) rule is in
-    let (behind_http, http, deny_is) = and_then_some (behind_word (codes "deny")) (behind_word (codes "http-request") words) behind_deny deny in
-    let (conditional_are, some, all) = conditional_is behind_deny rule rest in
-    let first : words ≡ codes "http-request" ∷ behind_http = behind_word_is (codes "http-request") words behind_http http in
-    let second : behind_http ≡ codes "deny" ∷ behind_deny = behind_word_is (codes "deny") behind_http behind_deny deny_is in
-    record { words_are = rw (first, second, conditional_are) refl; some = some; values = all }
+    let (after_deny, deny, rest) = and_then_some conditional_rule (option_and_then (words_after (codes "deny")) (words_after (codes "http-request") words)) rule is in
+    let (after_http, http, deny_is) = and_then_some (words_after (codes "deny")) (words_after (codes "http-request") words) after_deny deny in
+    let (condition_are, some, all) = conditional_rule_is after_deny rule rest in
+    let first : words ≡ codes "http-request" ∷ after_http = words_after_is (codes "http-request") words after_http http in
+    let second : after_http ≡ codes "deny" ∷ after_deny = words_after_is (codes "deny") after_http after_deny deny_is in
+    record { words_are = rw (first, second, condition_are) refl; some = some; values = all }
 
--- what is read spells the words, and nothing else does
-pub spells_found : (words : List (List ℕ)) (found : Option Rule) → found ≡ rule_of words → IfSome found (Spells words)
-spells_found words None is = tt
-spells_found words (Some rule) is = spells words rule (sym is)
+-- no words spell no rule
+pub no_rule : rule_of [] ≡ None
+unfolding rule_of
+no_rule = refl
 
-pub spells_only : (words : List (List ℕ)) (found : Option Rule) → found ≡ rule_of words → (rule : Rule) → Spells words rule → found ≡ Some rule
-spells_only words found is rule s = is ∙ spelled words rule s
-
+-- words are read as a rule exactly where they spell it
 pub one_rule : (words : List (List ℕ)) (rule : Rule) → (rule_of words ≡ Some rule) ↔ Spells words rule
 one_rule words rule = (spells words rule, spelled words rule)

@@ -3,7 +3,7 @@ use Rattle.std.proofs.Common.{◌≡◌, ◌≢◌, ℕ, zero, suc, ◌<◌, ◌
 use Rattle.std.specs.Io.KnownBytes.{Appends}
 use Rattle.std.proofs.KnownBytes.{Appends-trans}
 use Rattle.hx_words.specs.Variable.{Env}
-use Rattle.hxeval.specs.Configuration.{loaded}
+use Rattle.hxeval.specs.Configuration.{Refusal, loaded}
 use Rattle.hx_record.specs.Record.{Items, Unknown, Done, Bad, Then, record_items}
 use Rattle.hx_record.specs.declared.Placed.{Placed}
 use Rattle.hxeval.specs.Rules.{Rule}
@@ -11,9 +11,8 @@ use Rattle.hxeval.specs.Replay.{Outcome, replayed, with_prefix, record_refused, 
 use Rattle.hxeval.specs.Run.{Ran, Headline, IsConfig, judged, outcome_of}
 use Rattle.hxeval.specs.Told.{IsRecord, answers_of, record_limit}
 use Rattle.hxeval.specs.RunFault.{Attempted, Leaves, Finishes, last_line, status_of}
-use Rattle.hxeval.specs.declared.load.Refusal.{Refusal}
 use Rattle.hxeval.specs.declared.run_fault.RunFault.{RunFault}
-use Rattle.hxeval.specs.declared.run_fault.RunFault.TheVariants.{Config, Record, Files, Source, Sink, NoMemory}
+use Rattle.hxeval.specs.declared.run_fault.RunFault.TheVariants.{ConfigRefused, RecordRefused, Files, Source, Sink, NoMemory}
 use Rattle.hxeval.specs.declared.world.World.{World}
 
 -- a replay of status 0 was of a whole record of events that may stand where they stand, and its text is their answers
@@ -172,8 +171,8 @@ ran_stopped env held name left old mid new fault status a large none (inr (late,
 
 pub ran_finished : (env : Env) (held : Option (List (List ℕ × List ℕ))) (name : List ℕ) (left old mid new : Option (List ℕ)) (fault : RunFault) (status : ℕ)
     → Attempted env held name left old mid (Err fault) → Finishes fault mid new status → Ran env held name left old new status
-ran_finished env held name left old mid new (Config refusal) status a = ran_refused env held name left old mid new (Config refusal) status a a.leaves.0 a.leaves.1
-ran_finished env held name left old mid new (Record offset code) status a = ran_refused env held name left old mid new (Record offset code) status a a.leaves.0 a.leaves.1
+ran_finished env held name left old mid new (ConfigRefused line code) status a = ran_refused env held name left old mid new (ConfigRefused line code) status a a.leaves.0 a.leaves.1
+ran_finished env held name left old mid new (RecordRefused offset code) status a = ran_refused env held name left old mid new (RecordRefused offset code) status a a.leaves.0 a.leaves.1
 ran_finished env held name left old mid new Files status a = ran_stopped env held name left old mid new Files status a (omega arith) refl
 ran_finished env held name left old mid new Source status a = ran_stopped env held name left old mid new Source status a (omega arith) refl
 ran_finished env held name left old mid new Sink status a = ran_stopped env held name left old mid new Sink status a (omega arith) refl
@@ -181,8 +180,8 @@ ran_finished env held name left old mid new NoMemory status a = ran_stopped env 
 
 -- the statuses of faults
 fault_status : (fault : RunFault) → Contains (0 ∷ 3 ∷ 4 ∷ 5 ∷ 6 ∷ 7 ∷ []) (status_of fault)
-fault_status (Config refusal) = (1, omega arith, refl)
-fault_status (Record offset code) = (2, omega arith, refl)
+fault_status (ConfigRefused line code) = (1, omega arith, refl)
+fault_status (RecordRefused offset code) = (2, omega arith, refl)
 fault_status Files = (3, omega arith, refl)
 fault_status Source = (3, omega arith, refl)
 fault_status Sink = (4, omega arith, refl)
@@ -203,17 +202,17 @@ pub finished_line : (fault : RunFault) (old new : Option (List ℕ)) (status : �
 finished_line fault old new status (inl (same, appended)) small = appended
 finished_line fault old new status (inr (late, part)) small = absurd (omega (arith, late_large status late, small))
 
-pub is_config_refused : (fault : RunFault) → status_of fault ≡ 3 → (refusal : Refusal) × (fault ≡ Config refusal)
-is_config_refused (Config refusal) is = (refusal, refl)
-is_config_refused (Record offset code) is = absurd (omega (arith, is))
+pub is_config_refused : (fault : RunFault) → status_of fault ≡ 3 → (line : ℕ) × (code : ℕ) × (fault ≡ ConfigRefused line code)
+is_config_refused (ConfigRefused line code) is = (line, code, refl)
+is_config_refused (RecordRefused offset code) is = absurd (omega (arith, is))
 is_config_refused Files is = absurd (omega (arith, is))
 is_config_refused Source is = absurd (omega (arith, is))
 is_config_refused Sink is = absurd (omega (arith, is))
 is_config_refused NoMemory is = absurd (omega (arith, is))
 
 pub is_outside : (fault : RunFault) → status_of fault ≡ 5 → (fault ≡ Files) ⊎ (fault ≡ Source)
-is_outside (Config refusal) is = absurd (omega (arith, is))
-is_outside (Record offset code) is = absurd (omega (arith, is))
+is_outside (ConfigRefused line code) is = absurd (omega (arith, is))
+is_outside (RecordRefused offset code) is = absurd (omega (arith, is))
 is_outside Files is = inl refl
 is_outside Source is = inr refl
 is_outside Sink is = absurd (omega (arith, is))

@@ -1,10 +1,13 @@
--- What a person is told on standard error of a run that ended.
-use Rattle.std.specs.Prelude.{ℕ, Bool, ◌==◌, List, [], ◌++◌, codes, flat_map, unwrap_or, if◌then◌else◌}
+-- What a person reads on standard error of a run that ended. The names and reasons of codes, and the
+-- texts of statuses, are tables of the program: what is defined here is the sentence in which they
+-- stand.
+use Rattle.std.specs.Prelude.{ℕ, Bool, ◌==◌, ◌&&◌, List, [], ◌∷◌, ◌++◌, codes, flat_map, map, unwrap_or, if◌then◌else◌}
 use Rattle.std.specs.Borrow.{Bor}
-use Rattle.std.specs.List.{before_first, after_first}
 use Rattle.std.specs.Str.{bytes_eq}
-use Rattle.memchr.specs.Find.{is_byte}
+use Rattle.hx_base.specs.Bytes.{line_feed, space}
+use Rattle.hx_text.specs.Address.{cut_of}
 use Rattle.hxeval.specs.Run.{config_name}
+use Rattle.hxeval.specs.declared.explain.TheConstants.{CONFIG_CODES, RECORD_CODES, STATUS_TEXTS, UNKNOWN_CODE, UNKNOWN_STATUS}
 
 -- the bytes of all parts of a text
 abbrev pub all_of : List (Bor (List ℕ)) → List ℕ
@@ -14,54 +17,55 @@ all_of parts = flat_map (λ part. part.now) parts
 abbrev pub given_name : List (List ℕ) → List ℕ
 given_name words = unwrap_or (config_name words) (codes "the configuration")
 
--- the place that a line `WORD PLACE CODE` tells
-abbrev pub place_of : List ℕ → List ℕ
-place_of line = before_first (is_byte 32) (after_first (is_byte 32) line)
+-- the text before the first byte of this value and the text after it; without such a byte, the
+-- whole text and nothing
+abbrev pub cut_or_end : ℕ → List ℕ → List ℕ × List ℕ
+cut_or_end byte text = unwrap_or (cut_of byte text) (text, [])
 
--- the code that it tells
+-- the line or the offset in a last line `config LINE CODE` or `record OFFSET CODE`
+abbrev pub location_of : List ℕ → List ℕ
+location_of line = (cut_or_end space (cut_or_end space line).1).0
+
+-- the code in it
 abbrev pub code_of : List ℕ → List ℕ
-code_of line = before_first (is_byte 10) (after_first (is_byte 32) (after_first (is_byte 32) line))
+code_of line = (cut_or_end line_feed (cut_or_end space (cut_or_end space line).1).1).0
 
-abbrev pub config_reason : List ℕ → List ℕ
-config_reason code =
-    if bytes_eq code (codes "1") then codes ": the line ends inside a quote (1 OpenQuote)\n" else
-    (if bytes_eq code (codes "2") then codes ": \\x needs two hexadecimal digits behind it (2 BadEscape)\n" else
-    (if bytes_eq code (codes "3") then codes ": $ in double quotes needs NAME or {NAME} behind it (3 BadVariable)\n" else
-    (if bytes_eq code (codes "4") then codes ": the line has more than 256 words (4 TooManyWords)\n" else
-    codes ": the line spells no statement that is supported (9 Unsupported)\n")))
+-- the name and the reason of a code, by the first row that begins with it; without one, those of an
+-- unknown code
+abbrev pub meaning_of : List (List ℕ × List ℕ × List ℕ) → List ℕ → List ℕ × List ℕ
+meaning_of [] code = (UNKNOWN_CODE.0.now, UNKNOWN_CODE.1.now)
+meaning_of (row ∷ rows) code = if bytes_eq row.0 code then (row.1, row.2) else meaning_of rows code
 
-abbrev pub record_reason : List ℕ → List ℕ
-record_reason code =
-    if bytes_eq code (codes "2") then codes ": a number of this line isn't digits, or is above its limit (2 BadNumber)\n" else
-    (if bytes_eq code (codes "3") then codes ": the record ends inside the request that begins here (3 CutRequest)\n" else
-    (if bytes_eq code (codes "4") then codes ": the record goes on behind 4294967296 bytes (4 TooLong)\n" else
-    (if bytes_eq code (codes "5") then codes ": this line has more than 65536 bytes (5 LineTooLong)\n" else
-    (if bytes_eq code (codes "6") then codes ": the connection of this line isn't open (6 UnknownConn)\n" else
-    (if bytes_eq code (codes "7") then codes ": the connection of this line is open already (7 ConnOpen)\n" else
-    codes ": no event that is supported stands here, or a request's line feed is missing (1 BadLine)\n")))))
+-- `hxeval: SUBJECT LOCATION: REASON (CODE NAME)`, with a separator for the blank
+abbrev pub refusal_text : (subject separator location code : List ℕ) → List ℕ × List ℕ → List ℕ
+refusal_text subject separator location code meaning =
+    codes "hxeval: " ++ (subject ++ (separator ++ (location ++ (codes ": " ++ (meaning.1
+    ++ (codes " (" ++ (code ++ (codes " " ++ (meaning.0 ++ codes ")\n")))))))))
 
-abbrev pub config_refused : (name place code : List ℕ) → List ℕ
-config_refused name place code = codes "hxeval: " ++ (name ++ (codes ":" ++ (place ++ config_reason code)))
+-- `hxeval: NAME:LINE: REASON (CODE NAME)`
+abbrev pub config_refused : (name line code : List ℕ) → List ℕ
+config_refused name line code =
+    refusal_text name (codes ":") line code
+    (meaning_of (map (λ row. (row.0.now, row.1.now, row.2.now)) CONFIG_CODES) code)
 
-abbrev pub record_refused : (place code : List ℕ) → List ℕ
-record_refused place code = codes "hxeval: record, byte " ++ (place ++ record_reason code)
+-- `hxeval: record, byte OFFSET: REASON (CODE NAME)`
+abbrev pub record_refused : (offset code : List ℕ) → List ℕ
+record_refused offset code =
+    refusal_text (codes "record") (codes ", byte ") offset code
+    (meaning_of (map (λ row. (row.0.now, row.1.now, row.2.now)) RECORD_CODES) code)
 
-abbrev pub usage : List ℕ
-usage =
-    codes "usage: hxeval run CONFIG\n\n"
-    ++ (codes "Replays the record on standard input through the rules of the file CONFIG, and\n"
-    ++ (codes "writes one line for each request: whether a rule denies it or it passes.\n\n"
-    ++ (codes "Exit status: 0 done, 2 wrong words, 3 configuration refused, 4 record refused,\n"
-    ++ codes "5 a file or the record can't be read, 6 an answer can't be written, 7 out of memory.\n")))
+-- what is said of a status, by the first row that begins with it; without one, another text
+abbrev pub status_text : (other : List ℕ) → List (ℕ × List ℕ) → ℕ → List ℕ
+status_text other [] status = other
+status_text other (row ∷ rows) status =
+    if row.0 == status then row.1 else status_text other rows status
 
--- what is told of a run with this status, where its configuration has this name, the reading of which may have failed, and this was the
--- last line that it wrote
-abbrev pub explanation : ℕ → (name : List ℕ) → (file_failed : Bool) → (last_line : List ℕ) → List ℕ
+-- what is said of a run with this status, where its configuration has this name, the reading of
+-- which may have failed, and this was the last line that it wrote
+unfoldable pub explanation
+    : ℕ → (name : List ℕ) → (file_failed : Bool) → (last_line : List ℕ) → List ℕ
 explanation status name file_failed last_line =
-    if status == 0 then [] else
-    (if status == 2 then usage else
-    (if status == 3 then config_refused name (place_of last_line) (code_of last_line) else
-    (if status == 4 then record_refused (place_of last_line) (code_of last_line) else
-    (if status == 5 then (if file_failed then codes "hxeval: " ++ (name ++ codes " can't be read\n") else codes "hxeval: the record can't be read from standard input\n") else
-    (if status == 6 then codes "hxeval: the answers can't be written to standard output\n" else
-    codes "hxeval: out of memory\n")))))
+    if status == 3 then config_refused name (location_of last_line) (code_of last_line) else
+    (if status == 4 then record_refused (location_of last_line) (code_of last_line) else
+    (if status == 5 && file_failed then codes "hxeval: " ++ (name ++ codes " can't be read\n") else
+    status_text UNKNOWN_STATUS.now (map (λ row. (row.0, row.1.now)) STATUS_TEXTS) status))

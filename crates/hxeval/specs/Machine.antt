@@ -1,25 +1,28 @@
--- What the machine hands a program: arguments, and the entries of the environment. (POSIX.1-2017, Base Definitions, chapter 8.)
+-- What the machine hands a program: arguments, and the entries of the environment.
+-- (POSIX.1-2017, Base Definitions, chapter 8.)
 use Rattle.std.specs.Prelude.{◌≡◌, ℕ, true, nat_lt, List, length, filter_map, Option, None, option_map}
-use Rattle.std.specs.List.{list_any, before_first}
-use Rattle.memchr.specs.Find.{is_byte}
+use Rattle.std.specs.List.{list_any}
 use Rattle.std.specs.declared.alloc.Global.{Global}
 use Rattle.std.specs.declared.vec.Vec.{Vec}
-use Rattle.hxeval.specs.Bytes.{behind_first}
+use Rattle.hx_base.specs.Bytes.{equals_sign}
+use Rattle.hx_base.specs.Pairs.{NamedBytes}
+use Rattle.hx_text.specs.Address.{cut_of}
 
--- the texts of a list that doesn't tell them
-abbrev pub untold : Option (List (List ℕ))
-untold = None
+-- texts that contracts don't know
+abbrev pub unknown_texts : Option (List (List ℕ))
+unknown_texts = None
 
 -- one of the texts has more bytes than this
-abbrev pub has_longer : ℕ → List (List ℕ) → Type 0
-has_longer bytes texts = list_any (λ text. nat_lt bytes (length text)) texts ≡ true
+abbrev pub HasLonger : ℕ → List (List ℕ) → Type 0
+HasLonger bytes texts = list_any (λ text. nat_lt bytes (length text)) texts ≡ true
 
 -- the variable that an entry is, cut at its first `=`; one without `=` is none
 unfoldable pub variable_of : List ℕ → Option (List ℕ × List ℕ)
-variable_of entry = option_map (λ value. (before_first (is_byte 61) entry, value)) (behind_first (is_byte 61) entry)
+variable_of entry = cut_of equals_sign entry
 
-abbrev pub variables_of : List (List ℕ) → List (List ℕ × List ℕ)
+abbrev pub variables_of : List (List ℕ) → NamedBytes
 variables_of entries = filter_map variable_of entries
 
-abbrev pub owned : Option (Vec ℕ Global × Vec ℕ Global) → Option (List ℕ × List ℕ)
-owned found = option_map (λ pair. (pair.0.items, pair.1.items)) found
+-- a variable in vectors as lists of bytes
+abbrev pub variable_bytes : Option (Vec ℕ Global × Vec ℕ Global) → Option (List ℕ × List ℕ)
+variable_bytes found = option_map (λ pair. (pair.0.items, pair.1.items)) found

@@ -8,7 +8,8 @@ pub record Rule : Type 0 where
   pub unless : Bool
   pub values : List (List ℕ)
 
--- whether a condition `{ path VALUE .. }` holds: where there is a path, and one of the values is equal to it
+-- whether a condition `{ path VALUE .. }` holds: where there is a path, and one of the values is
+-- equal to it
 abbrev pub holds : Option (List ℕ) → List (List ℕ) → Bool
 holds None values = false
 holds (Some path) values = list_any (λ value. bytes_eq value path) values

@@ -7,12 +7,11 @@ use Rattle.std.specs.declared.alloc.Global.{Global}
 use Rattle.std.specs.declared.vec.Vec.{Vec}
 use Rattle.hx_base.specs.Pairs.{value_at}
 use Rattle.hx_words.specs.Variable.{Env}
-use Rattle.hxeval.specs.Configuration.{loaded}
+use Rattle.hxeval.specs.Configuration.{Refusal, loaded}
 use Rattle.hx_record.specs.Record.{record_items}
 use Rattle.hxeval.specs.Rules.{Rule}
 use Rattle.hxeval.specs.Replay.{Outcome, start, events_of, is_whole, AreAllowed, text_of_all}
 use Rattle.hxeval.specs.Told.{IsRecord, ToldDecided, record_limit, answers_of}
-use Rattle.hxeval.specs.declared.load.Refusal.{Refusal}
 
 -- the bytes of the words of a command line
 abbrev pub texts_of : List (Vec ℕ Global) → List (List ℕ)

@@ -13,26 +13,26 @@ use Rattle.hxeval.specs.declared.load.LoadFault.TheVariants as load
 use Rattle.hxeval.specs.declared.replay.ReplayFault.{ReplayFault}
 use Rattle.hxeval.specs.declared.replay.ReplayFault.TheVariants as replay
 use Rattle.hxeval.specs.declared.run_fault.RunFault.{RunFault}
-use Rattle.hxeval.specs.declared.run_fault.RunFault.TheVariants.{Config, Record, Files, Source, Sink, NoMemory}
+use Rattle.hxeval.specs.declared.run_fault.RunFault.TheVariants.{ConfigRefused, RecordRefused, Files, Source, Sink, NoMemory}
 
 abbrev pub from_file : FileFault → RunFault
 from_file file.Failed = Files
 from_file file.NoMemory = NoMemory
 
 abbrev pub from_load : LoadFault → RunFault
-from_load (load.Refused refusal) = Config refusal
+from_load (load.Refused line code) = ConfigRefused line code
 from_load load.NoMemory = NoMemory
 
 abbrev pub from_replay : ReplayFault → RunFault
-from_replay (replay.Refused offset code) = Record offset code
+from_replay (replay.Refused offset code) = RecordRefused offset code
 from_replay replay.Source = Source
 from_replay replay.Sink = Sink
 from_replay replay.NoMemory = NoMemory
 
 -- the status with which a run ends that has this fault
 abbrev pub status_of : RunFault → ℕ
-status_of (Config refusal) = 3
-status_of (Record offset code) = 4
+status_of (ConfigRefused line code) = 3
+status_of (RecordRefused offset code) = 4
 status_of Files = 5
 status_of Source = 5
 status_of Sink = 6
@@ -40,15 +40,15 @@ status_of NoMemory = 7
 
 -- the line that tells a refusal
 abbrev pub last_line : RunFault → List ℕ
-last_line (Config refusal) = config_line refusal.line refusal.code
-last_line (Record offset code) = record_line offset code
+last_line (ConfigRefused line code) = config_line line code
+last_line (RecordRefused offset code) = record_line offset code
 last_line _ = []
 
 -- what is left to be written where the run comes to this result, and its status
 abbrev pub Leaves : Outcome → List ℕ → Result (Unit {0}) RunFault → Type 0
 Leaves outcome rest (Ok _) = (outcome.status ≡ 0) × (rest ≡ [])
-Leaves outcome rest (Err (Config refusal)) = (outcome.status ≡ 3) × (rest ≡ last_line (Config refusal))
-Leaves outcome rest (Err (Record offset code)) = (outcome.status ≡ 4) × (rest ≡ last_line (Record offset code))
+Leaves outcome rest (Err (ConfigRefused line code)) = (outcome.status ≡ 3) × (rest ≡ last_line (ConfigRefused line code))
+Leaves outcome rest (Err (RecordRefused offset code)) = (outcome.status ≡ 4) × (rest ≡ last_line (RecordRefused offset code))
 Leaves outcome rest (Err _) = ⊤
 
 -- a run up to its end or its fault: a prefix of its text was written, and of a refusal all but the line that tells it

@@ -1,37 +1,116 @@
-ghost use Rattle.std.specs.Prelude.{◌≡◌, ℕ, ◌^◌, ◌<◌, ◌≤◌, ◌++◌, OnOk, IsErrOf};
+ghost use Rattle.std.specs.Prelude.{◌≡◌, ℕ, ◌^◌, ◌<◌, ◌≤◌, ◌++◌, OnOk, IsErrOf, map};
 ghost use Rattle.std.specs.Fmt.{decimal};
 ghost use Rattle.std.specs.Io.KnownBytes.{Appends};
 ghost use Rattle.hx_outside.specs.Count.{Rose};
 ghost use Rattle.hx_outside.specs.Prefixes.{AppendsPrefix};
-ghost use Rattle.std.specs.List.{after_first};
-ghost use Rattle.memchr.specs.Find.{is_byte};
 ghost use Rattle.hxeval.specs.Replay.{record_line};
 ghost use Rattle.hxeval.specs.Run.{config_line, texts_of};
-ghost use Rattle.hxeval.specs.Explanation.{all_of, explanation, config_refused, record_refused, config_reason, record_reason, place_of, code_of, given_name};
+ghost use Rattle.hxeval.specs.Explanation.{all_of, explanation, refusal_text, config_refused};
+ghost use Rattle.hxeval.specs.Explanation.{record_refused, meaning_of, status_text, cut_or_end, location_of};
+ghost use Rattle.hxeval.specs.Explanation.{code_of, given_name};
 
-use crate::bytes::cut;
 use crate::run::config_name;
 use hx_outside::{Sink, SinkFault, write_all};
+use hx_text::cut_at;
 
-/// What a person is told who gives words that are no command.
-const USAGE: &[u8] = b"usage: hxeval run CONFIG\n\
-    \n\
-    Replays the record on standard input through the rules of the file CONFIG, and\n\
-    writes one line for each request: whether a rule denies it or it passes.\n\
-    \n\
-    Exit status: 0 done, 2 wrong words, 3 configuration refused, 4 record refused,\n\
-    5 a file or the record can't be read, 6 an answer can't be written, 7 out of memory.\n";
+/// A code of a refusal: as it is written, its name, and its reason.
+type Row = (&'static [u8], &'static [u8], &'static [u8]);
+
+/// The codes of a configuration that is refused.
+const CONFIG_CODES: [Row; 5] = [
+    (b"1", b"OpenQuote", b"the line ends inside a quote"),
+    (
+        b"2",
+        b"BadEscape",
+        b"\\x needs two hexadecimal digits after it",
+    ),
+    (
+        b"3",
+        b"BadVariable",
+        b"$ in double quotes needs NAME or {NAME} after it",
+    ),
+    (b"4", b"TooManyWords", b"the line has more than 256 words"),
+    (b"9", b"Unsupported", b"unknown or unsupported statement"),
+];
+
+/// The codes of a record that is refused. The last line doesn't say what is wrong of a bad line, so
+/// its reason lists what may be.
+const RECORD_CODES: [Row; 7] = [
+    (
+        b"1",
+        b"BadLine",
+        b"unknown or unsupported event, words missing or too many, a word that is no address, \
+          or another byte than a line feed after a request",
+    ),
+    (
+        b"2",
+        b"BadNumber",
+        b"a number of this line isn't digits, or is above its limit",
+    ),
+    (
+        b"3",
+        b"CutRequest",
+        b"the record ends inside the request that begins here",
+    ),
+    (
+        b"4",
+        b"TooLong",
+        b"the record goes on after 4294967296 bytes",
+    ),
+    (b"5", b"LineTooLong", b"this line has more than 65536 bytes"),
+    (
+        b"6",
+        b"UnknownConn",
+        b"the connection of this line isn't open",
+    ),
+    (
+        b"7",
+        b"ConnOpen",
+        b"the connection of this line is open already",
+    ),
+];
+
+/// The name and the reason of any other code.
+const UNKNOWN_CODE: (&[u8], &[u8]) = (b"Unknown", b"unknown code");
+
+/// What is said of the statuses that need no more.
+const STATUS_TEXTS: [(u8, &[u8]); 5] = [
+    (0, b""),
+    (
+        2,
+        b"usage: hxeval run CONFIG\n\
+          \n\
+          Replays the record on standard input through the rules of the file CONFIG, and\n\
+          writes one line for each request: whether a rule denies it or it passes.\n\
+          \n\
+          Exit status: 0 done, 2 wrong words, 3 configuration refused, 4 record refused,\n\
+          5 a file or the record can't be read, 6 an answer can't be written, 7 out of memory.\n",
+    ),
+    (5, b"hxeval: the record can't be read from standard input\n"),
+    (
+        6,
+        b"hxeval: the answers can't be written to standard output\n",
+    ),
+    (7, b"hxeval: out of memory\n"),
+];
+
+/// What is said of any other status.
+const UNKNOWN_STATUS: &[u8] = b"hxeval: ended with an unknown status\n";
 
 /// A text in its parts.
-type Parts<'t> = [&'t [u8]; 5];
+type Parts<'t> = [&'t [u8]; 11];
 
-/// Writes to `err`, in plain words for a person, why a run ended with this status; of status 0, nothing.
+/// Writes to `err`, in plain words for a person, why a run ended with this status; of status 0,
+/// nothing.
 ///
-/// `words` are those of the command line, `file_failed` says that the configuration couldn't be read, and
-/// `last_line` is the last line that was written.
+/// `words` are those of the command line, `file_failed` says that the configuration couldn't be
+/// read, and `last_line` is the last line that was written.
 ///
-/// `Failed` only where the count of faults of `err` rose, and `NoMemory` where memory ran out: a prefix of the text
-/// was then written.
+/// A refused configuration is explained as `hxeval: CONFIG:LINE: REASON (CODE NAME)`, a refused
+/// record as `hxeval: record, byte OFFSET: REASON (CODE NAME)`, by the code's row in its table.
+///
+/// `Failed` only where the count of faults of `err` rose, and `NoMemory` where memory ran out: a
+/// prefix of the text was then written.
 pub fn explain<K: Sink>(
     err: &mut K,
     status: u8,
@@ -44,11 +123,13 @@ pub fn explain<K: Sink>(
     ensures prefix { AppendsPrefix (K.written err.old) (K.written err.new)
         (explanation status (given_name (texts_of words.now)) file_failed last_line.now) }
     ensures failed { IsErrOf result SinkFault.Failed → Rose (K.faults err.old) (K.faults err.new) }
-    // The text of a refusal names the line or the offset, and the code, that the last line tells.
-    ensures config { (line code : ℕ) → line < 2 ^ 64 → code < 2 ^ 64 → last_line.now ≡ config_line line code
+    // The text of a refusal names the line or the offset, and the code, that the last line has.
+    ensures config { (line code : ℕ) → line < 2 ^ 64 → code < 2 ^ 64
+        → last_line.now ≡ config_line line code
         → explanation 3 (given_name (texts_of words.now)) file_failed last_line.now
         ≡ config_refused (given_name (texts_of words.now)) (decimal line) (decimal code) }
-    ensures record { (offset code : ℕ) → offset < 2 ^ 64 → code < 2 ^ 64 → last_line.now ≡ record_line offset code
+    ensures record { (offset code : ℕ) → offset < 2 ^ 64 → code < 2 ^ 64
+        → last_line.now ≡ record_line offset code
         → explanation 4 (given_name (texts_of words.now)) file_failed last_line.now
         ≡ record_refused (decimal offset) (decimal code) }
 {
@@ -56,7 +137,7 @@ pub fn explain<K: Sink>(
     write_parts(err, &explanation(status, name, file_failed, last_line))
 }
 
-/// Writes the parts of a text, one behind the other.
+/// Writes the parts of a text, one after the other.
 fn write_parts<K: Sink>(out: &mut K, parts: &[&[u8]]) -> Result<(), SinkFault>
     ensures ok { OnOk result (Appends (K.written out.old) (K.written out.new) (all_of parts.now)) }
     ensures prefix { AppendsPrefix (K.written out.old) (K.written out.new) (all_of parts.now) }
@@ -70,107 +151,113 @@ fn write_parts<K: Sink>(out: &mut K, parts: &[&[u8]]) -> Result<(), SinkFault>
 }
 
 /// Why a run ended with this status, where its configuration has this name.
+#[tactic(auto, unfolding(crate::specs::Explanation::explanation))]
 fn explanation<'t>(status: u8, name: &'t [u8], file_failed: bool, last_line: &'t [u8]) -> Parts<'t>
     ensures { all_of result ≡ explanation status name.now file_failed last_line.now }
 {
     match status {
-        0 => alone(b""),
-        2 => alone(USAGE),
-        3 => config_refused(name, last_line),
-        4 => record_refused(last_line),
-        5 if file_failed => parts(b"hxeval: ", name, b" can't be read\n", b"", b""),
-        5 => alone(b"hxeval: the record can't be read from standard input\n"),
-        6 => alone(b"hxeval: the answers can't be written to standard output\n"),
-        _ => alone(b"hxeval: out of memory\n"),
+        3 => refusal(name, b":", last_line, &CONFIG_CODES),
+        4 => refusal(b"record", b", byte ", last_line, &RECORD_CODES),
+        5 if file_failed => three_parts(b"hxeval: ", name, b" can't be read\n"),
+        _ => three_parts(
+            text_of_status(&STATUS_TEXTS, status, UNKNOWN_STATUS),
+            b"",
+            b"",
+        ),
     }
 }
 
-/// A text of one part.
-fn alone(text: &[u8]) -> Parts<'_>
-    ensures { all_of result ≡ text.now }
+/// A text of three parts.
+fn three_parts<'t>(first: &'t [u8], second: &'t [u8], third: &'t [u8]) -> Parts<'t>
+    ensures { all_of result ≡ first.now ++ (second.now ++ third.now) }
 {
-    [text, b"", b"", b"", b""]
+    [first, second, third, b"", b"", b"", b"", b"", b"", b"", b""]
 }
 
-/// A text of five parts.
-fn parts<'t>(
-    first: &'t [u8],
-    second: &'t [u8],
-    third: &'t [u8],
-    fourth: &'t [u8],
-    fifth: &'t [u8],
+/// Where in the configuration or the record, and why, it is refused, by the last line and the table
+/// of codes.
+fn refusal<'t>(
+    subject: &'t [u8],
+    separator: &'t [u8],
+    last_line: &'t [u8],
+    rows: &'static [Row],
 ) -> Parts<'t>
-    ensures { all_of result ≡ first.now ++ (second.now ++ (third.now ++ (fourth.now ++ fifth.now))) }
+    ensures { let code = code_of last_line.now in
+        let texts = map (λ row. (row.0.now, row.1.now, row.2.now)) rows.now in
+        all_of result ≡ refusal_text subject.now separator.now (location_of last_line.now) code
+        (meaning_of texts code) }
 {
-    [first, second, third, fourth, fifth]
+    let code = code(last_line);
+    let (name, reason) = meaning_of(rows, code);
+    [
+        b"hxeval: ",
+        subject,
+        separator,
+        location(last_line),
+        b": ",
+        reason,
+        b" (",
+        code,
+        b" ",
+        name,
+        b")\n",
+    ]
 }
 
-/// Where in the configuration, and why, it is refused.
-fn config_refused<'t>(name: &'t [u8], last_line: &'t [u8]) -> Parts<'t>
-    ensures { all_of result ≡ config_refused name.now (place_of last_line.now) (code_of last_line.now) }
+/// The name and the reason of a code; without a row, those of an unknown one.
+fn meaning_of<'t>(mut rows: &'static [Row], code: &'t [u8]) -> (&'t [u8], &'t [u8])
+    ensures { (result.0.now, result.1.now)
+        ≡ meaning_of (map (λ row. (row.0.now, row.1.now, row.2.now)) rows.entry.now) code.now }
 {
-    let reason = config_reason(code(last_line));
-    parts(b"hxeval: ", name, b":", place(last_line), reason)
-}
-
-/// Where in the record, and why, it is refused.
-fn record_refused(last_line: &[u8]) -> Parts<'_>
-    ensures { all_of result ≡ record_refused (place_of last_line.now) (code_of last_line.now) }
-{
-    let reason = record_reason(code(last_line));
-    parts(b"hxeval: record, byte ", place(last_line), reason, b"", b"")
-}
-
-/// What a code of the configuration means.
-fn config_reason(code: &[u8]) -> &[u8]
-    ensures { result.now ≡ config_reason code.now }
-{
-    match code {
-        b"1" => b": the line ends inside a quote (1 OpenQuote)\n",
-        b"2" => b": \\x needs two hexadecimal digits behind it (2 BadEscape)\n",
-        b"3" => b": $ in double quotes needs NAME or {NAME} behind it (3 BadVariable)\n",
-        b"4" => b": the line has more than 256 words (4 TooManyWords)\n",
-        _ => b": the line spells no statement that is supported (9 Unsupported)\n",
+    while let [row, rest @ ..] = rows {
+        if row.0 == code {
+            return (row.1, row.2);
+        }
+        rows = rest;
     }
+    UNKNOWN_CODE
 }
 
-/// What a code of the record means.
-fn record_reason(code: &[u8]) -> &[u8]
-    ensures { result.now ≡ record_reason code.now }
+/// The text of a status; without a row, `other`.
+fn text_of_status<'t>(
+    mut rows: &'static [(u8, &'static [u8])],
+    status: u8,
+    other: &'t [u8],
+) -> &'t [u8]
+    ensures { result.now
+        ≡ status_text other.now (map (λ row. (row.0, row.1.now)) rows.entry.now) status }
 {
-    match code {
-        b"2" => b": a number of this line isn't digits, or is above its limit (2 BadNumber)\n",
-        b"3" => b": the record ends inside the request that begins here (3 CutRequest)\n",
-        b"4" => b": the record goes on behind 4294967296 bytes (4 TooLong)\n",
-        b"5" => b": this line has more than 65536 bytes (5 LineTooLong)\n",
-        b"6" => b": the connection of this line isn't open (6 UnknownConn)\n",
-        b"7" => b": the connection of this line is open already (7 ConnOpen)\n",
-        _ =>
-            b": no event that is supported stands here, or a request's line feed is missing (1 BadLine)\n",
+    while let [row, rest @ ..] = rows {
+        if row.0 == status {
+            return row.1;
+        }
+        rows = rest;
     }
+    other
 }
 
-/// The second word of a line, which is the place of a refusal.
-fn place(line: &[u8]) -> &[u8]
-    ensures { result.now ≡ place_of line.now }
+/// The second word of a line, which is the line or the offset of a refusal.
+fn location(line: &[u8]) -> &[u8]
+    ensures { result.now ≡ location_of line.now }
 {
-    cut(behind_blank(line), b' ').0
+    cut_or_end(b' ', cut_or_end(b' ', line).1).0
 }
 
 /// The third word of a line, which is the code of a refusal.
 fn code(line: &[u8]) -> &[u8]
     ensures { result.now ≡ code_of line.now }
 {
-    cut(behind_blank(behind_blank(line)), b'\n').0
+    cut_or_end(b'\n', cut_or_end(b' ', cut_or_end(b' ', line).1).1).0
 }
 
-/// What stands behind the first blank of a text; without one, nothing.
-fn behind_blank(text: &[u8]) -> &[u8]
-    ensures { result.now ≡ after_first (is_byte 32) text.now }
+/// The text before the first byte of this value and the text after it; without such a byte, the
+/// whole text and nothing.
+fn cut_or_end(byte: u8, text: &[u8]) -> (&[u8], &[u8])
+    ensures { (result.0.now, result.1.now) ≡ cut_or_end byte text.now }
 {
-    match cut(text, b' ') {
-        (_, Some(rest)) => rest,
-        (_, None) => &text[text.len()..],
+    match cut_at(byte, text) {
+        Some(parts) => parts,
+        None => (text, b""),
     }
 }
 
@@ -178,126 +265,75 @@ fn behind_blank(text: &[u8]) -> &[u8]
 mod tests {
     use super::*;
     use hx_outside::MemSink;
-    use std::alloc::Global;
     use std::test::Fail;
 
-    /// What is told of `run deny.cfg`.
-    fn told(
-        alloc: Global,
-        status: u8,
-        file_failed: bool,
-        last_line: &[u8],
-    ) -> Result<Vec<u8>, Fail> {
+    /// Each status, and each code of both tables: the status, whether the configuration couldn't be
+    /// read, and the last line.
+    const RUNS: [(u8, bool, &[u8]); 21] = [
+        (0, false, b"9 pass -\n"),
+        (1, false, b""),
+        (2, false, b""),
+        (3, false, b"config 12 1\n"),
+        (3, false, b"config 1 2\n"),
+        (3, false, b"config 1 3\n"),
+        (3, false, b"config 1 4\n"),
+        (3, false, b"config 3 9\n"),
+        (3, false, b"config 3 17\n"),
+        (4, false, b"record 38 1\n"),
+        (4, false, b"record 0 2\n"),
+        (4, false, b"record 38 3\n"),
+        (4, false, b"record 4294967296 4\n"),
+        (4, false, b"record 0 5\n"),
+        (4, false, b"record 9 6\n"),
+        (4, false, b"record 9 7\n"),
+        (4, false, b"record 9 9\n"),
+        (5, true, b""),
+        (5, false, b""),
+        (6, false, b""),
+        (7, false, b""),
+    ];
+
+    const EXPLAINED: &[u8] = b"hxeval: ended with an unknown status\n\
+        usage: hxeval run CONFIG\n\
+        \n\
+        Replays the record on standard input through the rules of the file CONFIG, and\n\
+        writes one line for each request: whether a rule denies it or it passes.\n\
+        \n\
+        Exit status: 0 done, 2 wrong words, 3 configuration refused, 4 record refused,\n\
+        5 a file or the record can't be read, 6 an answer can't be written, 7 out of memory.\n\
+        hxeval: deny.cfg:12: the line ends inside a quote (1 OpenQuote)\n\
+        hxeval: deny.cfg:1: \\x needs two hexadecimal digits after it (2 BadEscape)\n\
+        hxeval: deny.cfg:1: $ in double quotes needs NAME or {NAME} after it (3 BadVariable)\n\
+        hxeval: deny.cfg:1: the line has more than 256 words (4 TooManyWords)\n\
+        hxeval: deny.cfg:3: unknown or unsupported statement (9 Unsupported)\n\
+        hxeval: deny.cfg:3: unknown code (17 Unknown)\n\
+        hxeval: record, byte 38: unknown or unsupported event, words missing or too many, \
+        a word that is no address, or another byte than a line feed after a request (1 BadLine)\n\
+        hxeval: record, byte 0: a number of this line isn't digits, or is above its limit \
+        (2 BadNumber)\n\
+        hxeval: record, byte 38: the record ends inside the request that begins here \
+        (3 CutRequest)\n\
+        hxeval: record, byte 4294967296: the record goes on after 4294967296 bytes (4 TooLong)\n\
+        hxeval: record, byte 0: this line has more than 65536 bytes (5 LineTooLong)\n\
+        hxeval: record, byte 9: the connection of this line isn't open (6 UnknownConn)\n\
+        hxeval: record, byte 9: the connection of this line is open already (7 ConnOpen)\n\
+        hxeval: record, byte 9: unknown code (9 Unknown)\n\
+        hxeval: deny.cfg can't be read\n\
+        hxeval: the record can't be read from standard input\n\
+        hxeval: the answers can't be written to standard output\n\
+        hxeval: out of memory\n";
+
+    #[test]
+    fn each_status_and_each_code_is_explained(rt: HostRuntime) -> Result<(), Fail> {
+        let alloc = rt.alloc();
         let words = vec![in alloc; b"run".to_vec(alloc)?, b"deny.cfg".to_vec(alloc)?]?;
         let mut err = MemSink::new(alloc, 9, Vec::new(alloc));
-        explain(&mut err, status, &words, file_failed, last_line)?;
-        Ok(err.bytes().to_vec(alloc)?)
-    }
-
-    #[test]
-    fn each_status_is_explained(rt: HostRuntime) -> Result<(), Fail> {
-        let cases: [(u8, bool, &[u8], &[u8]); 6] = [
-            (0, false, b"9 pass -\n", b""),
-            (2, false, b"", USAGE),
-            (5, true, b"", b"hxeval: deny.cfg can't be read\n"),
-            (
-                5,
-                false,
-                b"",
-                b"hxeval: the record can't be read from standard input\n",
-            ),
-            (
-                6,
-                false,
-                b"",
-                b"hxeval: the answers can't be written to standard output\n",
-            ),
-            (7, false, b"", b"hxeval: out of memory\n"),
-        ];
-        for (status, file_failed, last_line, text) in cases {
-            assert_eq!(rt;
-                told(rt.alloc(), status, file_failed, last_line)?.as_slice(),
-                text
-            );
+        for (status, file_failed, last_line) in RUNS {
+            explain(&mut err, status, &words, file_failed, last_line)?;
         }
-        Ok(())
-    }
-
-    #[test]
-    fn a_refused_configuration_is_told_with_its_line_and_reason(
-        rt: HostRuntime,
-    ) -> Result<(), Fail> {
-        let cases: [(&[u8], &[u8]); 5] = [
-            (
-                b"config 3 9\n",
-                b"hxeval: deny.cfg:3: the line spells no statement that is supported (9 Unsupported)\n",
-            ),
-            (
-                b"config 12 1\n",
-                b"hxeval: deny.cfg:12: the line ends inside a quote (1 OpenQuote)\n",
-            ),
-            (
-                b"config 1 2\n",
-                b"hxeval: deny.cfg:1: \\x needs two hexadecimal digits behind it (2 BadEscape)\n",
-            ),
-            (
-                b"config 1 3\n",
-                b"hxeval: deny.cfg:1: $ in double quotes needs NAME or {NAME} behind it (3 BadVariable)\n",
-            ),
-            (
-                b"config 1 4\n",
-                b"hxeval: deny.cfg:1: the line has more than 256 words (4 TooManyWords)\n",
-            ),
-        ];
-        for (last_line, text) in cases {
-            assert_eq!(rt; told(rt.alloc(), 3, false, last_line)?.as_slice(), text);
-        }
-        Ok(())
-    }
-
-    #[test]
-    fn a_refused_record_is_told_with_its_offset_and_reason(rt: HostRuntime) -> Result<(), Fail> {
-        let cases: [(&[u8], &[u8]); 7] = [
-            (
-                b"record 38 1\n",
-                b"hxeval: record, byte 38: no event that is supported stands here, or a request's line feed is missing (1 BadLine)\n",
-            ),
-            (
-                b"record 0 2\n",
-                b"hxeval: record, byte 0: a number of this line isn't digits, or is above its limit (2 BadNumber)\n",
-            ),
-            (
-                b"record 38 3\n",
-                b"hxeval: record, byte 38: the record ends inside the request that begins here (3 CutRequest)\n",
-            ),
-            (
-                b"record 4294967296 4\n",
-                b"hxeval: record, byte 4294967296: the record goes on behind 4294967296 bytes (4 TooLong)\n",
-            ),
-            (
-                b"record 0 5\n",
-                b"hxeval: record, byte 0: this line has more than 65536 bytes (5 LineTooLong)\n",
-            ),
-            (
-                b"record 9 6\n",
-                b"hxeval: record, byte 9: the connection of this line isn't open (6 UnknownConn)\n",
-            ),
-            (
-                b"record 9 7\n",
-                b"hxeval: record, byte 9: the connection of this line is open already (7 ConnOpen)\n",
-            ),
-        ];
-        for (last_line, text) in cases {
-            assert_eq!(rt; told(rt.alloc(), 4, false, last_line)?.as_slice(), text);
-        }
-        Ok(())
-    }
-
-    #[test]
-    fn an_error_stream_that_fails_is_told(rt: HostRuntime) -> Result<(), Fail> {
-        let fails = vec![in rt.alloc(); 1u64]?;
-        let mut err = MemSink::new(rt.alloc(), 9, fails);
-        assert!(rt; explain(&mut err, 7, &[], false, b"").is_err());
+        assert_eq!(rt; err.bytes(), EXPLAINED);
+        let mut err = MemSink::new(alloc, 9, vec![in alloc; 1u64]?);
+        assert!(rt; explain(&mut err, 7, &words, false, b"").is_err());
         Ok(())
     }
 }

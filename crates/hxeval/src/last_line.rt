@@ -1,83 +1,86 @@
-ghost use Rattle.std.specs.Prelude.{◌≡◌, ℕ, List, ◌<◌, ◌≤◌, [], ◌∷◌, ◌++◌, true, length, take, IfOk, OnErr, IsErrOf, if◌then◌else◌};
+ghost use Rattle.std.specs.Prelude.{◌≡◌, ◌<◌, ◌≤◌, [], ◌∷◌, ◌++◌, true, length, take};
+ghost use Rattle.std.specs.Prelude.{IfOk, OnErr, IsErrOf, if◌then◌else◌};
 ghost use Rattle.std.specs.Io.KnownBytes.{WriteAppends};
 ghost use Rattle.hx_outside.specs.Count.{Rose};
-ghost use Rattle.hxeval.specs.LastLine.{Kept, is_inside, kept, kept_all, up_to_64};
+ghost use Rattle.hxeval.specs.LastLine.{start_after, start_after_all};
 
 use hx_outside::{Sink, SinkFault};
 use std::marker::Model;
 
-/// How much of a line is kept, in bytes: more than a line that tells a refusal can have.
-const MAX_KEPT_LEN: usize = 64;
+/// The most bytes of a line that are looked at: more than the last line of a refusal can have.
+const MAX_START_LEN: usize = 64;
 
-/// The beginning of the last line of a text that goes by, seen as those bytes and whether the line ended.
+/// The beginning of the last line of a text that goes by, seen as those bytes and whether the line
+/// ended.
 #[derive(Drop)]
-struct Tail {
-    line: [u8; MAX_KEPT_LEN],
+struct Start {
+    line: [u8; MAX_START_LEN],
     len: usize,
     ended: bool,
 }
 
-impl Model for Tail {
+impl Model for Start {
     ghost use Rattle.std.specs.Prelude.{◌≤◌, take};
-    ghost use Rattle.hxeval.specs.LastLine.{Kept};
+    ghost use Rattle.hxeval.specs.LastLine.{LineStart};
 
-    ghost Value = { Kept };
+    ghost Value = { LineStart };
 
-    ghost view = { λ tail. record { line = take tail.len tail.line; ended = tail.ended } };
+    ghost view = { λ start. record { bytes = take start.len start.line; ended = start.ended } };
 
-    ghost invariant = { λ tail. tail.len ≤ 64 };
+    ghost invariant = { λ start. start.len ≤ 64 };
 }
 
-impl Tail {
-    fn new() -> Tail
-        ensures { result ≡ record { line = []; ended = true } }
+impl Start {
+    fn new() -> Start
+        ensures { result ≡ record { bytes = []; ended = true } }
     {
-        Tail {
-            line: [0; MAX_KEPT_LEN],
+        Start {
+            line: [0; MAX_START_LEN],
             len: 0,
             ended: true,
         }
     }
 
     fn line(&self) -> &[u8]
-        ensures { result.now ≡ self.now.line }
+        ensures { result.now ≡ self.now.bytes }
     {
         &self.line[..self.len]
     }
 
-    #[tactic(auto, using(crate::proofs::LastLineLemmas::from_front))]
-    fn keep(&mut self, byte: u8)
-        ensures { self.new ≡ kept self.old byte }
+    #[tactic(auto, using(crate::proofs::LastLineLemmas::from_start))]
+    fn push(&mut self, byte: u8)
+        ensures { self.new ≡ start_after self.old byte }
     {
-        let len = kept_len(self.ended, self.len);
+        let len = len_before(self.ended, self.len);
         self.len = store(&mut self.line, len, byte);
         self.ended = byte == b'\n';
     }
 
-    fn keep_all(&mut self, bytes: &[u8])
-        ensures { self.new ≡ kept_all self.old bytes.now }
+    fn push_all(&mut self, bytes: &[u8])
+        ensures { self.new ≡ start_after_all self.old bytes.now }
     {
         for byte in bytes {
-            self.keep(*byte);
+            self.push(*byte);
         }
     }
 }
 
-/// How many bytes are kept before the next one: none where a line ended.
-fn kept_len(ended: bool, len: usize) -> usize
+/// How many bytes of its line stand before the next byte: none where a line ended.
+fn len_before(ended: bool, len: usize) -> usize
     ensures { result ≡ (if ended then 0 else len) }
 {
     if ended { 0 } else { len }
 }
 
-/// Puts a byte behind the first `len` bytes of a line, where there is room, and answers how many there are then.
+/// Puts a byte after the first `len` bytes of a line, where there is room, and answers how many
+/// there are then.
 #[tactic(auto, using(crate::proofs::LastLineLemmas::one_more, crate::proofs::LastLineLemmas::full))]
-fn store(line: &mut [u8; MAX_KEPT_LEN], len: usize, byte: u8) -> usize
+fn store(line: &mut [u8; MAX_START_LEN], len: usize, byte: u8) -> usize
     requires { len ≤ 64 }
-    ensures kept { take result line.new ≡ up_to_64 (take len line.old) byte }
+    ensures stored { take result line.new ≡ take 64 (take len line.old ++ byte ∷ []) }
     ensures within { result ≤ 64 }
 {
-    if len < MAX_KEPT_LEN {
+    if len < MAX_START_LEN {
         line[len] = byte;
         len + 1
     } else {
@@ -85,42 +88,39 @@ fn store(line: &mut [u8; MAX_KEPT_LEN], len: usize, byte: u8) -> usize
     }
 }
 
-/// A sink that hands on all that it is given, and keeps the beginning of the last line that went through it.
-/// Contracts see the sink, and what is kept.
+/// A sink that hands on all that it is given, and knows the beginning of the last line that went
+/// through it. Contracts see the sink and that beginning.
 #[derive(Drop)]
 pub struct LastLine<K> {
     sink: K,
-    tail: Tail,
+    start: Start,
 }
 
 impl<K> Model for LastLine<K> {
-    ghost use Rattle.hxeval.specs.LastLine.{Watched};
+    ghost use Rattle.hxeval.specs.LastLine.{SinkWithLine};
 
-    ghost Value = { Watched K };
+    ghost Value = { SinkWithLine K };
 
-    ghost view = { λ out. record { sink = out.sink; tail = out.tail } };
+    ghost view = { λ out. record { sink = out.sink; start = out.start } };
 }
 
 impl<K> LastLine<K> {
     /// Before any line, over this sink.
     pub fn new(sink: K) -> LastLine<K>
-        ensures { result ≡ record { sink = sink; tail = record { line = []; ended = true } } }
+        ensures { result ≡ record { sink = sink; start = record { bytes = []; ended = true } } }
     {
         LastLine {
             sink,
-            tail: Tail::new(),
+            start: Start::new(),
         }
     }
 
-    /// The beginning of the last line, with its line feed where that was kept.
-    #[tactic(auto, using(crate::proofs::LastLineLemmas::last_line))]
+    /// The beginning of the last line, with its line feed where that is among the first 64 bytes.
+    /// (`laws::last_line`)
     pub fn line(&self) -> &[u8]
-        ensures line { result.now ≡ self.now.tail.line }
-        // Once a whole line went by, whatever came before it, what is kept is that line's beginning.
-        ensures law { (before : Kept) (line : List ℕ) → before.ended ≡ true → is_inside line ≡ true
-            → kept_all before (line ++ 10 ∷ []) ≡ record { line = take 64 (line ++ 10 ∷ []); ended = true } }
+        ensures { result.now ≡ self.now.start.bytes }
     {
-        self.tail.line()
+        self.start.line()
     }
 }
 
@@ -133,16 +133,20 @@ impl<K: Sink> Sink for LastLine<K> {
         requires { 0 < length bytes.now }
         ensures some { IfOk result (λ count. 0 < count) }
         ensures bound { IfOk result (λ count. count ≤ length bytes.now) }
-        ensures bytes { WriteAppends (K.written self.old.sink) (K.written self.new.sink) result bytes.now }
+        ensures bytes { WriteAppends (K.written self.old.sink) (K.written self.new.sink)
+            result bytes.now }
         ensures later { K.faults self.old.sink ≤ K.faults self.new.sink }
-        ensures failed { IsErrOf result SinkFault.Failed → Rose (K.faults self.old.sink) (K.faults self.new.sink) }
-        ensures uncounted { IsErrOf result SinkFault.NoMemory → K.faults self.new.sink ≡ K.faults self.old.sink }
+        ensures failed { IsErrOf result SinkFault.Failed
+            → Rose (K.faults self.old.sink) (K.faults self.new.sink) }
+        ensures uncounted { IsErrOf result SinkFault.NoMemory
+            → K.faults self.new.sink ≡ K.faults self.old.sink }
 
-        ensures kept { IfOk result (λ count. self.new.tail ≡ kept_all self.old.tail (take count bytes.now)) }
-        ensures same { OnErr result (self.new.tail ≡ self.old.tail) }
+        ensures ok { IfOk result (λ count. self.new.start
+            ≡ start_after_all self.old.start (take count bytes.now)) }
+        ensures err { OnErr result (self.new.start ≡ self.old.start) }
     {
         let count = self.sink.write(bytes)?;
-        self.tail.keep_all(&bytes[..count]);
+        self.start.push_all(&bytes[..count]);
         Ok(count)
     }
 }
@@ -154,19 +158,21 @@ mod tests {
     use std::test::Fail;
 
     #[test]
-    fn the_last_line_is_kept_however_it_is_written(rt: HostRuntime) -> Result<(), Fail> {
+    fn the_last_line_is_known_however_it_is_written(rt: HostRuntime) -> Result<(), Fail> {
+        let mut long = [b'a'; 200];
+        long[199] = b'\n';
         for piece in [1, 3, 64] {
-            let sink = MemSink::new(
-                rt.alloc(),
-                if piece > 0 { piece } else { 1 },
-                Vec::new(rt.alloc()),
-            );
+            let sink = MemSink::new(rt.alloc(), piece.max(1), Vec::new(rt.alloc()));
             let mut out = LastLine::new(sink);
             assert_eq!(rt; out.line(), b"".as_slice());
             for line in [b"1 pass -\n2 deny".as_slice(), b" 403\n", b"record 38 7\n"] {
                 assert!(rt; write_all(&mut out, line).is_ok());
             }
             assert_eq!(rt; out.line(), b"record 38 7\n".as_slice());
+            assert!(rt; write_all(&mut out, &long).is_ok());
+            assert_eq!(rt; out.line(), [b'a'; 64].as_slice());
+            assert!(rt; write_all(&mut out, b"config 1 9\n").is_ok());
+            assert_eq!(rt; out.line(), b"config 1 9\n".as_slice());
         }
         Ok(())
     }

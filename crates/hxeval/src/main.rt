@@ -1,11 +1,19 @@
 //! hxeval: replays recorded requests through the rules of an HAProxy configuration.
+//!
+//! ```text
+//! $ cat deny.cfg
+//! http-request deny if { path /admin }
+//! $ hxeval run deny.cfg < record
+//! 1 pass -
+//! 2 deny 403
+//! ```
 #![tactic(auto)]
 
 mod answer;
-mod bytes;
 mod connections;
 mod explain;
 mod last_line;
+pub mod laws;
 mod load;
 mod machine;
 mod replay;
@@ -15,14 +23,12 @@ mod run_fault;
 mod statement;
 #[cfg(test)]
 mod tests;
-mod texts;
 mod world;
 
 use crate::explain::explain;
 use crate::last_line::LastLine;
-use crate::machine::{arguments, environment};
+use crate::machine::{MachineArguments, MachineEntries, arguments, environment};
 use crate::run::run;
-use crate::texts::{Arguments, Entries};
 use hx_outside::{DirFiles, StdSink, StdSource};
 use std::io::writer;
 use std::process::ExitCode;
@@ -30,8 +36,8 @@ use std::process::ExitCode;
 fn main(rt: HostRuntime) -> ExitCode {
     let alloc = rt.alloc();
     let (Ok(words), Ok(env)) = (
-        arguments(alloc, &Arguments(&rt)),
-        environment(alloc, &Entries(&rt)),
+        arguments(alloc, &MachineArguments(&rt)),
+        environment(alloc, &MachineEntries(&rt)),
     ) else {
         let _ = eprintln!(rt; "hxeval: the command line and the environment can't be taken in");
         return ExitCode::from(7);

@@ -25,7 +25,8 @@ impl Model for Rule {
 }
 
 impl Rule {
-    /// The rule with these values, which are the words of its condition; `unless` turns the condition round.
+    /// The rule with these values, which are the words of its condition; `unless` turns the
+    /// condition round.
     pub fn new(unless: bool, values: Vec<Octets>) -> Rule
         ensures { result ≡ record { unless = unless; values = values.items } }
     {
@@ -75,7 +76,7 @@ impl Rules {
         }
     }
 
-    /// Puts a rule behind the others; where memory runs out it is dropped, and the others stay.
+    /// Puts a rule after the others; where memory runs out it is dropped, and the others stay.
     pub fn push(&mut self, rule: Rule) -> Result<(), NoMemory>
         ensures ok { OnOk result (self.new ≡ self.old ++ rule ∷ []) }
         ensures err { OnErr result (self.new ≡ self.old) }

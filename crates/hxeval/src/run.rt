@@ -5,7 +5,6 @@ ghost use Rattle.hx_outside.specs.Count.{Rose};
 ghost use Rattle.hx_base.specs.Pairs.{pairs_of};
 ghost use Rattle.hxeval.specs.Run.{config_name, texts_of, Ran, Headline, SourceFails};
 ghost use Rattle.hxeval.specs.RunFault.{Attempted, Finishes};
-ghost use Rattle.hxeval.specs.declared.load.Refusal.{Refusal};
 
 use crate::load::load;
 use crate::replay::replay;
@@ -116,7 +115,8 @@ fn attempt<F: Files, S: Source, K: Sink>(
 ) -> Result<(), RunFault>
     ensures attempted { Attempted (pairs_of env.now) (F.held files.old) name.now (S.left record_in.old) (K.written out.old) (K.written out.new) result }
     ensures at_end { OnOk result (IsAtEnd (S.left record_in.new)) }
-    ensures unread { (refusal : Refusal) → result ≡ Err (RunFault.Config refusal) → record_in.new ≡ record_in.old }
+    ensures unread { (line code : ℕ) → result ≡ Err (RunFault.ConfigRefused line code)
+        → record_in.new ≡ record_in.old }
     ensures files_failed { IsErrOf result RunFault.Files
         → Rose (F.faults files.old) (F.faults files.new) × (F.last files.new ≡ Some name.now) × (out.new ≡ out.old) }
     ensures source_failed { IsErrOf result RunFault.Source

@@ -2,7 +2,7 @@ ghost use Rattle.std.specs.Prelude.{◌≡◌, IfOk};
 ghost use Rattle.std.specs.String.{string_bytes};
 ghost use Rattle.hxeval.specs.RunFault.{last_line, status_of};
 
-use crate::load::{LoadFault, Refusal};
+use crate::load::LoadFault;
 use crate::replay::ReplayFault;
 use hx_outside::FileFault;
 use std::alloc::{AllocError, Global};
@@ -10,10 +10,10 @@ use std::alloc::{AllocError, Global};
 /// Why a run ended before the record did.
 #[derive(Clone, Copy, Debug, PartialEq, Eq)]
 pub enum RunFault {
-    /// The configuration is refused.
-    Config(Refusal),
+    /// The configuration is refused: this line, counted from 1, has a fault with this code.
+    ConfigRefused { line: u64, code: u32 },
     /// The record is refused, at this offset and with this code.
-    Record { offset: u64, code: u32 },
+    RecordRefused { offset: u64, code: u32 },
     /// The configuration could not be read.
     Files,
     /// The record could not be read.
@@ -29,8 +29,8 @@ impl RunFault {
         ensures { result ≡ status_of self.now }
     {
         match self {
-            RunFault::Config(_) => 3,
-            RunFault::Record { .. } => 4,
+            RunFault::ConfigRefused { .. } => 3,
+            RunFault::RecordRefused { .. } => 4,
             RunFault::Files => 5,
             RunFault::Source => 5,
             RunFault::Sink => 6,
@@ -43,8 +43,12 @@ impl RunFault {
         ensures { IfOk result (λ line. string_bytes line ≡ last_line self.now) }
     {
         match self {
-            RunFault::Config(Refusal { line, code }) => format!(in alloc; "config {line} {code}\n"),
-            RunFault::Record { offset, code } => format!(in alloc; "record {offset} {code}\n"),
+            RunFault::ConfigRefused { line, code } => {
+                format!(in alloc; "config {line} {code}\n")
+            }
+            RunFault::RecordRefused { offset, code } => {
+                format!(in alloc; "record {offset} {code}\n")
+            }
             RunFault::Files => Ok(String::new(alloc)),
             RunFault::Source => Ok(String::new(alloc)),
             RunFault::Sink => Ok(String::new(alloc)),
@@ -75,7 +79,7 @@ impl From<LoadFault> for RunFault {
 
     fn from(fault: LoadFault) -> RunFault {
         match fault {
-            LoadFault::Refused(refusal) => RunFault::Config(refusal),
+            LoadFault::Refused { line, code } => RunFault::ConfigRefused { line, code },
             LoadFault::NoMemory => RunFault::NoMemory,
         }
     }
@@ -89,7 +93,7 @@ impl From<ReplayFault> for RunFault {
 
     fn from(fault: ReplayFault) -> RunFault {
         match fault {
-            ReplayFault::Refused { offset, code } => RunFault::Record { offset, code },
+            ReplayFault::Refused { offset, code } => RunFault::RecordRefused { offset, code },
             ReplayFault::Source => RunFault::Source,
             ReplayFault::Sink => RunFault::Sink,
             ReplayFault::NoMemory => RunFault::NoMemory,

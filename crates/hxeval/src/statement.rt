@@ -1,34 +1,23 @@
-ghost use Rattle.std.specs.Prelude.{◌≡◌, ◌<◌, IfOk, IfSome, Option, Some, ◌↔◌};
+ghost use Rattle.std.specs.Prelude.{◌≡◌, IfOk};
 ghost use Rattle.std.specs.List.{list_all};
 ghost use Rattle.std.specs.Option.{option_copied};
-ghost use Rattle.hxeval.specs.Rules.{Rule};
-ghost use Rattle.hxeval.specs.Statement.{Spells, is_value, behind_word, values_of, condition_of, polarity_of, rule_of};
+ghost use Rattle.hxeval.specs.Statement.{is_value, words_after, values_of, condition_of};
+ghost use Rattle.hxeval.specs.Statement.{polarity_of, rule_of};
 
 use crate::rules::Rule;
 use hx_text::{NoMemory, Octets};
 use std::alloc::Global;
 
-/// The rule that the words of a line spell: `http-request deny`, then `if` or `unless`, then a condition
-/// `{ path VALUE .. }` with one or more values.
-#[tactic(auto, using(crate::proofs::StatementLemmas::spells_found, crate::proofs::StatementLemmas::spells_only))]
-pub fn rule_of(alloc: Global, words: &[Octets]) -> Result<Option<Rule>, NoMemory>
-    ensures value { IfOk result (λ rule. rule ≡ rule_of words.now) }
-    ensures spells { IfOk result (λ rule. IfSome rule (Spells words.now)) }
-    ensures only { IfOk result (λ rule. (other : Rule) → Spells words.now other → rule ≡ Some other) }
-    // The function that the value is told by gives a rule exactly where the words spell it.
-    ensures law { (rule : Rule) → (rule_of words.now ≡ Some rule) ↔ Spells words.now rule }
-{
-    read_rule(alloc, words)
-}
-
+/// The rule that the words of a line spell: `http-request deny`, then `if` or `unless`, then a
+/// condition `{ path VALUE .. }` with one or more values. `laws::statements` says it by the rule.
 #[tactic(auto, unfolding(crate::specs::Statement::rule_of))]
-fn read_rule(alloc: Global, words: &[Octets]) -> Result<Option<Rule>, NoMemory>
+pub fn rule_of(alloc: Global, words: &[Octets]) -> Result<Option<Rule>, NoMemory>
     ensures { IfOk result (λ rule. rule ≡ rule_of words.now) }
 {
-    let Some(rest) = behind_word(words, b"http-request") else {
+    let Some(rest) = words_after(words, b"http-request") else {
         return Ok(None);
     };
-    let Some(rest) = behind_word(rest, b"deny") else {
+    let Some(rest) = words_after(rest, b"deny") else {
         return Ok(None);
     };
     let Some((word, rest)) = rest.split_first() else {
@@ -43,9 +32,9 @@ fn read_rule(alloc: Global, words: &[Octets]) -> Result<Option<Rule>, NoMemory>
     }
 }
 
-/// The words behind the first, where that is `word`.
-fn behind_word<'a>(words: &'a [Octets], word: &[u8]) -> Option<&'a [Octets]>
-    ensures { option_copied result ≡ behind_word word.now words.now }
+/// The words after the first, where that is `word`.
+fn words_after<'a>(words: &'a [Octets], word: &[u8]) -> Option<&'a [Octets]>
+    ensures { option_copied result ≡ words_after word.now words.now }
 {
     let (first, rest) = words.split_first()?;
     if first.as_slice() == word {
@@ -55,7 +44,8 @@ fn behind_word<'a>(words: &'a [Octets], word: &[u8]) -> Option<&'a [Octets]>
     }
 }
 
-/// Whether the condition behind this word is turned round; `None` where the word begins no condition.
+/// Whether this word turns the condition after it round, as `unless` does and `if` doesn't; `None`
+/// where it begins no condition.
 fn polarity_of(word: &[u8]) -> Option<bool>
     ensures { result ≡ polarity_of word.now }
 {
@@ -72,8 +62,8 @@ fn polarity_of(word: &[u8]) -> Option<bool>
 fn condition_of(words: &[Octets]) -> Option<&[Octets]>
     ensures { option_copied result ≡ condition_of words.now }
 {
-    let rest = behind_word(words, b"{")?;
-    let rest = behind_word(rest, b"path")?;
+    let rest = words_after(words, b"{")?;
+    let rest = words_after(rest, b"path")?;
     values_of(rest)
 }
 

@@ -1,10 +1,10 @@
 use Rattle.hxeval.specs.Explanation.{given_name}
 use Rattle.hxeval.specs.Run.{texts_of}
-use Rattle.hxeval.proofs.ExplainLemmas.{config_told, record_told}
+use Rattle.hxeval.proofs.ExplainLemmas.{config_explained, record_explained}
 use Rattle.hxeval.proofs.explain.explain.Goals as goal
 
 pub returns-clause-config : goal.returns-clause-config
-returns-clause-config g c = config_told (given_name (texts_of c.args.words.now)) c.args.file_failed c.args.last_line.now
+returns-clause-config g c = config_explained (given_name (texts_of c.args.words.now)) c.args.file_failed c.args.last_line.now
 
 pub returns-clause-record : goal.returns-clause-record
-returns-clause-record g c = record_told (given_name (texts_of c.args.words.now)) c.args.file_failed c.args.last_line.now
+returns-clause-record g c = record_explained (given_name (texts_of c.args.words.now)) c.args.file_failed c.args.last_line.now

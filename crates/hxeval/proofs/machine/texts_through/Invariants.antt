@@ -5,6 +5,6 @@ use Rattle.hxeval.proofs.machine.texts_through.Given as goal
 
 abbrev pub invariant-loop-index : goal.invariant-loop-index
 invariant-loop-index g l = record {
-  read : IfSome (g.T.Texts.texts l.texts) (λ all. texts_of l.read.items ++ drop l.index all ≡ drop l.first all);
+  read : IfSome (g.T.IndexedTexts.texts l.texts) (λ all. texts_of l.read.items ++ drop l.index all ≡ drop l.first all);
   room : length l.buffer ≡ length l.fn.buffer;
 }

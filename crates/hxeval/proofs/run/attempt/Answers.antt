@@ -18,7 +18,7 @@ returns-in_err-rules-clause-attempted g c =
     rw (p.1, p.2) (unloaded (pairs_of c.args.env.now) (g.F.Files.held c.args.files.now) c.args.name.now c.in_ok-config.config.items
     (g.S.Source.left c.args.record_in.now) (g.K.Sink.written c.args.out.now) c.in_err-rules.field-0.0
     (is_config (g.F.Files.held c.args.files.now) c.args.name.now c.in_ok-config.config.items c.in_ok-config.ensures.bytes)
-    (λ refusal is. rw c.as_slice.ensures.value at (c.in_err-rules.ensures.refused refusal (ap Err is))))
+    (λ line code is. rw c.as_slice.ensures.value at (c.in_err-rules.ensures.refused line code (ap Err is))))
 
 pub returns-in_err-replay-clause-attempted : goal.returns-in_err-replay-clause-attempted
 returns-in_err-replay-clause-attempted g c =
