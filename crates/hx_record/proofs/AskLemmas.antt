@@ -1,15 +1,15 @@
 -- When a reader has read its source so far in a call.
-use Rattle.std.proofs.Common.{◌≡◌, ◌≢◌, Result, Err, ℕ, ◌<◌, Bool, true, false, List, [], ◌∷◌, ◌++◌, length, Option, Some, None, arith, refl, sym, ap, ◌∙◌, append_assoc, append-nil}
+use Rattle.std.proofs.Common.{◌≡◌, ◌≢◌, Result, Ok, Err, ℕ, ◌<◌, Bool, true, false, List, [], ◌∷◌, ◌++◌, length, Option, Some, None, arith, refl, sym, ap, ◌∙◌, append_assoc, append-nil}
 use Rattle.std.specs.Bool.{⊤}
 use Rattle.hx_outside.specs.Log.{Log, Logs, HoldsSince}
 use Rattle.hx_record.specs.declared.fault.RecordFault.{RecordFault}
 use Rattle.hx_record.specs.declared.fault.RecordFault.TheVariants as faults
-use Rattle.hx_record.specs.declared.piece.Piece.TheVariants.{Undecided, Skip}
+use Rattle.hx_record.specs.declared.events.Next.TheVariants as next
 use Rattle.hx_record.specs.Record.{Unknown}
 use Rattle.hx_record.specs.State.{State, items_after, decided_items_now}
 use Rattle.hx_record.specs.Asking.{after_read, after_reads, AreDue, FailureIsTold, WereDue}
-use Rattle.hx_record.specs.Parts.{piece_now, passed_by, Grows}
-use Rattle.hx_record.proofs.ReadLemmas.{Behind, behind_start, behind_skip, behind_fill, undecided_items, both_ends}
+use Rattle.hx_record.specs.Reading.{Decides, Fills}
+use Rattle.hx_record.proofs.ReadLemmas.{SoFar, so_far_start, so_far_more, both_ends}
 
 -- ---- reads, by a log that is told
 
@@ -70,22 +70,24 @@ pub record Told (before s : State) (took : List ℕ) (reads : Log) : Type 0 wher
   pub same : after_reads before reads ≡ record before { pending = before.pending ++ took; ended = s.ended }
   pub gave : Gave reads
 
-pub asks_start : (s : State) (left : Option (List ℕ)) (log : Option Log) → HoldsSince log log (Told s s (behind_start s left).took)
-unfolding behind_start
+pub asks_start : (s : State) (left : Option (List ℕ)) (log : Option Log) → HoldsSince log log (Told s s (so_far_start s left).took)
+unfolding so_far_start
 asks_start s left log = since_start log (Told s s []) (record { due = tt; same = rw (append-nil s.pending) refl; gave = tt })
 
 -- where nothing is decided, nothing was decided by the bytes taken
-unknown_before : (before s : State) (left left' : Option (List ℕ)) → (b : Behind before s left left') → piece_now s ≡ Undecided
+unknown_before : (before s now : State) (left left' : Option (List ℕ)) → (b : SoFar before s left left') → Decides s now (Ok next.Undecided) → now.ended ≡ false → decided_items_now now ≡ Unknown
     → decided_items_now (record before { pending = before.pending ++ b.took; ended = s.ended }) ≡ Unknown
-unknown_before before s left left' b e =
-    let (going, unknown) = undecided_items s e in
-    let same : items_after before false (b.took ++ []) ≡ items_after s false [] = b.same false [] (λ over. both_ends s.ended going over) in
-    rw (going, append_assoc before.pending b.took []) (same ∙ unknown)
+unknown_before before s now left left' b d going unknown =
+    let open_s : s.ended ≡ false = sym d.ended ∙ going in
+    let same : items_after before false (b.took ++ []) ≡ items_after s false [] = b.same false [] (λ over. both_ends s.ended open_s over) in
+    let after : items_after now false [] ≡ items_after s false [] = d.answers false [] (λ over. both_ends now.ended going over) in
+    let none : items_after now false [] ≡ Unknown = ap (λ ends. items_after now ends []) (sym going) ∙ unknown in
+    rw (open_s, append_assoc before.pending b.took []) (same ∙ sym after ∙ none)
 
-told_due : (before s : State) (left left' : Option (List ℕ)) (reads : Log) (read : Option (List ℕ)) → (b : Behind before s left left') → piece_now s ≡ Undecided → Told before s b.took reads
-    → AreDue before (reads ++ (read ∷ []))
-told_due before s left left' reads read b e t =
-    due_more before reads read t.due (ap (λ (s : State). s.ended) t.same ∙ (undecided_items s e).0) (ap decided_items_now t.same ∙ unknown_before before s left left' b e)
+told_due : (before s now : State) (left left' : Option (List ℕ)) (reads : Log) (read : Option (List ℕ)) → (b : SoFar before s left left') → Decides s now (Ok next.Undecided) → now.ended ≡ false
+    → decided_items_now now ≡ Unknown → Told before s b.took reads → AreDue before (reads ++ (read ∷ []))
+told_due before s now left left' reads read b d going unknown t =
+    due_more before reads read t.due (ap (λ (s : State). s.ended) t.same ∙ sym d.ended ∙ going) (ap decided_items_now t.same ∙ unknown_before before s now left left' b d going unknown)
 
 -- a read that gave bytes or told the end
 after_got : (before s after : State) (took got : List ℕ) → s.ended ≡ false → (after.ended ≡ false → 0 < length got) → (after.ended ≡ true → got ≡ [])
@@ -100,41 +102,36 @@ after_got before s after took got going some none = at_end after.ended refl wher
     by_bytes [] more = let none : ⊥ = omega (arith, more) in absurd none
     by_bytes (b ∷ bs) more = rw (h, going, append_assoc before.pending took (b ∷ bs)) refl
 
-pub asks_skip : (before s : State) (left left' : Option (List ℕ)) (log log' : Option Log) (used : ℕ) → (b : Behind before s left left') → (e : piece_now s ≡ Skip used)
-    → HoldsSince log log' (Told before s b.took) → HoldsSince log log' (Told before (passed_by s used) (behind_skip before s left left' used b e).took)
-unfolding behind_skip
-asks_skip before s left left' log log' used b e so_far =
-    since_map log log' (Told before s b.took) (Told before (passed_by s used) b.took) so_far (λ reads t. record { due = t.due; same = t.same; gave = t.gave })
-
-pub asks_fill : (before s after : State) (left left' left'' : Option (List ℕ)) (log log' log'' : Option Log) → (b : Behind before s left left') → (e : piece_now s ≡ Undecided)
-    → (g : Grows s after left' left'' log' log'') → HoldsSince log log' (Told before s b.took)
-    → HoldsSince log log'' (Told before after (behind_fill before s after left left' left'' log' log'' b (undecided_items s e).0 g).took)
-unfolding behind_fill
-asks_fill before s after left left' left'' log log' log'' b e g so_far =
+pub asks_more : (before s now after : State) (left left' left'' : Option (List ℕ)) (log log' log'' : Option Log) → (b : SoFar before s left left') → (d : Decides s now (Ok next.Undecided))
+    → (going : now.ended ≡ false) → decided_items_now now ≡ Unknown → (g : Fills now after left' left'' log' log'') → HoldsSince log log' (Told before s b.took)
+    → HoldsSince log log'' (Told before after (so_far_more before s now after left left' left'' log' log'' b d going g).took)
+unfolding so_far_more
+asks_more before s now after left left' left'' log log' log'' b d going unknown g so_far =
     since_more log log' log'' (Some g.got) (Told before s b.took) (Told before after (b.took ++ g.got)) so_far g.logged
     (λ reads t. record {
-      due = told_due before s left left' reads (Some g.got) b e t;
+      due = told_due before s now left left' reads (Some g.got) b d going unknown t;
       same = after_reads_more before reads (Some g.got) ∙ ap (λ (s : State). after_read s (Some g.got)) t.same
-          ∙ after_got before s after b.took g.got (undecided_items s e).0 g.some (λ over. (g.ended over).0);
+          ∙ after_got before s after b.took g.got (sym d.ended ∙ going) g.some (λ over. (g.ended over).0);
       gave = gave_more reads g.got t.gave;
     })
 
--- ---- behind the call
+-- ---- after the call
 
 -- where no read failed
-pub due_now : {A : Type 0} → (before s : State) (took : List ℕ) (log log' : Option Log) (result : Result A RecordFault) → result ≢ Err faults.Failed → HoldsSince log log' (Told before s took)
-    → HoldsSince log log' (WereDue before (record before { pending = before.pending ++ took; ended = s.ended }) result)
-due_now before s took log log' result other so_far =
-    since_map log log' (Told before s took) (WereDue before (record before { pending = before.pending ++ took; ended = s.ended }) result) so_far
-    (λ reads t. record { due = t.due; gave = t.same; told = told_other reads result other t.gave })
+pub due_now : {A : Type 0} → (before s after : State) (took : List ℕ) (log log' : Option Log) (result : Result A RecordFault) → result ≢ Err faults.Failed → after.ended ≡ s.ended → HoldsSince log log' (Told before s took)
+    → HoldsSince log log' (WereDue before (record before { pending = before.pending ++ took; ended = after.ended }) result)
+due_now before s after took log log' result other ended so_far =
+    since_map log log' (Told before s took) (WereDue before (record before { pending = before.pending ++ took; ended = after.ended }) result) so_far
+    (λ reads t. record { due = t.due; gave = rw ended t.same; told = told_other reads result other t.gave })
 
 -- where the last one did
-pub due_failed : (A : Type 0) (before s : State) (left left' : Option (List ℕ)) (log log' log'' : Option Log) → (b : Behind before s left left') → piece_now s ≡ Undecided → Logs log' log'' None
-    → HoldsSince log log' (Told before s b.took) → HoldsSince log log'' (WereDue {A = A} before (record before { pending = before.pending ++ b.took; ended = s.ended }) (Err faults.Failed))
-due_failed A before s left left' log log' log'' b e one so_far =
-    since_more log log' log'' None (Told before s b.took) (WereDue {A = A} before (record before { pending = before.pending ++ b.took; ended = s.ended }) (Err faults.Failed)) so_far one
+pub due_failed : (A : Type 0) (before s now : State) (left left' : Option (List ℕ)) (log log' log'' : Option Log) → (b : SoFar before s left left') → (d : Decides s now (Ok next.Undecided)) → now.ended ≡ false
+    → decided_items_now now ≡ Unknown → Logs log' log'' None → HoldsSince log log' (Told before s b.took)
+    → HoldsSince log log'' (WereDue {A = A} before (record before { pending = before.pending ++ b.took; ended = now.ended }) (Err faults.Failed))
+due_failed A before s now left left' log log' log'' b d going unknown one so_far =
+    since_more log log' log'' None (Told before s b.took) (WereDue {A = A} before (record before { pending = before.pending ++ b.took; ended = now.ended }) (Err faults.Failed)) so_far one
     (λ reads t. record {
-      due = told_due before s left left' reads None b e t;
-      gave = after_reads_more before reads None ∙ t.same;
+      due = told_due before s now left left' reads None b d going unknown t;
+      gave = after_reads_more before reads None ∙ rw d.ended t.same;
       told = told_failed A reads t.gave;
     })

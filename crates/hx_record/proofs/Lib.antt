@@ -6,6 +6,7 @@ pub mod WaitLemmas
 pub mod PendingLemmas
 pub mod WindowLemmas
 pub mod StateLemmas
+pub mod DecisionLemmas
 pub mod ReadLemmas
 pub mod AskLemmas
 pub mod AnswerLemmas

@@ -1,9 +1,7 @@
 -- What the parts of a reader do.
-use Rattle.std.specs.Prelude.{◌≡◌, ℕ, ◌+◌, ◌<◌, List, [], ◌++◌, length, drop, true, false, Option, None, Some}
+use Rattle.std.specs.Prelude.{◌≡◌, ℕ, ◌+◌, ◌<◌, List, ◌++◌, length, drop, Option, Some}
 use Rattle.std.specs.Io.KnownBytes.{Consumes, IsAtEnd}
 use Rattle.hx_outside.specs.Log.{Log, Logs}
-use Rattle.hx_record.specs.declared.fault.RecordFault.{RecordFault}
-use Rattle.hx_record.specs.declared.fault.RecordFault.TheVariants as faults
 use Rattle.hx_record.specs.declared.piece.Tail.TheVariants.{Open}
 use Rattle.hx_record.specs.declared.piece.Piece.{Piece}
 use Rattle.hx_record.specs.declared.piece.Piece.TheVariants.{Undecided, Found}
@@ -36,20 +34,3 @@ pub record Took (left left' : Option (List ℕ)) (log log' : Option Log) (before
   pub bytes : after ≡ before ++ got
   pub size : length got ≡ count
   pub end : count ≡ 0 → IsAtEnd left'
-
--- a read took bytes, one at least, or told the record's end
-pub record Grows (before after : State) (left left' : Option (List ℕ)) (log log' : Option Log) : Type 0 where
-  pub got : List ℕ
-  pub consumed : Consumes left left' got
-  pub logged : Logs log log' (Some got)
-  pub limit : after.limit ≡ before.limit
-  pub at : after.at ≡ before.at
-  pub pending : after.pending ≡ before.pending ++ got
-  pub some : after.ended ≡ false → 0 < length got
-  pub ended : after.ended ≡ true → (got ≡ []) × IsAtEnd left'
-
--- a fault is none of the record: a read that failed, which is in the log, or memory that ran out, with no read
-abbrev pub Notes : RecordFault → Option Log → Option Log → Type 0
-Notes (faults.Bad offset code) old new = ⊥
-Notes faults.Failed old new = Logs old new None
-Notes faults.NoMemory old new = new ≡ old

@@ -1,5 +1,5 @@
 -- What a reader tells of itself.
-use Rattle.std.specs.Prelude.{◌≡◌, ℕ, List, [], ◌++◌, Bool, true}
+use Rattle.std.specs.Prelude.{◌≡◌, ℕ, ◌+◌, ◌-◌, List, [], ◌++◌, length, Bool, true, cond}
 use Rattle.hx_record.specs.Record.{Items, items_from}
 
 -- The limit on the whole record, how many bytes of it the reader has passed, the bytes that it took from there on, and
@@ -21,3 +21,7 @@ decided_items_now s = items_after s s.ended []
 -- behind the record's end nothing follows, and else anything may
 abbrev pub MayFollow : State → Bool → List ℕ → Type 0
 MayFollow s ends more = s.ended ≡ true → (more ≡ []) × (ends ≡ true)
+
+-- How much a reader may still do: bytes that it may take, bytes that it may pass, and the end that it may find.
+abbrev pub remaining_work : State → ℕ
+remaining_work s = (s.limit + 1 - (s.at + length s.pending)) + (s.limit - s.at) + cond s.ended 0 1

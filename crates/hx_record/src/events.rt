@@ -33,3 +33,14 @@ pub struct Placed {
     pub offset: u64,
     pub event: Event,
 }
+
+/// What a reader answers without reading its source.
+#[derive(Debug, Drop)]
+pub enum Next {
+    /// The next event.
+    Event(Placed),
+    /// The record ends.
+    End,
+    /// More bytes decide what comes next.
+    Undecided,
+}

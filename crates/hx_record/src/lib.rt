@@ -26,7 +26,7 @@ mod reader;
 mod refusal;
 mod window;
 
-pub use events::{Event, Placed};
+pub use events::{Event, Next, Placed};
 pub use fault::RecordFault;
 pub use order::items_are_the_pieces_in_order;
 pub use reader::Reader;

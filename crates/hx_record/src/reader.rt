@@ -2,11 +2,11 @@ ghost use Rattle.std.specs.Prelude.{◌≡◌, ◌≢◌, ℕ, ◌+◌, ◌-◌,
 ghost use Rattle.std.specs.Io.KnownBytes.{Keeps, IsAtEnd};
 ghost use Rattle.hx_outside.specs.Count.{Rose};
 ghost use Rattle.hx_record.specs.Record.{Unknown, Bad};
-ghost use Rattle.hx_record.specs.State.{State, decided_items_now};
-ghost use Rattle.hx_record.specs.Reading.{Reads};
-ghost use Rattle.hx_record.specs.Parts.{IsFound, piece_now, passed_by, Grows, Notes};
+ghost use Rattle.hx_record.specs.State.{State, decided_items_now, remaining_work};
+ghost use Rattle.hx_record.specs.Reading.{Reads, Decides, Fills, HasEvent, IsEvent, LogsFault};
+ghost use Rattle.hx_record.specs.Parts.{IsFound, piece_now, passed_by};
 
-use crate::events::Placed;
+use crate::events::{Next, Placed};
 use crate::fault::RecordFault;
 use crate::piece::{Piece, piece_under, waits};
 use crate::refusal::Refusal;
@@ -100,19 +100,49 @@ impl Reader {
         ensures stuck { (offset code : ℕ) → result ≡ Err (RecordFault.Bad offset code)
             → decided_items_now self.new ≡ Bad offset code }
     {
-        'pieces: loop {
+        'reads: loop {
+            match self.next_decided()? {
+                Next::Event(placed) => return Ok(Some(placed)),
+                Next::End => return Ok(None),
+                Next::Undecided => self.fill(source)?,
+            }
+        }
+    }
+
+    /// The next event of the record where the bytes that were read decide it, and the place at
+    /// which its line begins. Lines that say nothing are passed over. `End` at the record's end,
+    /// and `Undecided` where a caller goes on by `fill`. No source is read.
+    ///
+    /// `Bad` where the record is refused: each later call answers the same. `NoMemory` where memory
+    /// runs out, which only an event takes: a later call goes on from there. Never `Failed`.
+    pub fn next_decided(&mut self) -> Result<Next, RecordFault>
+        // Which bytes were passed, and that the answer is the first item of what is left, whatever
+        // follows.
+        ensures decides { Decides self.old self.new result }
+        ensures moves { IfOk result (λ next. IsEvent next
+            → (self.old.at < self.new.at) × (self.new.at ≤ self.new.limit)) }
+        ensures end { result ≡ Ok Next.End → self.new.ended ≡ true }
+        ensures undecided { result ≡ Ok Next.Undecided
+            → (self.new.ended ≡ false) × (decided_items_now self.new ≡ Unknown) }
+        ensures memory { result ≡ Err RecordFault.NoMemory → HasEvent (decided_items_now self.new) }
+
+        // A caller that goes on while there are events, and fills between them, comes to an end.
+        ensures less { IfOk result (λ next. IsEvent next
+            → remaining_work self.new < remaining_work self.old) }
+        ensures no_more { remaining_work self.new ≤ remaining_work self.old }
+        ensures within { result ≡ Ok Next.Undecided
+            → self.new.at + length self.new.pending ≤ self.new.limit }
+    {
+        'lines: loop {
             match self.judge()? {
-                Piece::Undecided => match self.fill(source) {
-                    Ok(()) => {}
-                    Err(fault) => return Err(fault),
-                },
+                Piece::Undecided => return Ok(Next::Undecided),
                 Piece::Skip { used } => self.advance(used),
                 Piece::Found { used, event } => {
                     let offset = self.place(0);
                     self.advance(used);
-                    return Ok(Some(Placed { offset, event }));
+                    return Ok(Next::Event(Placed { offset, event }));
                 }
-                Piece::Finish => return Ok(None),
+                Piece::Finish => return Ok(Next::End),
                 Piece::TooLong => {
                     let offset = self.limit();
                     return Err(RecordFault::Bad {
@@ -129,6 +159,29 @@ impl Reader {
                 }
             }
         }
+    }
+
+    /// Reads `source` once: takes the bytes that it gives, or its end. After `Failed`, which the
+    /// source counts, and after `NoMemory`, where nothing was read, the reader is as before.
+    pub fn fill<S: Source>(&mut self, source: &mut S) -> Result<(), RecordFault>
+        requires { self.old.ended ≡ false }
+        ensures ok { OnOk result (Fills self.old self.new (S.left source.old) (S.left source.new)
+            (S.log source.old) (S.log source.new)) }
+        ensures err { OnErr result (self.new ≡ self.old) }
+        ensures log { IfErr result (λ fault. LogsFault fault (S.log source.old) (S.log source.new)) }
+        ensures kept { OnErr result (Keeps (S.left source.old) (S.left source.new)) }
+        ensures later { S.faults source.old ≤ S.faults source.new }
+        ensures failed { result ≡ Err RecordFault.Failed
+            → Rose (S.faults source.old) (S.faults source.new) }
+        ensures less { OnOk result (self.old.at + length self.old.pending ≤ self.old.limit
+            → remaining_work self.new < remaining_work self.old) }
+    {
+        self.window.reserve()?;
+        let count = self.window.read(source)?;
+        if count == 0 {
+            self.ended = true;
+        }
+        Ok(())
     }
 
     fn limit(&self) -> u64
@@ -181,25 +234,5 @@ impl Reader {
             self.wait = wait;
         }
         Ok(piece)
-    }
-
-    /// Takes bytes from the source, or the record's end. After an `Err` nothing was taken.
-    fn fill<S: Source>(&mut self, source: &mut S) -> Result<(), RecordFault>
-        requires { self.old.ended ≡ false }
-        ensures ok { OnOk result (Grows self.old self.new (S.left source.old) (S.left source.new)
-            (S.log source.old) (S.log source.new)) }
-        ensures err { OnErr result (self.new ≡ self.old) }
-        ensures log { IfErr result (λ fault. Notes fault (S.log source.old) (S.log source.new)) }
-        ensures kept { OnErr result (Keeps (S.left source.old) (S.left source.new)) }
-        ensures later { S.faults source.old ≤ S.faults source.new }
-        ensures failed { result ≡ Err RecordFault.Failed
-            → Rose (S.faults source.old) (S.faults source.new) }
-    {
-        self.window.reserve()?;
-        let count = self.window.read(source)?;
-        if count == 0 {
-            self.ended = true;
-        }
-        Ok(())
     }
 }

@@ -1,232 +1,136 @@
-use Rattle.std.proofs.Common.{◌≡◌, ◌∙◌, sym, arith}
-use Rattle.std.proofs.Common.{add-zero}
-use Rattle.std.proofs.lemmas.Bool.{false≢true}
+use Rattle.std.proofs.Common.{◌≡◌, Ok, Err, Some, None, [], refl, ap, arith}
 use Rattle.std.proofs.lemmas.Result.{err_from_is_err_and}
-use Rattle.hx_record.specs.Record.{Unknown, Bad}
-use Rattle.hx_record.specs.State.{decided_items_now}
-use Rattle.hx_record.proofs.StateLemmas.{skip_passes, found_passes, fault_within, undecided_now, found_now, finish_now, fault_now, long_now}
-use Rattle.hx_record.proofs.ReadLemmas.{behind_start, behind_skip, behind_fill, alone_start, alone_skip, alone_fill, undecided_now_open, undecided_items, finish_ended, told, found_no_fault, work_skip, work_fill}
-use Rattle.hx_record.proofs.AskLemmas.{asks_start, asks_skip, asks_fill}
-use Rattle.hx_record.proofs.AnswerLemmas.{reads_found, reads_none, reads_fault, reads_long, reads_no_memory, reads_outside}
+use Rattle.hx_record.specs.declared.events.Next.TheVariants as next
+use Rattle.hx_record.specs.declared.fault.RecordFault.TheVariants as faults
+use Rattle.hx_record.proofs.ReadLemmas.{so_far_start, so_far_more, alone_start, alone_more, bad_stays, decided_same}
+use Rattle.hx_record.proofs.AskLemmas.{asks_start, asks_more}
+use Rattle.hx_record.proofs.AnswerLemmas.{reads_decided, reads_fault, refused_again, not_failed}
 use Rattle.hx_record.proofs.reader.Reader.next_event.Goals as goal
 
-pub pieces-init : goal.pieces-init
-pieces-init g c = record {
-  behind = behind_start c.args.self.now (g.S.Source.left c.args.source.now);
+pub reads-init : goal.reads-init
+reads-init g c = record {
+  so_far = so_far_start c.args.self.now (g.S.Source.left c.args.source.now);
   left_alone = alone_start c.args.self.now c.args.source.now;
   asked = asks_start c.args.self.now (g.S.Source.left c.args.source.now) (g.S.Source.log c.args.source.now);
   ended = c.requires;
   later = omega arith;
 }
 
-pub fill-requires : goal.fill-requires
-fill-requires g c =
-    let e = sym c.in_ok-judge.ensures.ok ∙ c.in-Undecided.is in
-    rw c.judge.ensures.same ((undecided_now_open c.pieces.self e).0)
+-- ---- what was decided
 
-pub advance-requires-clause-pending : goal.advance-requires-clause-pending
-advance-requires-clause-pending g c =
-    let e = sym c.in_ok-judge.ensures.ok ∙ c.in-Skip.is in
-    rw c.judge.ensures.same ((skip_passes c.pieces.self c.in-Skip.used e).1)
-
-pub advance-requires-clause-limit : goal.advance-requires-clause-limit
-advance-requires-clause-limit g c =
-    let e = sym c.in_ok-judge.ensures.ok ∙ c.in-Skip.is in
-    rw c.judge.ensures.same ((skip_passes c.pieces.self c.in-Skip.used e).2 c.judge.ensures.place)
-
-pub pieces-smaller : goal.pieces-smaller
-pieces-smaller g c =
-    let e = sym c.in_ok-judge.ensures.ok ∙ c.in-Skip.is in
-    rw (c.advance.ensures, c.judge.ensures.same) (work_skip c.pieces.self c.in-Skip.used c.judge.ensures.place e)
-
-pub pieces-preserved : goal.pieces-preserved
-pieces-preserved g c =
-    let left = g.S.Source.left in
-    let e = sym c.in_ok-judge.ensures.ok ∙ c.in-Skip.is in
-    let so_far = c.pieces.invariant in
-    let log = g.S.Source.log in
-    rw (c.advance.ensures, c.judge.ensures.same) (record {
-      behind = behind_skip c.args.self.now c.pieces.self (left c.args.source.now) (left c.pieces.source) c.in-Skip.used so_far.behind e;
-      left_alone = alone_skip c.args.self.now c.pieces.self c.args.source.now c.pieces.source c.in-Skip.used so_far.left_alone e;
-      asked = asks_skip c.args.self.now c.pieces.self (left c.args.source.now) (left c.pieces.source) (log c.args.source.now) (log c.pieces.source) c.in-Skip.used so_far.behind e so_far.asked;
-      ended = so_far.ended;
-      later = so_far.later;
-    })
-
-pub advance-requires-in-Found-clause-pending : goal.advance-requires-in-Found-clause-pending
-advance-requires-in-Found-clause-pending g c =
-    let e = sym c.in_ok-judge.ensures.ok ∙ c.in-Found.is in
-    rw c.judge.ensures.same ((found_passes c.pieces.self c.in-Found.used c.in-Found.event e).1)
-
-pub advance-requires-in-Found-clause-limit : goal.advance-requires-in-Found-clause-limit
-advance-requires-in-Found-clause-limit g c =
-    let e = sym c.in_ok-judge.ensures.ok ∙ c.in-Found.is in
-    rw c.judge.ensures.same ((found_passes c.pieces.self c.in-Found.used c.in-Found.event e).2 c.judge.ensures.place)
-
-pub returns-in_err-judge-clause-reads : goal.returns-in_err-judge-clause-reads
-returns-in_err-judge-clause-reads g c =
+pub returns-in_err-placed-clause-reads : goal.returns-in_err-placed-clause-reads
+returns-in_err-placed-clause-reads g c =
     let left = g.S.Source.left in
     let log = g.S.Source.log in
+    let fault = c.in_err-placed.field-0.0 in
     let p = err_from_is_err_and c.from_residual.result c.from_residual.ensures.1 in
-    rw (p.1, p.2, c.judge.ensures.same) (reads_no_memory c.args.self.now c.pieces.self (left c.args.source.now) (left c.pieces.source) (log c.args.source.now) (log c.pieces.source) c.pieces.invariant.behind c.pieces.invariant.asked)
+    rw (p.1, p.2) (reads_decided c.args.self.now c.reads.self c.next_decided.new.self (left c.args.source.now) (left c.reads.source) (log c.args.source.now) (log c.reads.source) (Err fault) (Err fault)
+    c.reads.invariant.so_far c.reads.invariant.asked c.in_err-placed.ensures.decides refl)
 
-pub returns-in-Err-clause-reads : goal.returns-in-Err-clause-reads
-returns-in-Err-clause-reads g c =
+pub returns-in-Event-clause-reads : goal.returns-in-Event-clause-reads
+returns-in-Event-clause-reads g c =
     let left = g.S.Source.left in
     let log = g.S.Source.log in
-    let e = sym c.in_ok-judge.ensures.ok ∙ c.in-Undecided.is in
-    rw (c.in-Err.ensures.err, c.judge.ensures.same) (reads_outside c.args.self.now c.pieces.self (left c.args.source.now) (left c.pieces.source) (left c.fill.new.source)
-    (log c.args.source.now) (log c.pieces.source) (log c.fill.new.source) c.in-Err.fault c.pieces.invariant.behind c.pieces.invariant.asked e c.in-Err.ensures.kept c.in-Err.ensures.log)
+    let decides = rw c.in-Event.is at c.in_ok-placed.ensures.decides in
+    reads_decided c.args.self.now c.reads.self c.next_decided.new.self (left c.args.source.now) (left c.reads.source) (log c.args.source.now) (log c.reads.source) (Ok (next.Event c.in-Event.placed)) (Ok (Some c.in-Event.placed))
+    c.reads.invariant.so_far c.reads.invariant.asked decides refl
 
-pub returns-in-Found-clause-reads : goal.returns-in-Found-clause-reads
-returns-in-Found-clause-reads g c =
+pub returns-in-End-clause-reads : goal.returns-in-End-clause-reads
+returns-in-End-clause-reads g c =
     let left = g.S.Source.left in
     let log = g.S.Source.log in
-    let e = sym c.in_ok-judge.ensures.ok ∙ c.in-Found.is in
-    rw (c.place-offset.ensures, c.advance-in-Found.ensures, c.judge.ensures.same, add-zero) (reads_found c.args.self.now c.pieces.self (left c.args.source.now) (left c.pieces.source) (log c.args.source.now) (log c.pieces.source) c.in-Found.used c.in-Found.event c.pieces.invariant.behind c.pieces.invariant.asked e)
+    let decides = rw c.in-End.is at c.in_ok-placed.ensures.decides in
+    reads_decided c.args.self.now c.reads.self c.next_decided.new.self (left c.args.source.now) (left c.reads.source) (log c.args.source.now) (log c.reads.source) (Ok next.End) (Ok None)
+    c.reads.invariant.so_far c.reads.invariant.asked decides refl
 
-pub returns-in-Finish-clause-reads : goal.returns-in-Finish-clause-reads
-returns-in-Finish-clause-reads g c =
+pub returns-in_err-placed-clause-failed : goal.returns-in_err-placed-clause-failed
+returns-in_err-placed-clause-failed g c failed =
+    let fault = c.in_err-placed.field-0.0 in
+    let p = err_from_is_err_and c.from_residual.result c.from_residual.ensures.1 in
+    let e : fault ≡ faults.Failed = cc (p.1, p.2, failed) in
+    absurd (not_failed c.reads.self c.next_decided.new.self fault c.in_err-placed.ensures.decides e)
+
+pub returns-in_err-placed-clause-undecided : goal.returns-in_err-placed-clause-undecided
+returns-in_err-placed-clause-undecided g c failed =
+    let fault = c.in_err-placed.field-0.0 in
+    let p = err_from_is_err_and c.from_residual.result c.from_residual.ensures.1 in
+    let e : fault ≡ faults.Failed = cc (p.1, p.2, failed) in
+    absurd (not_failed c.reads.self c.next_decided.new.self fault c.in_err-placed.ensures.decides e)
+
+-- ---- a refusal that was decided at first
+
+pub returns-in_err-placed-clause-again : goal.returns-in_err-placed-clause-again
+returns-in_err-placed-clause-again g c offset code bad =
+    let fault = c.in_err-placed.field-0.0 in
+    let p = err_from_is_err_and c.from_residual.result c.from_residual.ensures.1 in
+    let still = bad_stays c.args.self.now c.reads.self c.args.source.now c.reads.source offset code c.reads.invariant.left_alone bad in
+    let again = refused_again c.reads.self c.next_decided.new.self offset code (Err fault) still c.in_err-placed.ensures.decides (λ other. cc) c.in_err-placed.ensures.memory in
+    cc (p.1, p.2, again)
+
+pub returns-in_err-placed-clause-stuck : goal.returns-in_err-placed-clause-stuck
+returns-in_err-placed-clause-stuck g c offset code same =
     let left = g.S.Source.left in
     let log = g.S.Source.log in
-    let e = sym c.in_ok-judge.ensures.ok ∙ c.in-Finish.is in
-    rw c.judge.ensures.same (reads_none c.args.self.now c.pieces.self (left c.args.source.now) (left c.pieces.source) (log c.args.source.now) (log c.pieces.source) c.pieces.invariant.behind c.pieces.invariant.asked e)
+    let fault = c.in_err-placed.field-0.0 in
+    let p = err_from_is_err_and c.from_residual.result c.from_residual.ensures.1 in
+    let e : fault ≡ faults.Bad offset code = cc (p.1, p.2, same) in
+    let decides = rw e at c.in_err-placed.ensures.decides in
+    (decides.answers c.next_decided.new.self.ended [] (λ over. (refl, over))).1
 
-pub returns-in-TooLong-clause-reads : goal.returns-in-TooLong-clause-reads
-returns-in-TooLong-clause-reads g c =
-    let left = g.S.Source.left in
-    let log = g.S.Source.log in
-    let e = sym c.in_ok-judge.ensures.ok ∙ c.in-TooLong.is in
-    rw (c.limit-offset.ensures, c.code.ensures, c.judge.ensures.same) (reads_long c.args.self.now c.pieces.self (left c.args.source.now) (left c.pieces.source) (log c.args.source.now) (log c.pieces.source) c.pieces.invariant.behind c.pieces.invariant.asked e)
-
-pub place-offset-requires-in-Fault : goal.place-offset-requires-in-Fault
-place-offset-requires-in-Fault g c =
-    let e = sym c.in_ok-judge.ensures.ok ∙ c.in-Fault.is in
-    rw c.judge.ensures.same (fault_within c.pieces.self c.in-Fault.skip c.in-Fault.refusal e c.judge.ensures.place)
-
-pub returns-in-Fault-clause-reads : goal.returns-in-Fault-clause-reads
-returns-in-Fault-clause-reads g c =
-    let left = g.S.Source.left in
-    let log = g.S.Source.log in
-    let e = sym c.in_ok-judge.ensures.ok ∙ c.in-Fault.is in
-    rw (c.place-offset-in-Fault.ensures, c.code-in-Fault.ensures, c.judge.ensures.same) (reads_fault c.args.self.now c.pieces.self (left c.args.source.now) (left c.pieces.source) (log c.args.source.now) (log c.pieces.source) c.in-Fault.skip c.in-Fault.refusal c.pieces.invariant.behind c.pieces.invariant.asked e)
-
--- what was refused at first
-
-pub returns-in_err-judge-clause-again : goal.returns-in_err-judge-clause-again
-returns-in_err-judge-clause-again g c offset code bad =
-    let so_far = told c.args.self.now c.pieces.self c.args.source.now c.pieces.source offset code c.pieces.invariant.left_alone bad in
-    absurd (found_no_fault c.pieces.self offset code c.in_err-judge.ensures.err so_far)
-
-pub returns-in-Err-clause-again : goal.returns-in-Err-clause-again
-returns-in-Err-clause-again g c offset code bad =
-    let e = sym c.in_ok-judge.ensures.ok ∙ c.in-Undecided.is in
-    let so_far : decided_items_now c.pieces.self ≡ Bad offset code = told c.args.self.now c.pieces.self c.args.source.now c.pieces.source offset code c.pieces.invariant.left_alone bad in
-    let unknown : decided_items_now c.pieces.self ≡ Unknown = undecided_now c.pieces.self e in
+pub returns-in-Event-clause-again : goal.returns-in-Event-clause-again
+returns-in-Event-clause-again g c offset code bad =
+    let still = bad_stays c.args.self.now c.reads.self c.args.source.now c.reads.source offset code c.reads.invariant.left_alone bad in
+    let decides = rw c.in-Event.is at c.in_ok-placed.ensures.decides in
+    let again = refused_again c.reads.self c.next_decided.new.self offset code (Ok (next.Event c.in-Event.placed)) still decides (λ other. cc) (λ other. cc) in
     cc
 
-pub returns-in-Found-clause-again : goal.returns-in-Found-clause-again
-returns-in-Found-clause-again g c offset code bad =
-    let e = sym c.in_ok-judge.ensures.ok ∙ c.in-Found.is in
-    let so_far : decided_items_now c.pieces.self ≡ Bad offset code = told c.args.self.now c.pieces.self c.args.source.now c.pieces.source offset code c.pieces.invariant.left_alone bad in
-    let event = found_now c.pieces.self c.in-Found.used c.in-Found.event e in
+pub returns-in-End-clause-again : goal.returns-in-End-clause-again
+returns-in-End-clause-again g c offset code bad =
+    let still = bad_stays c.args.self.now c.reads.self c.args.source.now c.reads.source offset code c.reads.invariant.left_alone bad in
+    let decides = rw c.in-End.is at c.in_ok-placed.ensures.decides in
+    let again = refused_again c.reads.self c.next_decided.new.self offset code (Ok next.End) still decides (λ other. cc) (λ other. cc) in
     cc
 
-pub returns-in-Finish-clause-again : goal.returns-in-Finish-clause-again
-returns-in-Finish-clause-again g c offset code bad =
-    let e = sym c.in_ok-judge.ensures.ok ∙ c.in-Finish.is in
-    let so_far : decided_items_now c.pieces.self ≡ Bad offset code = told c.args.self.now c.pieces.self c.args.source.now c.pieces.source offset code c.pieces.invariant.left_alone bad in
-    let done = finish_now c.pieces.self e in
-    cc
+-- ---- a read
 
-pub returns-in-TooLong-clause-again : goal.returns-in-TooLong-clause-again
-returns-in-TooLong-clause-again g c offset code bad =
-    let e = sym c.in_ok-judge.ensures.ok ∙ c.in-TooLong.is in
-    let so_far : decided_items_now c.pieces.self ≡ Bad offset code = told c.args.self.now c.pieces.self c.args.source.now c.pieces.source offset code c.pieces.invariant.left_alone bad in
-    let long = long_now c.pieces.self e in
-    rw (c.limit-offset.ensures, c.code.ensures, c.judge.ensures.same) (cc)
-
-pub returns-in-Fault-clause-again : goal.returns-in-Fault-clause-again
-returns-in-Fault-clause-again g c offset code bad =
-    let e = sym c.in_ok-judge.ensures.ok ∙ c.in-Fault.is in
-    let so_far : decided_items_now c.pieces.self ≡ Bad offset code = told c.args.self.now c.pieces.self c.args.source.now c.pieces.source offset code c.pieces.invariant.left_alone bad in
-    let fault = fault_now c.pieces.self c.in-Fault.skip c.in-Fault.refusal e in
-    rw (c.place-offset-in-Fault.ensures, c.code-in-Fault.ensures, c.judge.ensures.same) (cc)
-
-pub returns-in-TooLong-clause-stuck : goal.returns-in-TooLong-clause-stuck
-returns-in-TooLong-clause-stuck g c offset code same =
-    let e = sym c.in_ok-judge.ensures.ok ∙ c.in-TooLong.is in
-    let long = long_now c.pieces.self e in
-    let answer = rw (c.limit-offset.ensures, c.code.ensures, c.judge.ensures.same) at same in
-    rw c.judge.ensures.same (cc)
-
-pub returns-in-Fault-clause-stuck : goal.returns-in-Fault-clause-stuck
-returns-in-Fault-clause-stuck g c offset code same =
-    let e = sym c.in_ok-judge.ensures.ok ∙ c.in-Fault.is in
-    let fault = fault_now c.pieces.self c.in-Fault.skip c.in-Fault.refusal e in
-    let answer = rw (c.place-offset-in-Fault.ensures, c.code-in-Fault.ensures, c.judge.ensures.same) at same in
-    rw c.judge.ensures.same (cc)
-
--- where the source was left_alone
-
-pub returns-in-Err-clause-ended : goal.returns-in-Err-clause-ended
-returns-in-Err-clause-ended g c =
-    let e = sym c.in_ok-judge.ensures.ok ∙ c.in-Undecided.is in
-    let going = (undecided_items c.pieces.self e).0 in
-    rw (c.in-Err.ensures.err, c.judge.ensures.same, going) (λ over. absurd (false≢true over))
-
-pub returns-in-Err-clause-undecided : goal.returns-in-Err-clause-undecided
-returns-in-Err-clause-undecided g c failed =
-    let e = sym c.in_ok-judge.ensures.ok ∙ c.in-Undecided.is in
-    rw (c.in-Err.ensures.err, c.judge.ensures.same) ((undecided_items c.pieces.self e).0, undecided_now c.pieces.self e)
-
-pub returns-in-Err-clause-unasked : goal.returns-in-Err-clause-unasked
-returns-in-Err-clause-unasked g c known =
-    let e = sym c.in_ok-judge.ensures.ok ∙ c.in-Undecided.is in
-    let left = g.S.Source.left in
-    ((alone_fill c.args.self.now c.pieces.self c.fill.new.self (left c.args.source.now) (left c.pieces.source) c.args.source.now c.pieces.source c.fill.new.source c.pieces.invariant.behind c.pieces.invariant.left_alone e).same known).0
-
-pub returns-in-Err-clause-over : goal.returns-in-Err-clause-over
-returns-in-Err-clause-over g c ended =
-    let e = sym c.in_ok-judge.ensures.ok ∙ c.in-Undecided.is in
-    let left = g.S.Source.left in
-    (alone_fill c.args.self.now c.pieces.self c.fill.new.self (left c.args.source.now) (left c.pieces.source) c.args.source.now c.pieces.source c.fill.new.source c.pieces.invariant.behind c.pieces.invariant.left_alone e).over ended
-
--- the other clauses
-
-pub returns-in-Found-clause-moves : goal.returns-in-Found-clause-moves
-returns-in-Found-clause-moves g c =
-    let e = sym c.in_ok-judge.ensures.ok ∙ c.in-Found.is in
-    let passes = found_passes c.pieces.self c.in-Found.used c.in-Found.event e in
-    let some = passes.0 in
-    let within = passes.2 c.judge.ensures.place in
-    let place = c.pieces.invariant.behind.place in
-    rw (c.advance-in-Found.ensures, c.judge.ensures.same) (λ event. (omega arith, within))
-
-pub returns-in-Finish-clause-none : goal.returns-in-Finish-clause-none
-returns-in-Finish-clause-none g c none =
-    let e = sym c.in_ok-judge.ensures.ok ∙ c.in-Finish.is in
-    rw c.judge.ensures.same (finish_ended c.pieces.self e)
-
-pub pieces-smaller-in-Ok : goal.pieces-smaller-in-Ok
-pieces-smaller-in-Ok g c =
+pub reads-preserved : goal.reads-preserved
+reads-preserved g c =
     let left = g.S.Source.left in
     let log = g.S.Source.log in
-    let e = sym c.in_ok-judge.ensures.ok ∙ c.in-Undecided.is in
-    let grows = rw c.judge.ensures.same at c.in-Ok.ensures.ok in
-    work_fill c.pieces.self c.fill.new.self (left c.pieces.source) (left c.fill.new.source) (log c.pieces.source) (log c.fill.new.source) c.judge.ensures.place e grows
-
-pub pieces-preserved-in-Ok : goal.pieces-preserved-in-Ok
-pieces-preserved-in-Ok g c =
-    let left = g.S.Source.left in
-    let log = g.S.Source.log in
-    let e = sym c.in_ok-judge.ensures.ok ∙ c.in-Undecided.is in
-    let so_far = c.pieces.invariant in
-    let grows = rw c.judge.ensures.same at c.in-Ok.ensures.ok in
+    let so_far = c.reads.invariant in
+    let decides = rw c.in-Undecided.is at c.in_ok-placed.ensures.decides in
+    let (going, unknown) = c.in_ok-placed.ensures.undecided (ap Ok c.in-Undecided.is) in
+    let fills = c.in_ok-fill-in-Undecided.ensures.ok in
     record {
-      behind = behind_fill c.args.self.now c.pieces.self c.fill.new.self (left c.args.source.now) (left c.pieces.source) (left c.fill.new.source) (log c.pieces.source) (log c.fill.new.source) so_far.behind (undecided_items c.pieces.self e).0 grows;
-      left_alone = alone_fill c.args.self.now c.pieces.self c.fill.new.self (left c.args.source.now) (left c.pieces.source) c.args.source.now c.pieces.source c.fill.new.source so_far.behind so_far.left_alone e;
-      asked = asks_fill c.args.self.now c.pieces.self c.fill.new.self (left c.args.source.now) (left c.pieces.source) (left c.fill.new.source) (log c.args.source.now) (log c.pieces.source) (log c.fill.new.source) so_far.behind e grows so_far.asked;
-      ended = λ over. (grows.ended over).1;
-      later = omega (arith, so_far.later, c.in-Ok.ensures.later);
+      so_far = so_far_more c.args.self.now c.reads.self c.next_decided.new.self c.fill.new.self (left c.args.source.now) (left c.reads.source) (left c.fill.new.source) (log c.reads.source) (log c.fill.new.source) so_far.so_far decides going fills;
+      left_alone = alone_more c.args.self.now c.reads.self c.next_decided.new.self c.fill.new.self (left c.args.source.now) (left c.reads.source) c.args.source.now c.reads.source c.fill.new.source so_far.so_far so_far.left_alone decides going unknown;
+      asked = asks_more c.args.self.now c.reads.self c.next_decided.new.self c.fill.new.self (left c.args.source.now) (left c.reads.source) (left c.fill.new.source) (log c.args.source.now) (log c.reads.source) (log c.fill.new.source) so_far.so_far decides going unknown fills so_far.asked;
+      ended = λ over. (fills.ended over).1;
+      later = omega (arith, so_far.later, c.in_ok-fill-in-Undecided.ensures.later);
     }
+
+pub returns-in_err-fill-in-Undecided-clause-reads : goal.returns-in_err-fill-in-Undecided-clause-reads
+returns-in_err-fill-in-Undecided-clause-reads g c =
+    let left = g.S.Source.left in
+    let log = g.S.Source.log in
+    let fault = c.in_err-fill-in-Undecided.field-0.0 in
+    let p = err_from_is_err_and c.from_residual-in_err-fill-in-Undecided.result c.from_residual-in_err-fill-in-Undecided.ensures.1 in
+    let decides = rw c.in-Undecided.is at c.in_ok-placed.ensures.decides in
+    let (going, unknown) = c.in_ok-placed.ensures.undecided (ap Ok c.in-Undecided.is) in
+    rw (p.1, p.2, c.in_err-fill-in-Undecided.ensures.err) (reads_fault c.args.self.now c.reads.self c.next_decided.new.self (left c.args.source.now) (left c.reads.source) (left c.fill.new.source)
+    (log c.args.source.now) (log c.reads.source) (log c.fill.new.source) fault c.reads.invariant.so_far c.reads.invariant.asked decides going unknown c.in_err-fill-in-Undecided.ensures.kept c.in_err-fill-in-Undecided.ensures.log)
+
+pub returns-in_err-fill-in-Undecided-clause-unasked : goal.returns-in_err-fill-in-Undecided-clause-unasked
+returns-in_err-fill-in-Undecided-clause-unasked g c known =
+    let left = g.S.Source.left in
+    let decides = rw c.in-Undecided.is at c.in_ok-placed.ensures.decides in
+    let (going, unknown) = c.in_ok-placed.ensures.undecided (ap Ok c.in-Undecided.is) in
+    ((alone_more c.args.self.now c.reads.self c.next_decided.new.self c.fill.new.self (left c.args.source.now) (left c.reads.source) c.args.source.now c.reads.source c.fill.new.source c.reads.invariant.so_far c.reads.invariant.left_alone decides going unknown).same known).0
+
+pub returns-in_err-fill-in-Undecided-clause-again : goal.returns-in_err-fill-in-Undecided-clause-again
+returns-in_err-fill-in-Undecided-clause-again g c offset code bad =
+    let still = bad_stays c.args.self.now c.reads.self c.args.source.now c.reads.source offset code c.reads.invariant.left_alone bad in
+    let decides = rw c.in-Undecided.is at c.in_ok-placed.ensures.decides in
+    let unknown = (c.in_ok-placed.ensures.undecided (ap Ok c.in-Undecided.is)).1 in
+    let same = decided_same c.reads.self c.next_decided.new.self decides in
+    cc
