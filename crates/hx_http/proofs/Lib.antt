@@ -1,5 +1,7 @@
-pub mod Finds
-pub mod Places
-pub mod Room
-pub mod ReadBack
-pub mod Laws
+pub mod CutLemmas
+pub mod MarkLemmas
+pub mod SpanLemmas
+pub mod RoomLemmas
+pub mod ReadBackLemmas
+pub mod HeadLemmas
+pub mod TargetLemmas

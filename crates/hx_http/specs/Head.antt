@@ -1,18 +1,18 @@
--- The head at the front of a text: as a relation to the grammar, and as the function that it is.
+-- The head that a text begins with: as a relation to the grammar, and as the function that it is.
 use Rattle.std.specs.Prelude.{◌≡◌, ℕ, ◌<◌, ◌≤◌, Bool, ◌&&◌, List, length, take, drop, nat_lt, nat_le, if◌then◌else◌}
 use Rattle.std.specs.List.{list_all}
 use Rattle.std.specs.Str.{bytes_eq, is_utf8}
 use Rattle.httparse.specs.Grammar.{RequestHead, Field, ReadsRequest, HasNoRequest, print_request, is_token, is_uri_byte, is_value_byte}
 use Rattle.hx_http.specs.Parts.{Parts, parts}
-use Rattle.hx_http.specs.Lines.{read_as_head}
+use Rattle.hx_http.specs.Lines.{possible_head}
 
 -- The most header lines that a message may have, the request line not counted. HAProxy's default
 -- for `tune.http.maxhdr` is the same number (configuration manual 2.4, section 3.2).
 abbrev pub header_limit : ℕ
 header_limit = 101
 
--- What stands at the front of a text: a head within the limit, which has these parts and this
--- length; a head with more header lines; or no head.
+-- What a text begins with: a head within the limit, which has these parts and this length; a head
+-- with more header lines; or no head.
 pub data Head : Type 0 where
   message : Parts → ℕ → Head
   many none : Head
@@ -25,8 +25,14 @@ abbrev pub IsHead : List ℕ → Head → Type 0
 IsHead bytes (message m n) =
     (h : RequestHead) × ReadsRequest bytes h (drop n bytes) × (n ≡ length (print_request h))
     × (length h.fields ≤ header_limit) × (m ≡ parts h)
-IsHead bytes many = (h : RequestHead) × (rest : List ℕ) × ReadsRequest bytes h rest × (header_limit < length h.fields)
+IsHead bytes many =
+    (h : RequestHead) × (rest : List ℕ) × ReadsRequest bytes h rest
+    × (header_limit < length h.fields)
 IsHead bytes none = HasNoRequest bytes
+
+-- The text begins with a head, whatever the number of its header lines.
+abbrev pub HasHead : List ℕ → Type 0
+HasHead bytes = (h : RequestHead) × (rest : List ℕ) × ReadsRequest bytes h rest
 
 -- Whether the name is a token, and the value has no control byte but the tab (RFC 9112, section 5).
 abbrev pub is_field : Field → Bool
@@ -41,20 +47,23 @@ is_request_head h =
     && nat_le h.minor 1
     && list_all is_field h.fields
 
--- Whether the parts are a head that begins the bytes when it is printed.
-abbrev pub begins : List ℕ → RequestHead → Bool
-begins bytes h = is_request_head h && bytes_eq (take (length (print_request h)) bytes) (print_request h)
+-- Whether the parts are of their kinds, and the bytes begin with the head when it is printed.
+abbrev pub begins_with_head : List ℕ → RequestHead → Bool
+begins_with_head bytes h =
+    is_request_head h && bytes_eq (take (length (print_request h)) bytes) (print_request h)
 
--- The answer for such parts, which are the only ones that can be the head of the bytes.
-abbrev pub judged : List ℕ → RequestHead → Head
-judged bytes h =
-    if begins bytes h then (if nat_le (length h.fields) header_limit then message (parts h) (length (print_request h)) else many)
-    else none
+-- What the bytes begin with, where no other parts can be those of a head.
+abbrev pub head_by_parts : List ℕ → RequestHead → Head
+head_by_parts bytes h =
+    if begins_with_head bytes h then (
+    if nat_le (length h.fields) header_limit then message (parts h) (length (print_request h))
+    else many
+    ) else none
 
--- The function: what stands at the front of the bytes. `IsHead bytes (head_of bytes)` holds, and
--- `IsHead bytes head` holds for no other head.
+-- The function: what the bytes begin with. `IsHead bytes (head_of bytes)` holds, and `IsHead bytes
+-- head` holds for no other head.
 unfoldable pub head_of : List ℕ → Head
-head_of bytes = judged bytes (read_as_head bytes)
+head_of bytes = head_by_parts bytes (possible_head bytes)
 
 -- The two laws by which a function gives the answers of the relation: what it gives is a head of
 -- the bytes, and nothing else is.

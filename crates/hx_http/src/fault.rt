@@ -2,16 +2,16 @@ use hx_text::NoMemory;
 use std::alloc::AllocError;
 use thiserror::Error;
 
-/// Why no message was read.
+/// Why a request's bytes gave no message.
 #[derive(Clone, Copy, Debug, PartialEq, Eq, Error)]
 pub enum HeadFault {
-    /// No prefix of the bytes is the head of a request.
+    /// The bytes do not begin with the head of a request.
     #[error("not the head of a request")]
     NotAHead,
-    /// The head that begins the bytes has more than 101 header lines.
+    /// The bytes begin with a head, and it has more header lines than the limit of 101.
     #[error("more than 101 header lines")]
     TooManyHeaders,
-    /// Memory ran out.
+    /// An allocation was refused.
     #[error("out of memory")]
     NoMemory,
 }

@@ -1,22 +1,19 @@
-ghost use Rattle.std.specs.Prelude.{◌≡◌, ℕ, List, ◌≤◌, ◌↔◌, length, IfOk, IsErrOf, IsTrue};
-ghost use Rattle.httparse.specs.Grammar.{RequestHead, ReadsRequest};
-ghost use Rattle.hx_http.specs.Head.{message, many, none, header_limit, IsHead, head_of, GivesHeads, GivesOnlyHeads};
+ghost use Rattle.std.specs.Prelude.{◌≡◌, ◌≤◌, length, IfOk, IsErrOf};
+ghost use Rattle.hx_http.specs.Head.{message, many, none, header_limit, head_of};
 
 use crate::fault::HeadFault;
 use crate::message::Message;
-use httparse::spans::{EMPTY_HEADER_SPAN, parse_request};
-use httparse::{Error, Status};
-use std::alloc::{AllocError, Global};
+use crate::spans::read_spans;
+use hx_text::Octets;
+use std::alloc::Global;
 
-/// The most header lines that a message may have.
-const MAX_HEADERS: usize = 101;
-
-/// Reads the head of a request at the front of `bytes`: the message, and the length of the head.
-/// What follows the head is not looked at.
+/// Reads the head of a request that `bytes` begin with (RFC 9112, sections 2.2, 3 and 5): the
+/// message, and the length of the head in bytes. The message owns a copy of the head. What follows
+/// the head, as the request's body, changes nothing.
 ///
-/// `NotAHead` is answered exactly where no prefix of `bytes` is a head, with any number of header
-/// lines, and `TooManyHeaders` exactly where the head that begins `bytes` has more than 101. Either
-/// way the answer may be `NoMemory` instead, where memory runs out.
+/// `NotAHead` where `bytes` begin with no head, whatever the number of its header lines, and
+/// `TooManyHeaders` where they begin with one of more than 101 header lines. In place of any answer
+/// there may be `NoMemory`.
 pub fn read_head(alloc: Global, bytes: &[u8]) -> Result<(Message, usize), HeadFault>
     ensures found { IfOk result (λ read. head_of bytes.now ≡ message read.0 read.1) }
     ensures not_a_head { IsErrOf result HeadFault.NotAHead → head_of bytes.now ≡ none }
@@ -26,52 +23,22 @@ pub fn read_head(alloc: Global, bytes: &[u8]) -> Result<(Message, usize), HeadFa
     ensures within { IfOk result (λ read. read.1 ≤ length bytes.now) }
     ensures few { IfOk result (λ read. length read.0.headers ≤ header_limit) }
 {
-    read_by_grammar(alloc, bytes)
+    let spans = read_spans(alloc, bytes)?;
+    let len = spans.head.len;
+    let head = Octets::copy(alloc, &bytes[..len])?;
+    Ok((Message::new(head, spans), len))
 }
 
-/// `head_of` is the grammar's own answer: what it gives stands in the relation to the bytes, and
-/// nothing else does.
-pub fn one_head()
-    ensures is { GivesHeads head_of }
-    ensures only { GivesOnlyHeads head_of }
-{}
-
-fn read_by_grammar(alloc: Global, bytes: &[u8]) -> Result<(Message, usize), HeadFault>
-    ensures found { IfOk result (λ read. IsHead bytes.now (message read.0 read.1)) }
-    ensures not_a_head { IsErrOf result HeadFault.NotAHead → IsHead bytes.now none }
-    ensures too_many { IsErrOf result HeadFault.TooManyHeaders → IsHead bytes.now many }
-    ensures within { IfOk result (λ read. read.1 ≤ length bytes.now) }
+/// Reads the head of a request as `read_head` does, and takes `bytes` over: the message keeps all
+/// of them, what follows the head too, and copies none. After a fault they are gone.
+pub fn read_head_in(alloc: Global, bytes: Octets) -> Result<(Message, usize), HeadFault>
+    ensures found { IfOk result (λ read. head_of bytes ≡ message read.0 read.1) }
+    ensures not_a_head { IsErrOf result HeadFault.NotAHead → head_of bytes ≡ none }
+    ensures too_many { IsErrOf result HeadFault.TooManyHeaders → head_of bytes ≡ many }
+    ensures within { IfOk result (λ read. read.1 ≤ length bytes) }
     ensures few { IfOk result (λ read. length read.0.headers ≤ header_limit) }
 {
-    let mut slots = [EMPTY_HEADER_SPAN; MAX_HEADERS];
-    match parse_request(bytes, &mut slots) {
-        Ok(Status::Complete(head)) => {
-            let len = head.len;
-            let message = Message::keep(alloc, bytes, head, &slots)?;
-            Ok((message, len))
-        }
-        Ok(Status::Partial) => Err(HeadFault::NotAHead),
-        Err(Error::TooManyHeaders) => {
-            if has_head(alloc, bytes)? {
-                Err(HeadFault::TooManyHeaders)
-            } else {
-                Err(HeadFault::NotAHead)
-            }
-        }
-        Err(_) => Err(HeadFault::NotAHead),
-    }
-}
-
-/// Whether a head stands at the front, however many header lines it has. A header line has three
-/// bytes at least, so there are slots for all.
-fn has_head(alloc: Global, bytes: &[u8]) -> Result<bool, AllocError>
-    ensures { IfOk result (λ found. IsTrue found ↔ ((h : RequestHead) × (rest : List ℕ) × ReadsRequest bytes.now h rest)) }
-{
-    let mut slots = vec![in alloc; EMPTY_HEADER_SPAN; bytes.len() / 3]?;
-    match parse_request(bytes, &mut slots) {
-        Ok(Status::Complete(_)) => Ok(true),
-        Ok(Status::Partial) => Ok(false),
-        Err(Error::TooManyHeaders) => Ok(false),
-        Err(_) => Ok(false),
-    }
+    let spans = read_spans(alloc, bytes.as_slice())?;
+    let len = spans.head.len;
+    Ok((Message::new(bytes, spans), len))
 }

@@ -1,70 +1,54 @@
-ghost use Rattle.std.specs.Prelude.{◌≡◌, ◌≤◌, ◌↔◌, length, take, slice_get, IfOk, IfSome, IsNone};
+ghost use Rattle.std.specs.Prelude.{◌≡◌, ◌≤◌, ◌↔◌, length, slice_get, IfSome, IsNone};
 ghost use Rattle.std.specs.Option.{option_copied};
-ghost use Rattle.httparse.specs.Spans.{IsRequestWithin};
-ghost use Rattle.hx_http.specs.Parts.{parts_at};
+ghost use Rattle.hx_http.specs.Spans.{parts_at, AreWithin};
 ghost use Rattle.hx_http.specs.Target.{path_of, query_of};
 
-use crate::target;
-use httparse::spans::{HeaderSpan, RequestSpans, Span};
-use hx_text::{NoMemory, Octets};
-use std::alloc::Global;
+use crate::spans::HeadSpans;
+use crate::target::{path_in, query_in};
+use hx_text::Octets;
 use std::marker::Model;
 
 /// The head of a request. Contracts see its parts: method, target, minor number of the version,
-/// and header lines.
-///
-/// It owns one copy of the bytes of the head, and keeps where in them each part lies.
+/// and header lines. Each part is lent from the bytes that the message owns.
 #[derive(Debug, Drop)]
 pub struct Message {
     bytes: Octets,
-    method: Span,
-    target: Span,
-    minor: u8,
-    headers: Vec<HeaderSpan>,
+    spans: HeadSpans,
 }
 
 impl Model for Message {
-    ghost use Rattle.hx_http.specs.Parts.{Parts, parts_at, ArePlaces};
+    ghost use Rattle.std.specs.Prelude.{length};
+    ghost use Rattle.hx_http.specs.Parts.{Parts};
+    ghost use Rattle.hx_http.specs.Spans.{parts_at, AreWithin};
 
     ghost Value = { Parts };
 
-    ghost view = { λ m. parts_at m.bytes m.method m.target m.minor m.headers.items };
+    ghost view = { λ m. parts_at m.bytes m.spans };
 
-    ghost invariant = { λ m. ArePlaces m.bytes m.method m.target m.minor m.headers.items };
+    ghost invariant = { λ m. AreWithin (length m.bytes) m.spans };
 }
 
 impl Message {
-    /// The message whose parts lie in `bytes` where `head` and the first `slots` say.
-    pub(crate) fn keep(
-        alloc: Global,
-        bytes: &[u8],
-        head: RequestSpans,
-        slots: &[HeaderSpan],
-    ) -> Result<Message, NoMemory>
-        requires { IsRequestWithin bytes.now slots.now head }
-        ensures { IfOk result (λ m. m ≡ parts_at bytes.now head.method head.path head.version (take head.headers slots.now)) }
+    /// The message whose parts lie at these spans of `bytes`.
+    pub(crate) fn new(bytes: Octets, spans: HeadSpans) -> Message
+        requires { AreWithin (length bytes) spans }
+        ensures { result ≡ parts_at bytes spans }
     {
-        Ok(Message {
-            bytes: Octets::copy(alloc, &bytes[..head.len])?,
-            method: head.method,
-            target: head.path,
-            minor: head.version,
-            headers: Vec::from_slice(alloc, &slots[..head.headers])?,
-        })
+        Message { bytes, spans }
     }
 
-    /// The method, such as `GET`.
+    /// The method, such as `GET` (RFC 9110, section 9).
     pub fn method(&self) -> &[u8]
         ensures { result.now ≡ self.now.method }
     {
-        self.method.of(self.bytes.as_slice())
+        self.spans.head.method.of(self.bytes.as_slice())
     }
 
-    /// The target as the request line has it.
+    /// The target as the request line has it (RFC 9112, section 3.2).
     pub fn target(&self) -> &[u8]
         ensures { result.now ≡ self.now.target }
     {
-        self.target.of(self.bytes.as_slice())
+        self.spans.head.path.of(self.bytes.as_slice())
     }
 
     /// The minor number of the version: 0 for `HTTP/1.0`, and 1 for `HTTP/1.1`.
@@ -72,41 +56,44 @@ impl Message {
         ensures value { result ≡ self.now.minor }
         ensures known { result ≤ 1 }
     {
-        self.minor
+        self.spans.head.version
     }
 
-    /// How many header lines there are.
+    /// How many header lines there are: 101 at most.
     pub fn len(&self) -> usize
         ensures { result ≡ length self.now.headers }
     {
-        self.headers.len()
+        self.spans.lines.len()
     }
 
     /// The name and the value of the header line at position `i`, counted from 0, and `None` where
-    /// there are no more than `i` lines.
+    /// there are no more than `i` lines. The name is as the line writes it, and the value has no
+    /// spaces and tabs at its ends (RFC 9112, section 5).
     pub fn header(&self, i: usize) -> Option<(&[u8], &[u8])>
-        ensures line { IfSome result (λ line. slice_get self.now.headers i ≡ Some (line.0.now, line.1.now)) }
+        ensures line { IfSome result (λ line.
+            slice_get self.now.headers i ≡ Some (line.0.now, line.1.now)) }
         ensures past { IsNone result ↔ (length self.now.headers ≤ i) }
     {
         let bytes = self.bytes.as_slice();
-        match self.headers.get(i) {
+        match self.spans.lines.get(i) {
             Some(line) => Some((line.name.of(bytes), line.value.of(bytes))),
             None => None,
         }
     }
 
     /// The path of the target, without the query. `None` where the target has no path, as `*` and
-    /// `http://host`.
+    /// `http://host` (RFC 9112, section 3.2).
     pub fn path(&self) -> Option<&[u8]>
         ensures { option_copied result ≡ path_of self.now.target }
     {
-        target::path_in(self.target())
+        path_in(self.target())
     }
 
-    /// What follows the first `?` of the target, and `None` without one.
+    /// The query of the target, which follows its first `?`, and `None` without one (RFC 3986,
+    /// section 3.4).
     pub fn query(&self) -> Option<&[u8]>
         ensures { option_copied result ≡ query_of self.now.target }
     {
-        target::query_in(self.target())
+        query_in(self.target())
     }
 }

@@ -1,16 +1,16 @@
 ghost use Rattle.std.specs.Prelude.{◌≡◌};
 ghost use Rattle.std.specs.Option.{option_copied};
-ghost use Rattle.std.specs.List.{before_first};
-ghost use Rattle.hx_http.specs.Target.{is_question_mark, query_of, from_slash, path_before_query, path_of};
+ghost use Rattle.hx_http.specs.Target.{before_query, query_of, from_slash, path_before_query, path_of};
 
-use memchr::{memchr, memmem};
+use hx_text::cut_at;
+use memchr::memmem;
 
-/// The query of a target: what follows the first `?`, and `None` without one.
+/// The query of a target.
 pub fn query_in(target: &[u8]) -> Option<&[u8]>
     ensures { option_copied result ≡ query_of target.now }
 {
-    match memchr(b'?', target) {
-        Some(at) => Some(&target[at + 1..]),
+    match cut_at(b'?', target) {
+        Some((_, query)) => Some(query),
         None => None,
     }
 }
@@ -19,35 +19,40 @@ pub fn query_in(target: &[u8]) -> Option<&[u8]>
 pub fn path_in(target: &[u8]) -> Option<&[u8]>
     ensures { option_copied result ≡ path_of target.now }
 {
-    path_before(before_query(target))
+    path_in_part(before_query(target))
 }
 
 fn before_query(target: &[u8]) -> &[u8]
-    ensures { result.now ≡ before_first is_question_mark target.now }
+    ensures { result.now ≡ before_query target.now }
 {
-    match memchr(b'?', target) {
-        Some(at) => &target[..at],
+    match cut_at(b'?', target) {
+        Some((before, _)) => before,
         None => target,
     }
 }
 
-fn path_before(front: &[u8]) -> Option<&[u8]>
-    ensures { option_copied result ≡ path_before_query front.now }
+/// The path in what stands before the query.
+fn path_in_part(text: &[u8]) -> Option<&[u8]>
+    ensures { option_copied result ≡ path_before_query text.now }
 {
-    if front.starts_with(b"/") {
-        return Some(front);
+    if text.starts_with(b"/") {
+        return Some(text);
     }
-    match memmem::find(front, b"://") {
-        Some(at) => path_after(&front[at + 3..]),
+    match memmem::find(text, b"://") {
+        Some(at) => from_slash(&text[at + 3..]),
         None => None,
     }
 }
 
-fn path_after(text: &[u8]) -> Option<&[u8]>
+/// The text from its first `/` on.
+fn from_slash(text: &[u8]) -> Option<&[u8]>
     ensures { option_copied result ≡ from_slash text.now }
 {
-    match memchr(b'/', text) {
-        Some(at) => Some(&text[at..]),
+    match cut_at(b'/', text) {
+        Some((before, _)) => {
+            let (_, from_slash) = text.split_at(before.len());
+            Some(from_slash)
+        }
         None => None,
     }
 }

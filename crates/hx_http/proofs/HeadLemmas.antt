@@ -10,9 +10,9 @@ use Rattle.std.specs.List.{All, list_all}
 use Rattle.httparse.specs.Grammar.{Field, IsField, IsToken, is_token, is_token_byte, is_uri_byte, is_value_byte, RequestHead, IsRequestHead, ReadsRequest, print_request}
 use Rattle.httparse.proofs.GrammarLemmas.{request_unique}
 use Rattle.hx_http.specs.Parts.{parts}
-use Rattle.hx_http.specs.Lines.{read_as_head}
-use Rattle.hx_http.specs.Head.{Head, message, many, none, header_limit, IsHead, is_field, is_request_head, begins, judged, head_of, GivesHeads, GivesOnlyHeads}
-use Rattle.hx_http.proofs.ReadBack.{read_back}
+use Rattle.hx_http.specs.Lines.{possible_head}
+use Rattle.hx_http.specs.Head.{Head, message, many, none, header_limit, IsHead, is_field, is_request_head, begins_with_head, head_by_parts, head_of, GivesHeads, GivesOnlyHeads}
+use Rattle.hx_http.proofs.ReadBackLemmas.{read_back}
 
 -- ---- the tests say what the grammar says
 
@@ -65,38 +65,38 @@ head_is_one h passes =
       fields = fields_are h.fields with_fields.1;
     }
 
-begins_where_reads : (bytes : List ℕ) (h : RequestHead) (rest : List ℕ) → ReadsRequest bytes h rest → begins bytes h ≡ true
+begins_where_reads : (bytes : List ℕ) (h : RequestHead) (rest : List ℕ) → ReadsRequest bytes h rest → begins_with_head bytes h ≡ true
 begins_where_reads bytes h rest reads =
     let n = length (print_request h) in
-    let front = ap (λ (xs : List ℕ). take n xs) reads.1 ∙ take_at (print_request h) rest n refl in
-    and_from (is_request_head h) _ (head_passes h reads.0) ((bytes_eq-Decides (take n bytes) (print_request h)).1 front)
+    let prefix = ap (λ (xs : List ℕ). take n xs) reads.1 ∙ take_at (print_request h) rest n refl in
+    and_from (is_request_head h) _ (head_passes h reads.0) ((bytes_eq-Decides (take n bytes) (print_request h)).1 prefix)
 
-reads_where_begins : (bytes : List ℕ) (h : RequestHead) → begins bytes h ≡ true → ReadsRequest bytes h (drop (length (print_request h)) bytes)
+reads_where_begins : (bytes : List ℕ) (h : RequestHead) → begins_with_head bytes h ≡ true → ReadsRequest bytes h (drop (length (print_request h)) bytes)
 reads_where_begins bytes h starts =
     let n = length (print_request h) in
     let both = and_parts (is_request_head h) _ starts in
-    let front = (bytes_eq-Decides (take n bytes) (print_request h)).0 both.1 in
-    (head_is_one h both.0, sym (take-append-drop n bytes) ∙ ap (λ (xs : List ℕ). xs ++ drop n bytes) front)
+    let prefix = (bytes_eq-Decides (take n bytes) (print_request h)).0 both.1 in
+    (head_is_one h both.0, sym (take-append-drop n bytes) ∙ ap (λ (xs : List ℕ). xs ++ drop n bytes) prefix)
 
 -- ---- the laws
 
-judged_is : (bytes : List ℕ) (h : RequestHead) → ((k : RequestHead) (rest : List ℕ) → ReadsRequest bytes k rest → h ≡ k)
-    → IsHead bytes (judged bytes h)
-judged_is bytes h only =
-    cond_both (begins bytes h) _ none (IsHead bytes)
+head_by_parts_is : (bytes : List ℕ) (h : RequestHead) → ((k : RequestHead) (rest : List ℕ) → ReadsRequest bytes k rest → h ≡ k)
+    → IsHead bytes (head_by_parts bytes h)
+head_by_parts_is bytes h only =
+    cond_both (begins_with_head bytes h) _ none (IsHead bytes)
     (λ starts.
     let reads = reads_where_begins bytes h starts in
     cond_both _ (message (parts h) (length (print_request h))) many (IsHead bytes)
     (λ few. (h, reads, refl, leb-true (length h.fields) header_limit few, refl))
     (λ over. (h, _, reads, leb-false (length h.fields) header_limit over)))
     (λ no k rest reads.
-    false≢true (sym no ∙ subst (λ g. begins bytes g ≡ true) (sym (only k rest reads)) (begins_where_reads bytes k rest reads)))
+    false≢true (sym no ∙ subst (λ g. begins_with_head bytes g ≡ true) (sym (only k rest reads)) (begins_where_reads bytes k rest reads)))
 
 pub head_is : GivesHeads head_of
 unfolding head_of
 head_is bytes =
-    judged_is bytes (read_as_head bytes)
-    (λ k rest reads. ap read_as_head reads.1 ∙ read_back k rest reads.0)
+    head_by_parts_is bytes (possible_head bytes)
+    (λ k rest reads. ap possible_head reads.1 ∙ read_back k rest reads.0)
 
 one_head : (bytes : List ℕ) (a b : Head) → IsHead bytes a → IsHead bytes b → a ≡ b
 one_head bytes (message m n) (message l k) x y =

@@ -1,5 +1,5 @@
-use Rattle.hx_http.proofs.Laws.{head_is, only_head_is}
-use Rattle.hx_http.proofs.head.one_head.Goals as goal
+use Rattle.hx_http.proofs.HeadLemmas.{head_is, only_head_is}
+use Rattle.hx_http.proofs.laws.one_head.Goals as goal
 
 pub returns-clause-is : goal.returns-clause-is
 returns-clause-is c = head_is

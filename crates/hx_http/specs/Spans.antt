@@ -1,0 +1,21 @@
+-- A view of the code, for private contracts: the parts of a head by the spans at which they lie.
+use Rattle.std.specs.Prelude.{ℕ, ◌≤◌, List, map, All}
+use Rattle.httparse.specs.Spans.{span_bytes, header_bytes, IsWithin, IsHeaderWithin}
+use Rattle.hx_http.specs.Parts.{Parts}
+use Rattle.hx_http.specs.declared.spans.HeadSpans.{HeadSpans}
+
+-- The parts that lie at these spans of a text.
+abbrev pub parts_at : List ℕ → HeadSpans → Parts
+parts_at bytes spans = record {
+  method = span_bytes bytes spans.head.method;
+  target = span_bytes bytes spans.head.path;
+  minor = spans.head.version;
+  headers = map (header_bytes bytes) spans.lines.items;
+}
+
+-- Each span lies in the first `count` bytes, and the version is `HTTP/1.0` or `HTTP/1.1`.
+pub record AreWithin (count : ℕ) (spans : HeadSpans) : Type 0 where
+  pub method : IsWithin count spans.head.method
+  pub target : IsWithin count spans.head.path
+  pub version : spans.head.version ≤ 1
+  pub lines : All (IsHeaderWithin count) spans.lines.items

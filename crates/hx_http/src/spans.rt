@@ -1,0 +1,77 @@
+ghost use Rattle.std.specs.Prelude.{ℕ, ◌≡◌, ◌*◌, ◌<◌, ◌≤◌, ◌↔◌, List, length, IfOk, IfSome, OnErr, IfNone, IsErrOf, IsTrue};
+ghost use Rattle.httparse.specs.Grammar.{RequestHead, ReadsRequest};
+ghost use Rattle.hx_http.specs.Head.{message, many, none, header_limit, IsHead, HasHead};
+ghost use Rattle.hx_http.specs.Spans.{parts_at, AreWithin};
+
+use crate::fault::HeadFault;
+use httparse::spans::{EMPTY_HEADER_SPAN, HeaderSpan, RequestSpans, parse_request};
+use httparse::{Error, Status};
+use std::alloc::{AllocError, Global};
+
+/// The most header lines that a message may have.
+const MAX_HEADERS: usize = 101;
+
+/// Where in a text the parts of a head lie.
+#[derive(Debug, Drop)]
+pub(crate) struct HeadSpans {
+    pub head: RequestSpans,
+    pub lines: Vec<HeaderSpan>,
+}
+
+/// The spans of the head that `bytes` begin with. Memory is taken for the header lines alone.
+pub(crate) fn read_spans(alloc: Global, bytes: &[u8]) -> Result<HeadSpans, HeadFault>
+    ensures found { IfOk result (λ spans.
+        IsHead bytes.now (message (parts_at bytes.now spans) spans.head.len)) }
+    ensures not_a_head { IsErrOf result HeadFault.NotAHead → IsHead bytes.now none }
+    ensures too_many { IsErrOf result HeadFault.TooManyHeaders → IsHead bytes.now many }
+    ensures spans { IfOk result (λ spans. AreWithin spans.head.len spans) }
+    ensures within { IfOk result (λ spans. spans.head.len ≤ length bytes.now) }
+    ensures few { IfOk result (λ spans. length spans.lines.items ≤ header_limit) }
+{
+    let mut slots = [EMPTY_HEADER_SPAN; MAX_HEADERS];
+    match parse_request(bytes, &mut slots) {
+        Ok(Status::Complete(head)) => {
+            let lines = Vec::from_slice(alloc, &slots[..head.headers])?;
+            Ok(HeadSpans { head, lines })
+        }
+        Ok(Status::Partial) => Err(HeadFault::NotAHead),
+        Err(Error::TooManyHeaders) => {
+            if has_head(alloc, bytes)? {
+                Err(HeadFault::TooManyHeaders)
+            } else {
+                Err(HeadFault::NotAHead)
+            }
+        }
+        Err(_) => Err(HeadFault::NotAHead),
+    }
+}
+
+/// Whether `bytes` begin with a head, however many header lines it has. The slots are doubled until
+/// they are enough, so that memory is taken by the size of the head, and not of what follows it.
+fn has_head(alloc: Global, bytes: &[u8]) -> Result<bool, AllocError>
+    ensures { IfOk result (λ found. IsTrue found ↔ HasHead bytes.now) }
+{
+    let mut room = 2 * MAX_HEADERS;
+    loop {
+        if let Some(found) = has_head_within(alloc, bytes, room)? {
+            return Ok(found);
+        }
+        room = room.saturating_mul(2);
+    }
+}
+
+/// Whether `bytes` begin with a head, and `None` where that can't be told with slots for `room`
+/// header lines.
+fn has_head_within(alloc: Global, bytes: &[u8], room: usize) -> Result<Option<bool>, AllocError>
+    ensures known { IfOk result (λ answer.
+        IfSome answer (λ found. IsTrue found ↔ HasHead bytes.now)) }
+    ensures unknown { IfOk result (λ answer. IfNone answer (3 * room < length bytes.now)) }
+{
+    let mut slots = vec![in alloc; EMPTY_HEADER_SPAN; room]?;
+    match parse_request(bytes, &mut slots) {
+        Ok(Status::Complete(_)) => Ok(Some(true)),
+        Ok(Status::Partial) => Ok(Some(false)),
+        Err(Error::TooManyHeaders) => Ok(None),
+        Err(_) => Ok(Some(false)),
+    }
+}
