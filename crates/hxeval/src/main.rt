@@ -9,6 +9,7 @@ mod last_line;
 mod load;
 mod machine;
 mod replay;
+mod replay_state;
 mod rules;
 mod run;
 mod run_fault;
@@ -16,7 +17,6 @@ mod statement;
 #[cfg(test)]
 mod tests;
 mod texts;
-mod world;
 
 use crate::explain::explain;
 use crate::last_line::LastLine;
