@@ -8,3 +8,4 @@ pub mod ConnectionsLemmas
 pub mod LastLineLemmas
 pub mod ExplainLemmas
 pub mod MachineLemmas
+pub mod OutcomeLemmas

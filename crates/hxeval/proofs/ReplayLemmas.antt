@@ -1,28 +1,39 @@
 -- Laws of what a record is answered, event by event.
 use Rattle.std.proofs.Common.{◌≡◌, ℕ, ◌+◌, ◌≤◌, Bool, true, false, List, [], ◌++◌, Option, None, Some, Result, Ok, Err, unwrap_or, arith, refl, sym, ◌∙◌, ap, append_assoc, append-nil}
 use mathlib.Core.Bool.{true≢false}
-use Rattle.std.specs.Io.KnownBytes.{Appends, Consumes, IsAtEnd}
-use Rattle.std.proofs.KnownBytes.{Appends-trans, Appends-nil, Consumes-trans, Consumes-nil}
+use Rattle.std.specs.Io.KnownBytes.{Appends, Consumes, IsAtEnd, Keeps}
+use Rattle.std.proofs.KnownBytes.{Appends-trans, Appends-nil, Consumes-trans, Consumes-nil, Consumes-kept}
 use Rattle.hx_outside.specs.Prefixes.{AppendsPrefix}
 use Rattle.hx_outside.specs.Log.{Log}
-use Rattle.hx_record.specs.Record.{Items, Unknown, items_from, decided_items}
+use Rattle.hx_outside.specs.declared.SinkFault.{SinkFault}
+use Rattle.hx_outside.specs.declared.SinkFault.TheVariants as sink
+use Rattle.hx_record.specs.Record.{Items, Unknown, Done, Bad, Then, items_from, decided_items}
 use Rattle.hx_record.specs.State.{State, items_after, decided_items_now, MayFollow}
-use Rattle.hx_record.specs.Reading.{Answers, Reads}
+use Rattle.hx_record.specs.Reading.{AnswersNext, Decides, Fills}
 use Rattle.hx_record.specs.declared.Event.{Event}
 use Rattle.hx_record.specs.declared.Event.TheVariants.{Conn, Req, Close, Cli}
+use Rattle.hx_record.specs.declared.Next.{Next}
+use Rattle.hx_record.specs.declared.Next.TheVariants as next
 use Rattle.hx_record.specs.declared.Placed.{Placed}
 use Rattle.hx_record.specs.declared.RecordFault.{RecordFault}
 use Rattle.hx_record.specs.declared.RecordFault.TheVariants as reader
+use Rattle.hxeval.specs.Gathering.{Replays, Passes, AnswersEvent, IsFailure}
+use Rattle.hxeval.specs.Outcome.{Outcome, Completed, RecordRefused, Undecided, after_answers}
+use Rattle.hxeval.specs.Replay.{IsRecord, WritesDecided, record_limit, ends_with, replay_outcome, record_outcome, decided_outcome}
 use Rattle.hxeval.specs.Rules.{Rule}
-use Rattle.hxeval.specs.Replay.{Outcome, with_prefix, record_line, record_refused, start, refusal_of, world_after, text_of, replayed}
-use Rattle.hxeval.specs.Told.{AnswersEvent, Ends, IsRecord, Told, ToldDecided, record_limit, answers_of, reader_fault}
-use Rattle.hxeval.specs.declared.replay.ReplayFault.{ReplayFault}
-use Rattle.hxeval.specs.declared.replay.ReplayFault.TheVariants.{Refused, Source, Sink, NoMemory}
-use Rattle.hxeval.specs.declared.world.World.{World}
+use Rattle.hxeval.specs.RunFault.{AreAnswersTo, IsReplayFault, end_of, reader_fault, sink_fault}
+use Rattle.hxeval.specs.Step.{Steps, initial_state, refusal_of, state_after, answer_of}
+use Rattle.hxeval.specs.declared.replay_state.ReplayState.{ReplayState}
+use Rattle.hxeval.specs.declared.replay_state.StepFault.TheVariants as step
+use Rattle.hxeval.specs.declared.run_fault.RunFault.{RunFault}
+use Rattle.hxeval.specs.declared.run_fault.RunFault.TheVariants as run
+use Rattle.hxeval.proofs.OutcomeLemmas.{prefix_of, shorter_prefix}
 
--- What was taken and answered so far. Whatever follows the bytes that the reader has, the record's text is what was
--- written and then what the items before are answered, and these stand to the items behind as `what` says.
-pub record Answered (what : Items → Items → Type 0) (rules : List Rule) (world : World) (s : State) (left left' old new : Option (List ℕ)) : Type 0 where
+-- What was taken and answered so far. Whatever follows the bytes that the reader has, the record's outcome is the
+-- answers that were written, those that are gathered, and then what the items before are answered, and these stand to
+-- the items after as `what` says.
+pub record Progress (what : Items → Items → Type 0) (rules : List Rule) (state : ReplayState) (s : State)
+    (left left' old new : Option (List ℕ)) (gathered : List ℕ) : Type 0 where
   pub took : List ℕ
   pub consumed : Consumes left left' took
   pub wrote : List ℕ
@@ -30,19 +41,20 @@ pub record Answered (what : Items → Items → Type 0) (rules : List Rule) (wor
   pub limit : s.limit ≡ record_limit
   pub same : (ends : Bool) (more : List ℕ) → MayFollow s ends more
       → (before : Items) × what before (items_after s ends more)
-      × (replayed rules start (items_from ends 0 (took ++ more) record_limit) ≡ with_prefix wrote (replayed rules world before))
+      × (replay_outcome rules initial_state (items_from ends 0 (took ++ more) record_limit)
+      ≡ after_answers (wrote ++ gathered) (replay_outcome rules state before))
 
--- between two events the items before are those behind
+-- between two events the items before are those after
 abbrev pub AreSame : Items → Items → Type 0
-AreSame before behind = before ≡ behind
+AreSame before after = before ≡ after
 
 -- after a call of the reader they differ by its answer
-abbrev pub Answer : Result (Option Placed) RecordFault → Items → Items → Type 0
-Answer result before behind = Answers before behind result
+abbrev pub Answer : Result Next RecordFault → Items → Items → Type 0
+Answer result before after = AnswersNext before after result
 
-pub answered_start : (rules : List Rule) (left out : Option (List ℕ))
-    → Answered AreSame rules start (record { limit = record_limit; at = 0; pending = []; ended = false }) left left out out
-answered_start rules left out = record {
+pub progress_start : (rules : List Rule) (left out : Option (List ℕ))
+    → Progress AreSame rules initial_state (record { limit = record_limit; at = 0; pending = []; ended = false }) left left out out []
+progress_start rules left out = record {
   took = [];
   consumed = Consumes-nil left;
   wrote = [];
@@ -51,24 +63,78 @@ answered_start rules left out = record {
   same = λ ends more may. (items_from ends 0 more record_limit, refl, refl);
 }
 
--- a call of the reader
-pub answered_reads : {log log' : Option Log} → (rules : List Rule) (world : World) (s s' : State) (left left' left'' old new : Option (List ℕ)) (result : Result (Option Placed) RecordFault)
-    → Answered AreSame rules world s left left' old new → Reads s s' left' left'' log log' result
-    → Answered (Answer result) rules world s' left left'' old new
-answered_reads rules world s s' left left' left'' old new result a r = record {
-  took = a.took ++ r.took;
-  consumed = Consumes-trans left left' left'' a.took r.took a.consumed r.consumed;
-  wrote = a.wrote;
-  appended = a.appended;
-  limit = r.limit ∙ a.limit;
+after_twice : (first second : List ℕ) (outcome : Outcome)
+    → after_answers first (after_answers second outcome) ≡ after_answers (first ++ second) outcome
+after_twice first second outcome = ap (λ t. record { answers = t; end = outcome.end }) (sym (append_assoc first second outcome.answers))
+
+-- a call of the reader that reads nothing
+pub progress_decides : (rules : List Rule) (state : ReplayState) (s s' : State) (left left' old new : Option (List ℕ)) (gathered : List ℕ)
+    (result : Result Next RecordFault) → Progress AreSame rules state s left left' old new gathered → Decides s s' result
+    → Progress (Answer result) rules state s' left left' old new gathered
+progress_decides rules state s s' left left' old new gathered result p d = record {
+  took = p.took;
+  consumed = p.consumed;
+  wrote = p.wrote;
+  appended = p.appended;
+  limit = d.limit ∙ p.limit;
   same = λ ends more may.
-      let may_before : MayFollow s ends (r.took ++ more) = λ ended.
-      let (none, over) = r.stays ended in let (nothing, end) = may over in (ap (λ t. t ++ more) none ∙ nothing, end) in
-      let (before, is, text) = a.same ends (r.took ++ more) may_before in
-      (items_after s ends (r.took ++ more), r.answers ends more may, rw append_assoc (text ∙ ap (λ i. with_prefix a.wrote (replayed rules world i)) is));
+      let may_before : MayFollow s ends more = λ ended. may (d.ended ∙ ended) in
+      let (before, is, outcome) = p.same ends more may_before in (
+        items_after s ends more,
+        d.answers ends more may,
+        outcome ∙ ap (λ i. after_answers (p.wrote ++ gathered) (replay_outcome rules state i)) is,
+      );
 }
 
--- what stands behind the bytes that were taken: all that the source has left, where it tells
+-- all that was gathered is written, and more of the record is read
+pub progress_fills : {log log' : Option Log} → (rules : List Rule) (state : ReplayState) (s s' : State) (left left' left'' old new new' : Option (List ℕ))
+    (gathered : List ℕ) → Progress (Answer (Ok next.Undecided)) rules state s left left' old new gathered → s.ended ≡ false
+    → Appends new new' gathered → Fills s s' left' left'' log log' → Progress AreSame rules state s' left left'' old new' []
+progress_fills rules state s s' left left' left'' old new new' gathered p going appended f = record {
+  took = p.took ++ f.got;
+  consumed = Consumes-trans left left' left'' p.took f.got p.consumed f.consumed;
+  wrote = p.wrote ++ gathered;
+  appended = Appends-trans old new new' p.wrote gathered p.appended appended;
+  limit = f.limit ∙ p.limit;
+  same = λ ends more may.
+      let (before, is, outcome) = p.same ends (f.got ++ more) (λ ended. absurd (true≢false (sym ended ∙ going))) in (
+        items_after s' ends more,
+        refl,
+        rw (append_assoc p.took f.got more, append-nil (p.wrote ++ gathered))
+            (outcome ∙ ap (λ i. after_answers (p.wrote ++ gathered) (replay_outcome rules state i)) (sym is ∙ f.items ends more)),
+      );
+}
+
+-- an event that is answered
+pub progress_answers : (rules : List Rule) (state after : ReplayState) (s : State) (left left' old new new' : Option (List ℕ)) (placed : Placed)
+    (gathered gathered' : List ℕ) → Progress (Answer (Ok (next.Event placed))) rules state s left left' old new gathered
+    → AnswersEvent rules state after placed new new' gathered gathered' (Ok tt) → Progress AreSame rules after s left left' old new' gathered'
+unfolding replay_outcome
+progress_answers rules state after s left left' old new new' placed gathered gathered' p (allowed, goes, passes) = record {
+  took = p.took;
+  consumed = p.consumed;
+  wrote = p.wrote ++ passes.wrote;
+  appended = Appends-trans old new new' p.wrote passes.wrote p.appended passes.appended;
+  limit = p.limit;
+  same = λ ends more may.
+      let (before, stand, outcome) = p.same ends more may in
+      let rest = items_after s ends more in
+      let here : replay_outcome rules state (Then placed rest)
+      ≡ after_answers (answer_of rules state placed.event) (replay_outcome rules after rest) = rw (allowed, goes) refl in
+      let text : p.wrote ++ gathered ++ answer_of rules state placed.event ≡ p.wrote ++ passes.wrote ++ gathered' =
+      append_assoc p.wrote gathered (answer_of rules state placed.event)
+      ∙ ap (λ t. p.wrote ++ t) (passes.whole ∙ ap (λ t. passes.wrote ++ t) (append-nil gathered'))
+      ∙ sym (append_assoc p.wrote passes.wrote gathered') in (
+        rest,
+        refl,
+        outcome ∙ ap (λ i. after_answers (p.wrote ++ gathered) (replay_outcome rules state i)) stand
+            ∙ ap (λ o. after_answers (p.wrote ++ gathered) o) here
+            ∙ after_twice (p.wrote ++ gathered) (answer_of rules state placed.event) (replay_outcome rules after rest)
+            ∙ ap (λ t. after_answers t (replay_outcome rules after rest)) text,
+      );
+}
+
+-- what follows the bytes that were taken: all that the source has left, where that is known
 abbrev rest_of : Option (List ℕ) → List ℕ
 rest_of left = unwrap_or left []
 
@@ -81,173 +147,275 @@ may_follow : (s : State) (left' : Option (List ℕ)) → (s.ended ≡ true → I
 may_follow s None at_end ended = (refl, refl)
 may_follow s (Some left') at_end ended = (at_end ended, refl)
 
--- the whole record, seen from a place in it
-record Seen (what : Items → Items → Type 0) (rules : List Rule) (world : World) (s : State) (left left' old new : Option (List ℕ)) : Type 0 where
+-- the whole record, seen from an event of it
+record Seen (what : Items → Items → Type 0) (rules : List Rule) (state : ReplayState) (left old new : Option (List ℕ)) (gathered : List ℕ) : Type 0 where
   bytes : List ℕ
   of_source : IsRecord left bytes
   wrote : List ℕ
   appended : Appends old new wrote
   before : Items
-  behind : Items
-  stand : what before behind
-  text : answers_of rules bytes ≡ with_prefix wrote (replayed rules world before)
+  after : Items
+  stand : what before after
+  outcome : record_outcome rules bytes ≡ after_answers (wrote ++ gathered) (replay_outcome rules state before)
 
-seen : (what : Items → Items → Type 0) (rules : List Rule) (world : World) (s : State) (left left' old new : Option (List ℕ))
-    → Answered what rules world s left left' old new → (s.ended ≡ true → IsAtEnd left') → Seen what rules world s left left' old new
-seen what rules world s left left' old new a at_end =
-    let (before, stand, text) = a.same true (rest_of left') (may_follow s left' at_end) in
+seen : (what : Items → Items → Type 0) (rules : List Rule) (state : ReplayState) (s : State) (left left' old new : Option (List ℕ)) (gathered : List ℕ)
+    → Progress what rules state s left left' old new gathered → (s.ended ≡ true → IsAtEnd left') → Seen what rules state left old new gathered
+seen what rules state s left left' old new gathered p at_end =
+    let (before, stand, outcome) = p.same true (rest_of left') (may_follow s left' at_end) in
     record {
-      bytes = a.took ++ rest_of left';
-      of_source = record_is left left' a.took a.consumed;
-      wrote = a.wrote;
-      appended = a.appended;
+      bytes = p.took ++ rest_of left';
+      of_source = record_is left left' p.took p.consumed;
+      wrote = p.wrote;
+      appended = p.appended;
       before = before;
-      behind = items_after s true (rest_of left');
+      after = items_after s true (rest_of left');
       stand = stand;
-      text = text;
+      outcome = outcome;
     }
 
 -- the record's end
-pub told_end : (rules : List Rule) (world : World) (s : State) (left left' old new : Option (List ℕ))
-    → Answered (Answer (Ok None)) rules world s left left' old new → (s.ended ≡ true → IsAtEnd left') → Told rules left old new (Ok tt)
-unfolding replayed
-told_end rules world s left left' old new a at_end =
-    let v = seen (Answer (Ok None)) rules world s left left' old new a at_end in
-    let done : answers_of rules v.bytes ≡ with_prefix v.wrote (record { text = []; status = 0 }) =
-    v.text ∙ ap (λ i. with_prefix v.wrote (replayed rules world i)) v.stand.0 in
+pub replays_end : (rules : List Rule) (state : ReplayState) (s : State) (left left' old new : Option (List ℕ)) (gathered : List ℕ)
+    → Progress (Answer (Ok next.End)) rules state s left left' old new gathered → (s.ended ≡ true → IsAtEnd left')
+    → Replays rules left old new gathered (Ok tt)
+unfolding replay_outcome
+replays_end rules state s left left' old new gathered p at_end =
+    let v = seen (Answer (Ok next.End)) rules state s left left' old new gathered p at_end in
+    let done : record_outcome rules v.bytes ≡ after_answers (v.wrote ++ gathered) (ends_with Completed) =
+    v.outcome ∙ ap (λ i. after_answers (v.wrote ++ gathered) (replay_outcome rules state i)) v.stand.0 in
     record {
       bytes = v.bytes;
       of_source = v.of_source;
       wrote = v.wrote;
-      rest = [];
-      whole = ap (λ (o : Outcome). o.text) done;
       appended = v.appended;
-      ends = (ap (λ (o : Outcome). o.status) done, refl);
+      answers = (ap (λ (o : Outcome). o.end) done, ap (λ (o : Outcome). o.answers) done ∙ append-nil (v.wrote ++ gathered));
     }
 
--- where nothing more is known than the prefix that was written
-told_front : (rules : List Rule) (world : World) (s : State) (left left' old new : Option (List ℕ)) (result : Result (Option Placed) RecordFault)
-    → Answered (Answer result) rules world s left left' old new → (s.ended ≡ true → IsAtEnd left') → (fault : ReplayFault)
-    → ((outcome : Outcome) (rest : List ℕ) → Ends outcome rest (Err fault)) → Told rules left old new (Err fault)
-told_front rules world s left left' old new result a at_end fault ends =
-    let v = seen (Answer result) rules world s left left' old new a at_end in
+-- where memory runs out, a prefix of the answers is written or gathered
+pub replays_part : (what : Items → Items → Type 0) (rules : List Rule) (state : ReplayState) (s : State) (left left' old new : Option (List ℕ)) (gathered : List ℕ)
+    → Progress what rules state s left left' old new gathered → (s.ended ≡ true → IsAtEnd left')
+    → (fault : RunFault) → end_of (Err fault) ≡ Undecided → Replays rules left old new gathered (Err fault)
+replays_part what rules state s left left' old new gathered p at_end fault undecided =
+    let v = seen what rules state s left left' old new gathered p at_end in
     record {
       bytes = v.bytes;
       of_source = v.of_source;
       wrote = v.wrote;
-      rest = (replayed rules world v.before).text;
-      whole = ap (λ (o : Outcome). o.text) v.text;
       appended = v.appended;
-      ends = ends (answers_of rules v.bytes) (replayed rules world v.before).text;
+      answers = rw undecided ((replay_outcome rules state v.before).answers, ap (λ (o : Outcome). o.answers) v.outcome);
     }
 
--- a fault of the reader
-pub told_fault : (rules : List Rule) (world : World) (s : State) (left left' old new : Option (List ℕ)) (fault : RecordFault)
-    → Answered (Answer (Err fault)) rules world s left left' old new → (s.ended ≡ true → IsAtEnd left') → Told rules left old new (Err (reader_fault fault))
-unfolding replayed
-told_fault rules world s left left' old new (reader.Bad offset code) a at_end =
-    let v = seen (Answer (Err (reader.Bad offset code))) rules world s left left' old new a at_end in
-    let done : answers_of rules v.bytes ≡ with_prefix v.wrote (record_refused offset code) =
-    v.text ∙ ap (λ i. with_prefix v.wrote (replayed rules world i)) v.stand.0 in
+-- a fault of the reader, which reads nothing
+pub replays_fault : (rules : List Rule) (state : ReplayState) (s : State) (left left' old new : Option (List ℕ)) (gathered : List ℕ) (fault : RecordFault)
+    → Progress (Answer (Err fault)) rules state s left left' old new gathered → (s.ended ≡ true → IsAtEnd left')
+    → Replays rules left old new gathered (Err (reader_fault fault))
+unfolding replay_outcome
+replays_fault rules state s left left' old new gathered (reader.Bad offset code) p at_end =
+    let v = seen (Answer (Err (reader.Bad offset code))) rules state s left left' old new gathered p at_end in
+    let done : record_outcome rules v.bytes ≡ after_answers (v.wrote ++ gathered) (ends_with (RecordRefused offset code)) =
+    v.outcome ∙ ap (λ i. after_answers (v.wrote ++ gathered) (replay_outcome rules state i)) v.stand.0 in
     record {
       bytes = v.bytes;
       of_source = v.of_source;
       wrote = v.wrote;
-      rest = record_line offset code;
-      whole = ap (λ (o : Outcome). o.text) done;
       appended = v.appended;
-      ends = (ap (λ (o : Outcome). o.status) done, refl);
+      answers = (ap (λ (o : Outcome). o.end) done, ap (λ (o : Outcome). o.answers) done ∙ append-nil (v.wrote ++ gathered));
     }
-told_fault rules world s left left' old new reader.Failed a at_end = told_front rules world s left left' old new (Err reader.Failed) a at_end Source (λ _ _. tt)
-told_fault rules world s left left' old new reader.NoMemory a at_end = told_front rules world s left left' old new (Err reader.NoMemory) a at_end NoMemory (λ _ _. tt)
+replays_fault rules state s left left' old new gathered reader.Failed p at_end =
+    replays_part (Answer (Err reader.Failed)) rules state s left left' old new gathered p at_end run.Source refl
+replays_fault rules state s left left' old new gathered reader.NoMemory p at_end =
+    replays_part (Answer (Err reader.NoMemory)) rules state s left left' old new gathered p at_end run.NoMemory refl
 
--- a fault of the source, where the pending bytes decide nothing more
-pub told_decided : (rules : List Rule) (world : World) (s : State) (left left' old new : Option (List ℕ))
-    → Answered (Answer (Err reader.Failed)) rules world s left left' old new → (s.ended ≡ false) → (items_after s false [] ≡ Unknown) → ToldDecided rules left left' old new
-unfolding replayed
-told_decided rules world s left left' old new a going undecided =
-    let (before, stand, text) = a.same false [] (λ ended. absurd (true≢false (sym ended ∙ going))) in
-    let here : replayed rules start (decided_items a.took record_limit) ≡ with_prefix a.wrote (record { text = []; status = 5 }) =
-    rw append-nil at text ∙ ap (λ i. with_prefix a.wrote (replayed rules world i)) (sym stand ∙ undecided) in
-    record {
-      took = a.took;
-      consumed = a.consumed;
-      going_on = ap (λ (o : Outcome). o.status) here;
-      written = rw (ap (λ (o : Outcome). o.text) here, append-nil) a.appended;
-    }
+-- such a fault is none of the source
+pub no_source : (before after : State) (fault : RecordFault) → Decides before after (Err fault) → reader_fault fault ≡ run.Source → ⊥
+no_source before after (reader.Bad offset code) d is = cc
+no_source before after reader.Failed d is = d.answers true [] (λ _. (refl, refl))
+no_source before after reader.NoMemory d is = cc
 
--- the same of any fault of the reader that is the source's
-pub told_source : (rules : List Rule) (world : World) (s : State) (left left' old new : Option (List ℕ)) (fault : RecordFault) → reader_fault fault ≡ Source
-    → Answered (Answer (Err fault)) rules world s left left' old new
-    → (fault ≡ reader.Failed → (s.ended ≡ false) × (decided_items_now s ≡ Unknown)) → ToldDecided rules left left' old new
-told_source rules world s left left' old new (reader.Bad offset code) is a undecided = cc
-told_source rules world s left left' old new reader.Failed is a undecided =
-    let (going, unknown) = undecided refl in
-    told_decided rules world s left left' old new a going (ap (λ ends. items_after s ends []) (sym going) ∙ unknown)
-told_source rules world s left left' old new reader.NoMemory is a undecided = cc
+-- no refusal ends what is decided
+failure_end : (fault : RunFault) → IsFailure fault → end_of (Err fault) ≡ Undecided
+failure_end (run.ConfigRefused line code) is = absurd is
+failure_end (run.RecordRefused offset code) is = absurd is
+failure_end run.Files is = absurd is
+failure_end run.Source is = refl
+failure_end run.Sink is = refl
+failure_end run.NoMemory is = refl
 
--- an event that is answered
-pub answered_next : (rules : List Rule) (world after : World) (s : State) (left left' old new new' : Option (List ℕ)) (placed : Placed)
-    → Answered (Answer (Ok (Some placed))) rules world s left left' old new
-    → AnswersEvent rules world after placed new new' (Ok tt) → Answered AreSame rules after s left left' old new'
-unfolding replayed
-answered_next rules world after s left left' old new new' placed a (allowed, goes, appended) = record {
-  took = a.took;
-  consumed = a.consumed;
-  wrote = a.wrote ++ text_of rules world placed.event;
-  appended = Appends-trans old new new' a.wrote (text_of rules world placed.event) a.appended appended;
-  limit = a.limit;
-  same = λ ends more may.
-      let (before, stand, text) = a.same ends more may in
-      (items_after s ends more, refl, text ∙ ap (λ i. with_prefix a.wrote (replayed rules world i)) stand ∙ rw (allowed, ← goes, append_assoc) refl);
-}
+pub sink_failure : (fault : SinkFault) → IsFailure (sink_fault fault)
+sink_failure sink.Failed = tt
+sink_failure sink.NoMemory = tt
 
--- an event of whose answer a prefix was written
-told_part : (rules : List Rule) (world : World) (s : State) (left left' old new new' : Option (List ℕ)) (placed : Placed) (fault : ReplayFault)
-    → Answered (Answer (Ok (Some placed))) rules world s left left' old new → (s.ended ≡ true → IsAtEnd left')
-    → refusal_of world placed.event ≡ None → AppendsPrefix new new' (text_of rules world placed.event)
-    → ((outcome : Outcome) (rest : List ℕ) → Ends outcome rest (Err fault)) → Told rules left old new' (Err fault)
-unfolding replayed
-told_part rules world s left left' old new new' placed fault a at_end allowed part ends =
-    let v = seen (Answer (Ok (Some placed))) rules world s left left' old new a at_end in
-    let behind = (replayed rules (world_after world placed.event) v.behind).text in
-    let text : (answers_of rules v.bytes).text ≡ v.wrote ++ (text_of rules world placed.event ++ behind) =
-    ap (λ (o : Outcome). o.text) (v.text ∙ ap (λ i. with_prefix v.wrote (replayed rules world i)) v.stand) ∙ rw allowed refl in
+pub failure_kind : (fault : RunFault) → IsFailure fault → IsReplayFault fault
+failure_kind (run.ConfigRefused line code) is = absurd is
+failure_kind (run.RecordRefused offset code) is = absurd is
+failure_kind run.Files is = absurd is
+failure_kind run.Source is = tt
+failure_kind run.Sink is = tt
+failure_kind run.NoMemory is = tt
+
+pub reader_kind : (fault : RecordFault) → IsReplayFault (reader_fault fault)
+reader_kind (reader.Bad offset code) = tt
+reader_kind reader.Failed = tt
+reader_kind reader.NoMemory = tt
+
+pub sink_kind : (fault : SinkFault) → IsReplayFault (sink_fault fault)
+sink_kind sink.Failed = tt
+sink_kind sink.NoMemory = tt
+
+-- an event that is answered, and the sink fails
+pub event_lost : (rules : List Rule) (state after : ReplayState) (placed : Placed) (old new : Option (List ℕ)) (gathered mid gathered' : List ℕ)
+    (fault : SinkFault) → Steps rules state after placed.event gathered mid (Ok tt) → AppendsPrefix old new mid → gathered' ≡ []
+    → AnswersEvent rules state after placed old new gathered gathered' (Err (sink_fault fault))
+event_lost rules state after placed old new gathered mid gathered' sink.Failed (allowed, goes, is) part empty =
+    (allowed, (part.rest, record { wrote = part.prefix; appended = part.appended; whole = rw empty (sym is ∙ part.whole) }))
+event_lost rules state after placed old new gathered mid gathered' sink.NoMemory (allowed, goes, is) part empty =
+    (allowed, (part.rest, record { wrote = part.prefix; appended = part.appended; whole = rw empty (sym is ∙ part.whole) }))
+
+-- an event for whose answer memory runs out
+pub event_unanswered : (rules : List Rule) (state after : ReplayState) (placed : Placed) (old : Option (List ℕ)) (gathered gathered' : List ℕ)
+    → Steps rules state after placed.event gathered gathered' (Err step.NoMemory)
+    → AnswersEvent rules state after placed old old gathered gathered' (Err run.NoMemory)
+event_unanswered rules state after placed old gathered gathered' (allowed, stays, is) = (
+  allowed,
+  (
+    answer_of rules state placed.event,
+    record { wrote = []; appended = Appends-nil old; whole = ap (λ t. t ++ answer_of rules state placed.event) (sym is) },
+  ),
+)
+
+-- of what was gathered a prefix was written, and the rest is lost
+pub replays_lost : (rules : List Rule) (state : ReplayState) (s : State) (left left' old new new' : Option (List ℕ)) (gathered : List ℕ)
+    (result : Result Next RecordFault) → Progress (Answer result) rules state s left left' old new gathered → (s.ended ≡ true → IsAtEnd left')
+    → AppendsPrefix new new' gathered → (fault : RunFault) → IsFailure fault → Replays rules left old new' [] (Err fault)
+replays_lost rules state s left left' old new new' gathered result p at_end part fault failure =
+    let v = seen (Answer result) rules state s left left' old new gathered p at_end in
+    let whole : v.wrote ++ gathered ≡ (v.wrote ++ part.prefix ++ []) ++ part.rest =
+    ap (λ t. v.wrote ++ t) part.whole ∙ sym (append_assoc v.wrote part.prefix part.rest)
+    ∙ ap (λ t. t ++ part.rest) (sym (append-nil (v.wrote ++ part.prefix))) in
     record {
       bytes = v.bytes;
       of_source = v.of_source;
       wrote = v.wrote ++ part.prefix;
-      rest = part.rest ++ behind;
-      whole = text ∙ rw (part.whole, append_assoc, append_assoc) refl;
       appended = Appends-trans old new new' v.wrote part.prefix v.appended part.appended;
-      ends = ends (answers_of rules v.bytes) (part.rest ++ behind);
+      answers = rw (failure_end fault failure) (shorter_prefix Undecided (record_outcome rules v.bytes) (v.wrote ++ gathered)
+          (v.wrote ++ part.prefix ++ []) part.rest ((replay_outcome rules state v.before).answers, ap (λ (o : Outcome). o.answers) v.outcome) whole);
+    }
+
+-- the source failed where the bytes that the reader has decide nothing more
+pub writes_decided : (rules : List Rule) (state : ReplayState) (s : State) (left left' left'' old new new' : Option (List ℕ)) (gathered : List ℕ)
+    → Progress (Answer (Ok next.Undecided)) rules state s left left' old new gathered → s.ended ≡ false → decided_items_now s ≡ Unknown
+    → Keeps left' left'' → Appends new new' gathered → WritesDecided rules left left'' old new'
+unfolding replay_outcome
+writes_decided rules state s left left' left'' old new new' gathered p going undecided kept appended =
+    let (before, stand, outcome) = p.same false [] (λ ended. absurd (true≢false (sym ended ∙ going))) in
+    let unknown : items_after s false [] ≡ Unknown = ap (λ ends. items_after s ends []) (sym going) ∙ undecided in
+    let here : decided_outcome rules p.took ≡ after_answers (p.wrote ++ gathered) (ends_with Undecided) =
+    ap (λ t. replay_outcome rules initial_state (items_from false 0 t record_limit)) (sym (append-nil p.took)) ∙ outcome
+    ∙ ap (λ i. after_answers (p.wrote ++ gathered) (replay_outcome rules state i)) (sym stand ∙ unknown) in
+    record {
+      took = p.took;
+      consumed = Consumes-kept left left' left'' p.took p.consumed kept;
+      going_on = ap (λ (o : Outcome). o.end) here;
+      written = rw (ap (λ (o : Outcome). o.answers) here, append-nil (p.wrote ++ gathered))
+          (Appends-trans old new new' p.wrote gathered p.appended appended);
+    }
+
+-- an event of whose answer, with those gathered before, a part is lost
+event_part : (rules : List Rule) (state after : ReplayState) (s : State) (left left' old new new' : Option (List ℕ)) (placed : Placed)
+    (gathered gathered' : List ℕ) (fault : RunFault) → Progress (Answer (Ok (next.Event placed))) rules state s left left' old new gathered
+    → (s.ended ≡ true → IsAtEnd left') → end_of (Err fault) ≡ Undecided → refusal_of state placed.event ≡ None → (rest : List ℕ)
+    → Passes new new' (gathered ++ answer_of rules state placed.event) gathered' rest → Replays rules left old new' gathered' (Err fault)
+unfolding replay_outcome
+event_part rules state after s left left' old new new' placed gathered gathered' fault p at_end undecided allowed rest passes =
+    let v = seen (Answer (Ok (next.Event placed))) rules state s left left' old new gathered p at_end in
+    let answer = answer_of rules state placed.event in
+    let following = replay_outcome rules (state_after state placed.event) v.after in
+    let here : replay_outcome rules state (Then placed v.after) ≡ after_answers answer following = rw allowed refl in
+    let outcome : record_outcome rules v.bytes ≡ after_answers (v.wrote ++ gathered ++ answer) following =
+    v.outcome ∙ ap (λ i. after_answers (v.wrote ++ gathered) (replay_outcome rules state i)) v.stand
+    ∙ ap (λ o. after_answers (v.wrote ++ gathered) o) here ∙ after_twice (v.wrote ++ gathered) answer following in
+    let whole : v.wrote ++ gathered ++ answer ≡ (v.wrote ++ passes.wrote ++ gathered') ++ rest =
+    append_assoc v.wrote gathered answer ∙ ap (λ t. v.wrote ++ t) passes.whole
+    ∙ sym (append_assoc v.wrote passes.wrote (gathered' ++ rest)) ∙ sym (append_assoc (v.wrote ++ passes.wrote) gathered' rest) in
+    record {
+      bytes = v.bytes;
+      of_source = v.of_source;
+      wrote = v.wrote ++ passes.wrote;
+      appended = Appends-trans old new new' v.wrote passes.wrote v.appended passes.appended;
+      answers = rw undecided (shorter_prefix Undecided (record_outcome rules v.bytes) (v.wrote ++ gathered ++ answer)
+          (v.wrote ++ passes.wrote ++ gathered') rest (following.answers, ap (λ (o : Outcome). o.answers) outcome) whole);
     }
 
 -- an event that ends the replay
-pub told_event : (rules : List Rule) (world after : World) (s : State) (left left' old new new' : Option (List ℕ)) (placed : Placed) (fault : ReplayFault)
-    → Answered (Answer (Ok (Some placed))) rules world s left left' old new → (s.ended ≡ true → IsAtEnd left')
-    → AnswersEvent rules world after placed new new' (Err fault) → Told rules left old new' (Err fault)
-unfolding replayed
-told_event rules world after s left left' old new new' placed (Refused offset code) a at_end (refused, here, kept) =
-    let v = seen (Answer (Ok (Some placed))) rules world s left left' old new a at_end in
-    let done : answers_of rules v.bytes ≡ with_prefix v.wrote (record_refused placed.offset code) =
-    v.text ∙ ap (λ i. with_prefix v.wrote (replayed rules world i)) v.stand ∙ rw refused refl in
+pub replays_event : (rules : List Rule) (state after : ReplayState) (s : State) (left left' old new new' : Option (List ℕ)) (placed : Placed)
+    (gathered gathered' : List ℕ) (fault : RunFault) → Progress (Answer (Ok (next.Event placed))) rules state s left left' old new gathered
+    → (s.ended ≡ true → IsAtEnd left') → IsReplayFault fault
+    → AnswersEvent rules state after placed new new' gathered gathered' (Err fault) → Replays rules left old new' gathered' (Err fault)
+unfolding replay_outcome
+replays_event rules state after s left left' old new new' placed gathered gathered' (run.ConfigRefused line code) p at_end kind event = absurd kind
+replays_event rules state after s left left' old new new' placed gathered gathered' run.Files p at_end kind event = absurd kind
+replays_event rules state after s left left' old new new' placed gathered gathered' (run.RecordRefused offset code) p at_end kind (refused, here, nothing, stays) =
+    let v = seen (Answer (Ok (next.Event placed))) rules state s left left' old new gathered p at_end in
+    let done : record_outcome rules v.bytes ≡ after_answers (v.wrote ++ gathered) (ends_with (RecordRefused placed.offset code)) =
+    v.outcome ∙ ap (λ i. after_answers (v.wrote ++ gathered) (replay_outcome rules state i)) v.stand ∙ rw refused refl in
     record {
       bytes = v.bytes;
       of_source = v.of_source;
       wrote = v.wrote;
-      rest = record_line placed.offset code;
-      whole = ap (λ (o : Outcome). o.text) done;
-      appended = rw append-nil at (Appends-trans old new new' v.wrote [] v.appended kept);
-      ends = (ap (λ (o : Outcome). o.status) done, ap (λ k. record_line k code) (sym here));
+      appended = rw (append-nil v.wrote) at (Appends-trans old new new' v.wrote [] v.appended nothing);
+      answers = (
+        ap (λ (o : Outcome). o.end) done ∙ ap (λ k. RecordRefused k code) (sym here),
+        ap (λ (o : Outcome). o.answers) done ∙ append-nil (v.wrote ++ gathered) ∙ ap (λ t. v.wrote ++ t) (sym stays),
+      );
     }
-told_event rules world after s left left' old new new' placed Source a at_end part = told_part rules world s left left' old new new' placed Source a at_end part.0 part.1 (λ _ _. tt)
-told_event rules world after s left left' old new new' placed Sink a at_end part = told_part rules world s left left' old new new' placed Sink a at_end part.0 part.1 (λ _ _. tt)
-told_event rules world after s left left' old new new' placed NoMemory a at_end part = told_part rules world s left left' old new new' placed NoMemory a at_end part.0 part.1 (λ _ _. tt)
+replays_event rules state after s left left' old new new' placed gathered gathered' run.Source p at_end kind event =
+    event_part rules state after s left left' old new new' placed gathered gathered' run.Source p at_end refl event.0 event.1.0 event.1.1
+replays_event rules state after s left left' old new new' placed gathered gathered' run.Sink p at_end kind event =
+    event_part rules state after s left left' old new new' placed gathered gathered' run.Sink p at_end refl event.0 event.1.0 event.1.1
+replays_event rules state after s left left' old new new' placed gathered gathered' run.NoMemory p at_end kind event =
+    event_part rules state after s left left' old new new' placed gathered gathered' run.NoMemory p at_end refl event.0 event.1.0 event.1.1
 
 -- an event comes after fewer requests than the record has bytes before it
-pub requests_after : (world : World) (event : Event) → (world_after world event).requests ≤ world.requests + 1
-requests_after world (Conn id src src_port dst dst_port) = omega arith
-requests_after world (Req id bytes) = omega arith
-requests_after world (Close id) = omega arith
-requests_after world (Cli session text) = omega arith
+pub requests_after : (state : ReplayState) (event : Event) → (state_after state event).requests ≤ state.requests + 1
+requests_after state (Conn id src src_port dst dst_port) = omega arith
+requests_after state (Req id bytes) = omega arith
+requests_after state (Close id) = omega arith
+requests_after state (Cli session text) = omega arith
+
+-- the answers that were gathered are written at the end
+pub replays_written : (rules : List Rule) (left old new new' : Option (List ℕ)) (gathered : List ℕ) (result : Result (Unit {0}) RunFault)
+    → Replays rules left old new gathered result → Appends new new' gathered → Replays rules left old new' [] result
+replays_written rules left old new new' gathered result r appended = record {
+  bytes = r.bytes;
+  of_source = r.of_source;
+  wrote = r.wrote ++ gathered;
+  appended = Appends-trans old new new' r.wrote gathered r.appended appended;
+  answers = rw (append-nil (r.wrote ++ gathered)) r.answers;
+}
+
+-- or a prefix of them is
+pub replays_written_part : (rules : List Rule) (left old new new' : Option (List ℕ)) (gathered : List ℕ) (result : Result (Unit {0}) RunFault)
+    → Replays rules left old new gathered result → AppendsPrefix new new' gathered → (fault : SinkFault)
+    → Replays rules left old new' [] (Err (sink_fault fault))
+replays_written_part rules left old new new' gathered result r part fault =
+    let whole : r.wrote ++ gathered ≡ (r.wrote ++ part.prefix ++ []) ++ part.rest =
+    ap (λ t. r.wrote ++ t) part.whole ∙ sym (append_assoc r.wrote part.prefix part.rest)
+    ∙ ap (λ t. t ++ part.rest) (sym (append-nil (r.wrote ++ part.prefix))) in
+    record {
+      bytes = r.bytes;
+      of_source = r.of_source;
+      wrote = r.wrote ++ part.prefix;
+      appended = Appends-trans old new new' r.wrote part.prefix r.appended part.appended;
+      answers = rw (failure_end (sink_fault fault) (sink_failure fault)) (shorter_prefix (end_of result) (record_outcome rules r.bytes) (r.wrote ++ gathered)
+          (r.wrote ++ part.prefix ++ []) part.rest r.answers whole);
+    }
+
+-- it is so of a failing source, where nothing more is written
+pub decided_stays : (rules : List Rule) (left left' old new new' : Option (List ℕ)) (gathered : List ℕ) → gathered ≡ []
+    → WritesDecided rules left left' old new → Appends new new' gathered → WritesDecided rules left left' old new'
+decided_stays rules left left' old new new' gathered empty d appended = record {
+  took = d.took;
+  consumed = d.consumed;
+  going_on = d.going_on;
+  written = rw (append-nil (decided_outcome rules d.took).answers) at (Appends-trans old new new' (decided_outcome rules d.took).answers []
+      d.written (rw empty at appended));
+}

@@ -1,24 +1,26 @@
--- What a request is answered.
+-- What the rules decide of a request, and the line that answers it.
 use Rattle.std.specs.Prelude.{ℕ, List, ◌++◌, codes, if◌then◌else◌}
 use Rattle.std.specs.Fmt.{decimal}
 use Rattle.std.specs.List.{list_any}
 use Rattle.hx_http.specs.Head.{Head, message, many, none}
 use Rattle.hx_http.specs.Target.{path_of}
 use Rattle.hxeval.specs.Rules.{Rule, denies}
-use Rattle.hxeval.specs.declared.answer.Answer.{Answer}
-use Rattle.hxeval.specs.declared.answer.Answer.TheVariants.{Bad, Deny, Pass}
+use Rattle.hxeval.specs.declared.answer.Verdict.{Verdict}
+use Rattle.hxeval.specs.declared.answer.Verdict.TheVariants.{Bad, Deny, Pass}
 
--- a request whose bytes begin with no head of at most 101 headers is bad; of others some rule denies it, or it passes
-abbrev pub answer_of : List Rule → Head → Answer
-answer_of rules (message parts len) = if list_any (denies (path_of parts.target)) rules then Deny else Pass
-answer_of rules many = Bad
-answer_of rules none = Bad
+-- A request whose bytes begin with no head of at most 101 header lines is bad. Of the others, one
+-- that some rule denies is denied, and any other passes.
+abbrev pub verdict_of : List Rule → Head → Verdict
+verdict_of rules (message parts len) =
+    if list_any (denies (path_of parts.target)) rules then Deny else Pass
+verdict_of rules many = Bad
+verdict_of rules none = Bad
 
-abbrev pub answer_text : Answer → List ℕ
-answer_text Bad = codes " bad 400\n"
-answer_text Deny = codes " deny 403\n"
-answer_text Pass = codes " pass -\n"
+abbrev pub verdict_text : Verdict → List ℕ
+verdict_text Bad = codes " bad 400\n"
+verdict_text Deny = codes " deny 403\n"
+verdict_text Pass = codes " pass -\n"
 
--- the line of the request with this number
-abbrev pub answer_line : ℕ → Answer → List ℕ
-answer_line number answer = decimal number ++ answer_text answer
+-- the line that answers the request with this number
+abbrev pub answer_line : ℕ → Verdict → List ℕ
+answer_line number verdict = decimal number ++ verdict_text verdict

@@ -1,16 +1,18 @@
--- What a caller of `run` needs: the rules and the words that spell them, the configuration, the
--- answers to events, and the headline.
+-- What a caller of `run` needs: the words of a command line, the rules and the words that spell
+-- them, the configuration, the answers to events, outcomes, and the headline.
+pub mod Outcome
 pub mod Rules
 pub mod Statement
 pub mod Configuration
 pub mod Answers
+pub mod Step
 pub mod Replay
-pub mod Told
 pub mod Run
 -- What `main` shows besides: the command line and the environment, the last line that went by, and
 -- the text on standard error.
 pub mod Machine
 pub mod LastLine
 pub mod Explanation
--- A view of the code, for private contracts.
+-- Views of the code, for private contracts.
 pub mod RunFault
+pub mod Gathering

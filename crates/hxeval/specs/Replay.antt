@@ -1,67 +1,58 @@
 -- What a record is answered, event by event.
-use Rattle.std.specs.Prelude.{◌≡◌, ℕ, ◌+◌, Bool, true, false, List, [], ◌∷◌, ◌++◌, codes, Option, None, Some, if◌then◌else◌}
-use Rattle.std.specs.Fmt.{decimal}
-use Rattle.std.specs.FinSet as set
-use Rattle.hx_http.specs.Head.{head_of}
-use Rattle.hx_record.specs.Record.{Items, Unknown, Done, Bad, Then}
+use Rattle.std.specs.Prelude.{◌≡◌, ℕ, Bool, true, false, List, [], ◌∷◌, ◌++◌, Option, None, Some, ⊤}
+use Rattle.std.specs.Io.KnownBytes.{Appends, Consumes}
+use Rattle.hx_record.specs.Record.{Items, Unknown, Done, Bad, Then, record_items, decided_items}
 use Rattle.hx_record.specs.declared.Event.{Event}
-use Rattle.hx_record.specs.declared.Event.TheVariants.{Conn, Req, Close, Cli}
+use Rattle.hxeval.specs.Outcome.{End, Outcome, Completed, RecordRefused, Undecided, after_answers}
+pub use Rattle.hxeval.specs.Outcome.{record_line}
 use Rattle.hxeval.specs.Rules.{Rule}
-use Rattle.hxeval.specs.Answers.{answer_of, answer_line}
-use Rattle.hxeval.specs.declared.world.World.{World}
+use Rattle.hxeval.specs.Step.{initial_state, refusal_of, state_after, answer_of}
+use Rattle.hxeval.specs.declared.replay_state.ReplayState.{ReplayState}
 
--- a text, and the status with which a run ends that writes it
-pub record Outcome : Type 0 where
-  pub text : List ℕ
-  pub status : ℕ
+-- a run that ends here without an answer
+abbrev pub ends_with : End → Outcome
+ends_with end = record { answers = []; end = end }
 
-abbrev pub with_prefix : List ℕ → Outcome → Outcome
-with_prefix prefix outcome = record { text = prefix ++ outcome.text; status = outcome.status }
+-- an event at an offset: its answer and then what follows, or its refusal
+abbrev pub event_outcome : Option ℕ → ℕ → List ℕ → Outcome → Outcome
+event_outcome None offset answer following = after_answers answer following
+event_outcome (Some code) offset answer following = ends_with (RecordRefused offset code)
 
--- the last line of a record that is refused
-abbrev pub record_line : (offset code : ℕ) → List ℕ
-record_line offset code = codes "record " ++ (decimal offset ++ (codes " " ++ (decimal code ++ codes "\n")))
+-- what the items of a record are answered from a state on
+unfoldable pub replay_outcome : List Rule → ReplayState → Items → Outcome
+replay_outcome rules state Unknown = ends_with Undecided
+replay_outcome rules state Done = ends_with Completed
+replay_outcome rules state (Bad offset code) = ends_with (RecordRefused offset code)
+replay_outcome rules state (Then placed rest) =
+    event_outcome (refusal_of state placed.event) placed.offset
+    (answer_of rules state placed.event)
+    (replay_outcome rules (state_after state placed.event) rest)
 
-abbrev pub record_refused : (offset code : ℕ) → Outcome
-record_refused offset code = record { text = record_line offset code; status = 4 }
+-- the most bytes that a record may have
+abbrev pub record_limit : ℕ
+record_limit = 4294967296
 
--- before the first event: no connection is open, and no request came
-abbrev pub start : World
-start = record { connections = set.empty; requests = 0 }
+-- what a whole record is answered
+abbrev pub record_outcome : List Rule → List ℕ → Outcome
+record_outcome rules bytes = replay_outcome rules initial_state (record_items bytes record_limit)
 
--- the code for which an event may not stand here: a management line is not supported (1), a request or an end of a
--- connection that isn't open (6), the opening of one that is (7)
-abbrev pub refusal_of : World → Event → Option ℕ
-refusal_of world (Conn id src src_port dst dst_port) = if set.contains world.connections id then Some 7 else None
-refusal_of world (Req id bytes) = if set.contains world.connections id then None else Some 6
-refusal_of world (Close id) = if set.contains world.connections id then None else Some 6
-refusal_of world (Cli session text) = Some 1
+-- what the first bytes of a record are answered, whatever follows them
+abbrev pub decided_outcome : List Rule → List ℕ → Outcome
+decided_outcome rules bytes = replay_outcome rules initial_state (decided_items bytes record_limit)
 
-abbrev pub world_after : World → Event → World
-world_after world (Conn id src src_port dst dst_port) = record world { connections = set.insert world.connections id }
-world_after world (Req id bytes) = record world { requests = world.requests + 1 }
-world_after world (Close id) = record world { connections = set.remove world.connections id }
-world_after world (Cli session text) = world
+-- the record is all that the source has left, where that is known
+abbrev pub IsRecord : Option (List ℕ) → List ℕ → Type 0
+IsRecord None bytes = ⊤
+IsRecord (Some left) bytes = bytes ≡ left
 
--- the text that an event is answered: a request its line, any other nothing
-abbrev pub text_of : List Rule → World → Event → List ℕ
-text_of rules world (Conn id src src_port dst dst_port) = []
-text_of rules world (Req id bytes) = answer_line (world.requests + 1) (answer_of rules (head_of bytes))
-text_of rules world (Close id) = []
-text_of rules world (Cli session text) = []
-
--- an event at an offset that may stand there, with its text and what follows it, or that is refused
-abbrev pub answered : Option ℕ → ℕ → List ℕ → Outcome → Outcome
-answered None offset text behind = with_prefix text behind
-answered (Some code) offset text behind = record_refused offset code
-
--- what the items of a record are answered, from a world on; more is not known where its bytes are
-unfoldable pub replayed : List Rule → World → Items → Outcome
-replayed rules world Unknown = record { text = []; status = 5 }
-replayed rules world Done = record { text = []; status = 0 }
-replayed rules world (Bad offset code) = record_refused offset code
-replayed rules world (Then placed rest) =
-    answered (refusal_of world placed.event) placed.offset (text_of rules world placed.event) (replayed rules (world_after world placed.event) rest)
+-- Exactly the answers were written to the events that the bytes taken from the source decide,
+-- whatever would have followed them. None of those events is refused, nor is the record by these
+-- bytes.
+pub record WritesDecided (rules : List Rule) (left left' old new : Option (List ℕ)) : Type 0 where
+  pub took : List ℕ
+  pub consumed : Consumes left left' took
+  pub going_on : (decided_outcome rules took).end ≡ Undecided
+  pub written : Appends old new (decided_outcome rules took).answers
 
 -- the events of a record, and whether its end follows them
 abbrev pub events_of : Items → List Event
@@ -77,11 +68,13 @@ is_whole (Bad offset code) = false
 is_whole (Then placed rest) = is_whole rest
 
 -- each event may stand where it stands
-abbrev pub AreAllowed : World → List Event → Type 0
-AreAllowed world [] = Unit {0}
-AreAllowed world (event ∷ events) = (refusal_of world event ≡ None) × AreAllowed (world_after world event) events
+abbrev pub AreAllowed : ReplayState → List Event → Type 0
+AreAllowed state [] = Unit {0}
+AreAllowed state (event ∷ events) =
+    (refusal_of state event ≡ None) × AreAllowed (state_after state event) events
 
 -- the answers to events in order, one after the other
-abbrev pub text_of_all : List Rule → World → List Event → List ℕ
-text_of_all rules world [] = []
-text_of_all rules world (event ∷ events) = text_of rules world event ++ text_of_all rules (world_after world event) events
+abbrev pub answers_to : List Rule → ReplayState → List Event → List ℕ
+answers_to rules state [] = []
+answers_to rules state (event ∷ events) =
+    answer_of rules state event ++ answers_to rules (state_after state event) events

@@ -1,17 +1,18 @@
-ghost use Rattle.std.specs.Prelude.{◌≡◌, IfOk};
+ghost use Rattle.std.specs.Prelude.{◌≡◌, [], ◌++◌, length, IfOk, OnOk, OnErr};
 ghost use Rattle.std.specs.String.{string_bytes};
 ghost use Rattle.hx_http.specs.Head.{head_of};
-ghost use Rattle.hxeval.specs.Answers.{answer_of, answer_line};
+ghost use Rattle.hxeval.specs.Answers.{verdict_of, answer_line};
 
 use crate::rules::Rules;
-use hx_http::{HeadFault, read_head};
-use hx_text::NoMemory;
+use hx_http::{HeadFault, read_head_in};
+use hx_text::{NoMemory, Octets};
 use std::alloc::{AllocError, Global};
+use std::marker::Model;
 
-/// What a request is answered.
+/// What the rules decide of a request.
 #[derive(Clone, Copy, Debug, PartialEq, Eq)]
-pub enum Answer {
-    /// Its bytes are no request head.
+pub enum Verdict {
+    /// Its bytes begin with no request head.
     Bad,
     /// A rule denies it.
     Deny,
@@ -19,31 +20,85 @@ pub enum Answer {
     Pass,
 }
 
-/// The answer to a request with these bytes.
-pub fn judge(alloc: Global, rules: &Rules, bytes: &[u8]) -> Result<Answer, NoMemory>
-    ensures { IfOk result (λ given. given ≡ answer_of rules.now (head_of bytes.now)) }
+/// What these rules decide of a request, whose bytes are taken over.
+pub fn decide(alloc: Global, rules: &Rules, bytes: Octets) -> Result<Verdict, NoMemory>
+    ensures { IfOk result (λ verdict. verdict ≡ verdict_of rules.now (head_of bytes)) }
 {
-    match read_head(alloc, bytes) {
+    match read_head_in(alloc, bytes) {
         Ok((message, _)) => {
             if rules.deny(&message) {
-                Ok(Answer::Deny)
+                Ok(Verdict::Deny)
             } else {
-                Ok(Answer::Pass)
+                Ok(Verdict::Pass)
             }
         }
-        Err(HeadFault::NotAHead) => Ok(Answer::Bad),
-        Err(HeadFault::TooManyHeaders) => Ok(Answer::Bad),
+        Err(HeadFault::NotAHead) => Ok(Verdict::Bad),
+        Err(HeadFault::TooManyHeaders) => Ok(Verdict::Bad),
         Err(HeadFault::NoMemory) => Err(NoMemory),
     }
 }
 
-/// The line that answers the request with this number.
-pub fn answer_line(alloc: Global, number: u64, given: Answer) -> Result<String, AllocError>
-    ensures { IfOk result (λ line. string_bytes line ≡ answer_line number given) }
+/// Answers that are written in one piece, seen as their bytes.
+#[derive(Drop)]
+pub struct Answers {
+    bytes: Vec<u8>,
+    /// A line under way, which keeps its memory for the next one.
+    line: String,
+}
+
+impl Model for Answers {
+    ghost use Rattle.std.specs.Prelude.{List, ℕ};
+
+    ghost Value = { List ℕ };
+
+    ghost view = { λ answers. answers.bytes.items };
+}
+
+impl Answers {
+    /// No answers yet. It takes no memory.
+    pub fn new(alloc: Global) -> Answers
+        ensures { result ≡ [] }
+    {
+        Answers {
+            bytes: Vec::new(alloc),
+            line: String::new(alloc),
+        }
+    }
+
+    /// Appends the line that answers the request with this number, or nothing where memory runs
+    /// out.
+    pub fn append(&mut self, number: u64, verdict: Verdict) -> Result<(), NoMemory>
+        ensures ok { OnOk result (self.new ≡ self.old ++ answer_line number verdict) }
+        ensures err { OnErr result (self.new ≡ self.old) }
+    {
+        write_line(&mut self.line, number, verdict)?;
+        self.bytes.extend_from_slice(self.line.as_bytes())?;
+        Ok(())
+    }
+
+    /// The bytes, lent.
+    pub fn as_slice(&self) -> &[u8]
+        ensures { result.now ≡ self.now }
+    {
+        self.bytes.as_slice()
+    }
+
+    /// Drops the answers, and keeps their memory for the next ones.
+    pub fn clear(&mut self)
+        ensures { self.new ≡ [] }
+    {
+        self.bytes.clear();
+    }
+}
+
+/// Writes the line that answers the request with this number, in place of what `line` had.
+fn write_line(line: &mut String, number: u64, verdict: Verdict) -> Result<(), AllocError>
+    ensures { OnOk result (string_bytes line.new ≡ answer_line number verdict) }
 {
-    match given {
-        Answer::Bad => format!(in alloc; "{number} bad 400\n"),
-        Answer::Deny => format!(in alloc; "{number} deny 403\n"),
-        Answer::Pass => format!(in alloc; "{number} pass -\n"),
+    line.clear();
+    match verdict {
+        Verdict::Bad => write!(line, "{number} bad 400\n"),
+        Verdict::Deny => write!(line, "{number} deny 403\n"),
+        Verdict::Pass => write!(line, "{number} pass -\n"),
     }
 }

@@ -17,13 +17,13 @@ pub mod laws;
 mod load;
 mod machine;
 mod replay;
+mod replay_state;
 mod rules;
 mod run;
 mod run_fault;
 mod statement;
 #[cfg(test)]
 mod tests;
-mod world;
 
 use crate::explain::explain;
 use crate::last_line::LastLine;

@@ -2,8 +2,7 @@ ghost use Rattle.std.specs.Prelude.{◌≡◌, ◌≢◌, ◌≤◌, ◌↔◌, 
 ghost use Rattle.std.specs.Option.{option_copied};
 ghost use Rattle.std.specs.Io.KnownBytes.{Appends, IsAtEnd};
 ghost use Rattle.hx_outside.specs.Count.{Rose};
-ghost use Rattle.hx_base.specs.Pairs.{pairs_of};
-ghost use Rattle.hxeval.specs.Run.{config_name, texts_of, Ran, Headline, SourceFails};
+ghost use Rattle.hxeval.specs.Run.{config_name, texts_of, setting, Ran, HasStatus, Headline, SourceFails};
 ghost use Rattle.hxeval.specs.RunFault.{Attempted, Finishes};
 
 use crate::load::load;
@@ -12,11 +11,11 @@ use crate::run_fault::RunFault;
 use hx_outside::{Files, Sink, SinkFault, Source, write_all};
 use std::alloc::Global;
 
-/// Runs the command that `words` are, the words of a command line without the program's name, under the
-/// environment `env`, and answers the exit status.
+/// Runs the command that `words` are, the words of a command line without the program's name, under
+/// the environment `env`, and answers the exit status.
 ///
-/// `run CONFIG` reads the file CONFIG as a configuration, and answers the events of the record in order: each
-/// answer is written before more of the record is read.
+/// `run CONFIG` reads the file CONFIG as a configuration, and answers the events of the record in
+/// order. All answers that the bytes read so far decide are written before more is read.
 ///
 /// | Status | Comes |
 /// |---|---|
@@ -27,7 +26,6 @@ use std::alloc::Global;
 /// | 5 | the files or the source failed |
 /// | 6 | the sink failed |
 /// | 7 | memory ran out |
-#[tactic(auto, using(crate::proofs::StatusLemmas::complete))]
 pub fn run<F: Files, S: Source, K: Sink>(
     alloc: Global,
     words: &[Vec<u8>],
@@ -38,30 +36,45 @@ pub fn run<F: Files, S: Source, K: Sink>(
 ) -> u8
     ensures status { Contains (0 ∷ 2 ∷ 3 ∷ 4 ∷ 5 ∷ 6 ∷ 7 ∷ []) result }
     ensures usage { (result ≡ 2) ↔ (config_name (texts_of words.now) ≡ None) }
-    ensures untouched { result ≡ 2 → (files.new ≡ files.old) × (record_in.new ≡ record_in.old) × (out.new ≡ out.old) }
+    ensures untouched { result ≡ 2
+        → (files.new ≡ files.old) × (record_in.new ≡ record_in.old) × (out.new ≡ out.old) }
 
+    ensures headline { (name : List ℕ) → config_name (texts_of words.now) ≡ Some name → result ≡ 0
+        → Headline (setting env.now (F.held files.old) name (S.left record_in.old))
+        (K.written out.old) (K.written out.new) }
     ensures ran { (name : List ℕ) → config_name (texts_of words.now) ≡ Some name
-        → Ran (pairs_of env.now) (F.held files.old) name (S.left record_in.old) (K.written out.old) (K.written out.new) result }
-    ensures done { (name : List ℕ) → config_name (texts_of words.now) ≡ Some name → result ≡ 0
-        → Headline (pairs_of env.now) (F.held files.old) name (S.left record_in.old) (K.written out.old) (K.written out.new) }
+        → Ran (setting env.now (F.held files.old) name (S.left record_in.old))
+        (K.written out.old) (K.written out.new) result }
     ensures at_end { result ≡ 0 → IsAtEnd (S.left record_in.new) }
-    ensures unread { result ≡ 3 → record_in.new ≡ record_in.old }
+    ensures config_refused { result ≡ 3 → record_in.new ≡ record_in.old }
 
-    ensures outside { result ≡ 5 → (name : List ℕ) → config_name (texts_of words.now) ≡ Some name
+    ensures outside { (name : List ℕ) → config_name (texts_of words.now) ≡ Some name → result ≡ 5
         → (Rose (F.faults files.old) (F.faults files.new) × (F.last files.new ≡ Some name)
         × Appends (K.written out.old) (K.written out.new) [])
         ⊎ (Rose (S.faults record_in.old) (S.faults record_in.new)
-        × SourceFails (pairs_of env.now) (F.held files.old) name (S.left record_in.old) (S.left record_in.new) (K.written out.old) (K.written out.new)) }
+        × SourceFails (setting env.now (F.held files.old) name (S.left record_in.old))
+        (S.left record_in.new) (K.written out.old) (K.written out.new)) }
     ensures sink { result ≡ 6 → Rose (K.faults out.old) (K.faults out.new) }
-    // Where nothing failed, the answer is the one that the configuration and the record have, or want of memory.
-    ensures complete { ¬ (Rose (F.faults files.old) (F.faults files.new)) → ¬ (Rose (S.faults record_in.old) (S.faults record_in.new))
-        → ¬ (Rose (K.faults out.old) (K.faults out.new)) → Contains (0 ∷ 2 ∷ 3 ∷ 4 ∷ 7 ∷ []) result }
+    // Where nothing outside failed, the status is the one that the configuration and the record
+    // have, unless memory ran out.
+    ensures complete { (name : List ℕ) → config_name (texts_of words.now) ≡ Some name
+        → ¬ (Rose (F.faults files.old) (F.faults files.new))
+        → ¬ (Rose (S.faults record_in.old) (S.faults record_in.new))
+        → ¬ (Rose (K.faults out.old) (K.faults out.new))
+        → (result ≡ 7)
+        ⊎ HasStatus (setting env.now (F.held files.old) name (S.left record_in.old)) result }
 
     ensures held { F.held files.new ≡ F.held files.old }
+    // No other file than the configuration was read in vain.
+    ensures named { (F.last files.new ≡ F.last files.old)
+        ⊎ (F.last files.new ≡ config_name (texts_of words.now)) }
 {
-    match config_name(words) {
-        None => 2,
-        Some(name) => run_config(alloc, env, files, name, record_in, out),
+    let Some(name) = config_name(words) else {
+        return 2;
+    };
+    match attempt(alloc, env, files, name, record_in, out) {
+        Ok(()) => 0,
+        Err(fault) => finish(alloc, fault, out),
     }
 }
 
@@ -75,35 +88,6 @@ pub fn config_name(words: &[Vec<u8>]) -> Option<&[u8]>
     }
 }
 
-/// Runs `run CONFIG` with the configuration of this name.
-#[tactic(auto, using(crate::proofs::StatusLemmas::ran_ok, crate::proofs::StatusLemmas::ran_finished, crate::proofs::StatusLemmas::headline, crate::proofs::StatusLemmas::finished_status))]
-fn run_config<F: Files, S: Source, K: Sink>(
-    alloc: Global,
-    env: &[(Vec<u8>, Vec<u8>)],
-    files: &mut F,
-    name: &[u8],
-    record_in: &mut S,
-    out: &mut K,
-) -> u8
-    ensures status { Contains (0 ∷ 3 ∷ 4 ∷ 5 ∷ 6 ∷ 7 ∷ []) result }
-    ensures ran { Ran (pairs_of env.now) (F.held files.old) name.now (S.left record_in.old) (K.written out.old) (K.written out.new) result }
-    ensures done { result ≡ 0 → Headline (pairs_of env.now) (F.held files.old) name.now (S.left record_in.old) (K.written out.old) (K.written out.new) }
-    ensures at_end { result ≡ 0 → IsAtEnd (S.left record_in.new) }
-    ensures unread { result ≡ 3 → record_in.new ≡ record_in.old }
-    ensures outside { result ≡ 5
-        → (Rose (F.faults files.old) (F.faults files.new) × (F.last files.new ≡ Some name.now)
-        × Appends (K.written out.old) (K.written out.new) [])
-        ⊎ (Rose (S.faults record_in.old) (S.faults record_in.new)
-        × SourceFails (pairs_of env.now) (F.held files.old) name.now (S.left record_in.old) (S.left record_in.new) (K.written out.old) (K.written out.new)) }
-    ensures sink { result ≡ 6 → Rose (K.faults out.old) (K.faults out.new) }
-    ensures held { F.held files.new ≡ F.held files.old }
-{
-    match attempt(alloc, env, files, name, record_in, out) {
-        Ok(()) => 0,
-        Err(fault) => finish(alloc, fault, out),
-    }
-}
-
 /// Loads the configuration of this name and replays the record, up to the first fault.
 fn attempt<F: Files, S: Source, K: Sink>(
     alloc: Global,
@@ -113,18 +97,23 @@ fn attempt<F: Files, S: Source, K: Sink>(
     record_in: &mut S,
     out: &mut K,
 ) -> Result<(), RunFault>
-    ensures attempted { Attempted (pairs_of env.now) (F.held files.old) name.now (S.left record_in.old) (K.written out.old) (K.written out.new) result }
+    ensures attempted { Attempted (setting env.now (F.held files.old) name.now (S.left record_in.old))
+        (K.written out.old) (K.written out.new) result }
     ensures at_end { OnOk result (IsAtEnd (S.left record_in.new)) }
-    ensures unread { (line code : ℕ) → result ≡ Err (RunFault.ConfigRefused line code)
+    ensures config_refused { (line code : ℕ) → result ≡ Err (RunFault.ConfigRefused line code)
         → record_in.new ≡ record_in.old }
     ensures files_failed { IsErrOf result RunFault.Files
-        → Rose (F.faults files.old) (F.faults files.new) × (F.last files.new ≡ Some name.now) × (out.new ≡ out.old) }
+        → Rose (F.faults files.old) (F.faults files.new) × (F.last files.new ≡ Some name.now)
+        × (out.new ≡ out.old) }
     ensures source_failed { IsErrOf result RunFault.Source
         → Rose (S.faults record_in.old) (S.faults record_in.new)
-        × SourceFails (pairs_of env.now) (F.held files.old) name.now (S.left record_in.old) (S.left record_in.new) (K.written out.old) (K.written out.new) }
-    ensures sink_failed { IsErrOf result RunFault.Sink → Rose (K.faults out.old) (K.faults out.new) }
+        × SourceFails (setting env.now (F.held files.old) name.now (S.left record_in.old))
+        (S.left record_in.new) (K.written out.old) (K.written out.new) }
+    ensures sink_failed { IsErrOf result RunFault.Sink
+        → Rose (K.faults out.old) (K.faults out.new) }
     ensures later { K.faults out.old ≤ K.faults out.new }
     ensures held { F.held files.new ≡ F.held files.old }
+    ensures named { (F.last files.new ≡ F.last files.old) ⊎ (F.last files.new ≡ Some name.now) }
 {
     let config = files.read(alloc, name)?;
     let rules = load(alloc, env, config.as_slice())?;
@@ -132,9 +121,11 @@ fn attempt<F: Files, S: Source, K: Sink>(
     Ok(())
 }
 
-/// Writes the line that tells the fault, and answers the status.
+/// Writes the line of a refusal, and answers the status.
+#[tactic(auto, using(crate::proofs::StatusLemmas::fault_large))]
 fn finish<K: Sink>(alloc: Global, fault: RunFault, out: &mut K) -> u8
     ensures finished { Finishes fault (K.written out.old) (K.written out.new) result }
+    ensures large { 3 ≤ result }
     ensures sink { result ≡ 6 → fault ≢ RunFault.Sink → Rose (K.faults out.old) (K.faults out.new) }
     ensures later { K.faults out.old ≤ K.faults out.new }
 {

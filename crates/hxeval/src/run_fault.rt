@@ -1,13 +1,14 @@
 ghost use Rattle.std.specs.Prelude.{◌≡◌, IfOk};
 ghost use Rattle.std.specs.String.{string_bytes};
-ghost use Rattle.hxeval.specs.RunFault.{last_line, status_of};
+ghost use Rattle.hxeval.specs.Outcome.{last_line};
+ghost use Rattle.hxeval.specs.RunFault.{fault_end, fault_status};
 
 use crate::load::LoadFault;
-use crate::replay::ReplayFault;
-use hx_outside::FileFault;
+use hx_outside::{FileFault, SinkFault};
+use hx_record::RecordFault;
 use std::alloc::{AllocError, Global};
 
-/// Why a run ended before the record did.
+/// Why a run ended before its record did.
 #[derive(Clone, Copy, Debug, PartialEq, Eq)]
 pub enum RunFault {
     /// The configuration is refused: this line, counted from 1, has a fault with this code.
@@ -26,7 +27,7 @@ pub enum RunFault {
 impl RunFault {
     /// The exit status of a run that ends so.
     pub fn status(&self) -> u8
-        ensures { result ≡ status_of self.now }
+        ensures { result ≡ fault_status self.now }
     {
         match self {
             RunFault::ConfigRefused { .. } => 3,
@@ -38,9 +39,9 @@ impl RunFault {
         }
     }
 
-    /// The line that tells a refusal; for any other fault, nothing.
+    /// The line that is written of a refusal; of any other fault, nothing.
     pub fn last_line(&self, alloc: Global) -> Result<String, AllocError>
-        ensures { IfOk result (λ line. string_bytes line ≡ last_line self.now) }
+        ensures { IfOk result (λ line. string_bytes line ≡ last_line (fault_end self.now)) }
     {
         match self {
             RunFault::ConfigRefused { line, code } => {
@@ -59,9 +60,9 @@ impl RunFault {
 
 impl From<FileFault> for RunFault {
     ghost use Rattle.std.specs.Prelude.{◌≡◌};
-    ghost use Rattle.hxeval.specs.RunFault.{from_file};
+    ghost use Rattle.hxeval.specs.RunFault.{file_fault};
 
-    ghost from_gives = { λ fault given. given ≡ from_file fault };
+    ghost from_gives = { λ fault given. given ≡ file_fault fault };
 
     fn from(fault: FileFault) -> RunFault {
         match fault {
@@ -73,9 +74,9 @@ impl From<FileFault> for RunFault {
 
 impl From<LoadFault> for RunFault {
     ghost use Rattle.std.specs.Prelude.{◌≡◌};
-    ghost use Rattle.hxeval.specs.RunFault.{from_load};
+    ghost use Rattle.hxeval.specs.RunFault.{load_fault};
 
-    ghost from_gives = { λ fault given. given ≡ from_load fault };
+    ghost from_gives = { λ fault given. given ≡ load_fault fault };
 
     fn from(fault: LoadFault) -> RunFault {
         match fault {
@@ -85,18 +86,31 @@ impl From<LoadFault> for RunFault {
     }
 }
 
-impl From<ReplayFault> for RunFault {
+impl From<RecordFault> for RunFault {
     ghost use Rattle.std.specs.Prelude.{◌≡◌};
-    ghost use Rattle.hxeval.specs.RunFault.{from_replay};
+    ghost use Rattle.hxeval.specs.RunFault.{reader_fault};
 
-    ghost from_gives = { λ fault given. given ≡ from_replay fault };
+    ghost from_gives = { λ fault given. given ≡ reader_fault fault };
 
-    fn from(fault: ReplayFault) -> RunFault {
+    fn from(fault: RecordFault) -> RunFault {
         match fault {
-            ReplayFault::Refused { offset, code } => RunFault::RecordRefused { offset, code },
-            ReplayFault::Source => RunFault::Source,
-            ReplayFault::Sink => RunFault::Sink,
-            ReplayFault::NoMemory => RunFault::NoMemory,
+            RecordFault::Bad { offset, code } => RunFault::RecordRefused { offset, code },
+            RecordFault::Failed => RunFault::Source,
+            RecordFault::NoMemory => RunFault::NoMemory,
+        }
+    }
+}
+
+impl From<SinkFault> for RunFault {
+    ghost use Rattle.std.specs.Prelude.{◌≡◌};
+    ghost use Rattle.hxeval.specs.RunFault.{sink_fault};
+
+    ghost from_gives = { λ fault given. given ≡ sink_fault fault };
+
+    fn from(fault: SinkFault) -> RunFault {
+        match fault {
+            SinkFault::Failed => RunFault::Sink,
+            SinkFault::NoMemory => RunFault::NoMemory,
         }
     }
 }

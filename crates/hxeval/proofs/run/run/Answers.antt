@@ -1,12 +1,97 @@
-use Rattle.std.proofs.Common.{inl, inr}
-use Rattle.hxeval.proofs.StatusLemmas.{complete, wider}
+use Rattle.std.proofs.Common.{◌≡◌, ◌<◌, ◌⊎◌, ◌∙◌, Some, Err, [], inl, inr, ap, arith, subst, refl}
+use Rattle.std.specs.Io.KnownBytes.{Appends}
+use Rattle.hx_outside.specs.Count.{Rose}
+use Rattle.hxeval.specs.Run.{setting, Ran, HasStatus, Headline, SourceFails}
+use Rattle.hxeval.proofs.RunLemmas.{source_moved}
+use Rattle.hxeval.proofs.StatusLemmas.{headline, ran_completed, finished_status, ran_finished, finished_by, finished_line, is_config_refused, is_outside, sink_rose, complete}
 use Rattle.hxeval.proofs.run.run.Goals as goal
 
-pub returns-in-Some-clause-status : goal.returns-in-Some-clause-status
-returns-in-Some-clause-status g c = wider c.run_config.result c.run_config.ensures.status
+pub returns-in-Ok-clause-headline : goal.returns-in-Ok-clause-headline
+returns-in-Ok-clause-headline g c = λ name is done.
+    let same : c.in-Some.name.now ≡ name = cc (c.in-Some.ensures, is) in
+    subst (λ n. Headline (setting c.args.env.now (g.F.Files.held c.args.files.now) n (g.S.Source.left c.args.record_in.now))
+    (g.K.Sink.written c.args.out.now) (g.K.Sink.written c.attempt.new.out)) same
+    (headline (setting c.args.env.now (g.F.Files.held c.args.files.now) c.in-Some.name.now (g.S.Source.left c.args.record_in.now))
+    (g.K.Sink.written c.args.out.now) (g.K.Sink.written c.attempt.new.out) c.in-Ok.ensures.attempted)
 
-pub returns-in-Some-clause-complete : goal.returns-in-Some-clause-complete
-returns-in-Some-clause-complete g c = λ files source sink.
-    complete c.run_config.result (wider c.run_config.result c.run_config.ensures.status)
-    (λ is. elim (c.run_config.ensures.outside is) [ inl failed ↦ files failed.0 | inr failed ↦ source failed.0 ])
-    (λ is. sink (c.run_config.ensures.sink is))
+pub returns-in-Ok-clause-ran : goal.returns-in-Ok-clause-ran
+returns-in-Ok-clause-ran g c = λ name is.
+    let same : c.in-Some.name.now ≡ name = cc (c.in-Some.ensures, is) in
+    subst (λ n. Ran (setting c.args.env.now (g.F.Files.held c.args.files.now) n (g.S.Source.left c.args.record_in.now))
+    (g.K.Sink.written c.args.out.now) (g.K.Sink.written c.attempt.new.out) 0) same
+    (ran_completed (setting c.args.env.now (g.F.Files.held c.args.files.now) c.in-Some.name.now (g.S.Source.left c.args.record_in.now))
+    (g.K.Sink.written c.args.out.now) (g.K.Sink.written c.attempt.new.out) c.in-Ok.ensures.attempted)
+
+pub returns-in-Ok-clause-complete : goal.returns-in-Ok-clause-complete
+returns-in-Ok-clause-complete g c = λ name is files source sink.
+    complete (setting c.args.env.now (g.F.Files.held c.args.files.now) name (g.S.Source.left c.args.record_in.now))
+    (g.K.Sink.written c.args.out.now) (g.K.Sink.written c.attempt.new.out) 0 (0, omega arith, refl)
+    (λ two. absurd (omega (arith, two))) (λ five. absurd (omega (arith, five))) (λ six. absurd (omega (arith, six)))
+    (returns-in-Ok-clause-ran g c name is)
+
+pub returns-in-Ok-clause-named : goal.returns-in-Ok-clause-named
+returns-in-Ok-clause-named g c = elim c.in-Ok.ensures.named [
+  | inl same ↦ inl same
+  | inr last ↦ inr (last ∙ c.in-Some.ensures)
+]
+
+pub returns-in-Err-clause-status : goal.returns-in-Err-clause-status
+returns-in-Err-clause-status g c =
+    finished_status c.in-Err.fault (g.K.Sink.written c.attempt.new.out) (g.K.Sink.written c.finish.new.out) c.finish.result c.finish.ensures.finished
+
+pub returns-in-Err-clause-ran : goal.returns-in-Err-clause-ran
+returns-in-Err-clause-ran g c = λ name is.
+    let same : c.in-Some.name.now ≡ name = cc (c.in-Some.ensures, is) in
+    subst (λ n. Ran (setting c.args.env.now (g.F.Files.held c.args.files.now) n (g.S.Source.left c.args.record_in.now))
+    (g.K.Sink.written c.args.out.now) (g.K.Sink.written c.finish.new.out) c.finish.result) same
+    (ran_finished (setting c.args.env.now (g.F.Files.held c.args.files.now) c.in-Some.name.now (g.S.Source.left c.args.record_in.now))
+    (g.K.Sink.written c.args.out.now) (g.K.Sink.written c.attempt.new.out) (g.K.Sink.written c.finish.new.out) c.in-Err.fault c.finish.result
+    c.in-Err.ensures.attempted c.finish.ensures.finished)
+
+pub returns-in-Err-clause-config_refused : goal.returns-in-Err-clause-config_refused
+returns-in-Err-clause-config_refused g c = λ three.
+    let small : c.finish.result < 6 = omega (arith, three) in
+    let (line, code, is) = is_config_refused c.in-Err.fault
+    (finished_by c.in-Err.fault (g.K.Sink.written c.attempt.new.out) (g.K.Sink.written c.finish.new.out) c.finish.result c.finish.ensures.finished small ∙ three) in
+    c.in-Err.ensures.config_refused line code (ap Err is)
+
+pub returns-in-Err-clause-outside : goal.returns-in-Err-clause-outside
+returns-in-Err-clause-outside g c = λ name is five.
+    let same : c.in-Some.name.now ≡ name = cc (c.in-Some.ensures, is) in
+    let small : c.finish.result < 6 = omega (arith, five) in
+    let fault = finished_by c.in-Err.fault (g.K.Sink.written c.attempt.new.out) (g.K.Sink.written c.finish.new.out) c.finish.result c.finish.ensures.finished small ∙ five in
+    let line = finished_line c.in-Err.fault (g.K.Sink.written c.attempt.new.out) (g.K.Sink.written c.finish.new.out) c.finish.result c.finish.ensures.finished small in
+    elim (is_outside c.in-Err.fault fault) [
+      | inl files ↦
+          let (rose, last, stays) = c.in-Err.ensures.files_failed (ap Err files) in
+          inl (rose, last ∙ ap Some same, rw stays at (rw files at line))
+      | inr source ↦
+          let (rose, fails) = c.in-Err.ensures.source_failed (ap Err source) in
+          inr (
+            rose,
+            subst (λ n. SourceFails (setting c.args.env.now (g.F.Files.held c.args.files.now) n (g.S.Source.left c.args.record_in.now))
+                (g.S.Source.left c.attempt.new.record_in) (g.K.Sink.written c.args.out.now) (g.K.Sink.written c.finish.new.out)) same
+                (source_moved (setting c.args.env.now (g.F.Files.held c.args.files.now) c.in-Some.name.now (g.S.Source.left c.args.record_in.now))
+                (g.S.Source.left c.attempt.new.record_in) (g.K.Sink.written c.args.out.now) (g.K.Sink.written c.attempt.new.out)
+                (g.K.Sink.written c.finish.new.out) fails (rw source at line)),
+          )
+    ]
+
+pub returns-in-Err-clause-sink : goal.returns-in-Err-clause-sink
+returns-in-Err-clause-sink g c = λ six.
+    sink_rose c.in-Err.fault c.finish.result (g.K.Sink.faults c.args.out.now) (g.K.Sink.faults c.attempt.new.out) (g.K.Sink.faults c.finish.new.out) six
+    (λ is. c.in-Err.ensures.sink_failed (ap Err is)) c.finish.ensures.sink c.in-Err.ensures.later c.finish.ensures.later
+
+pub returns-in-Err-clause-complete : goal.returns-in-Err-clause-complete
+returns-in-Err-clause-complete g c = λ name is files source sink.
+    complete (setting c.args.env.now (g.F.Files.held c.args.files.now) name (g.S.Source.left c.args.record_in.now))
+    (g.K.Sink.written c.args.out.now) (g.K.Sink.written c.finish.new.out) c.finish.result (returns-in-Err-clause-status g c)
+    (λ two. absurd (omega (arith, two, c.finish.ensures.large)))
+    (λ five. elim (returns-in-Err-clause-outside g c name is five) [ inl failed ↦ files failed.0 | inr failed ↦ source failed.0 ])
+    (λ six. sink (returns-in-Err-clause-sink g c six)) (returns-in-Err-clause-ran g c name is)
+
+pub returns-in-Err-clause-named : goal.returns-in-Err-clause-named
+returns-in-Err-clause-named g c = elim c.in-Err.ensures.named [
+  | inl same ↦ inl same
+  | inr last ↦ inr (last ∙ c.in-Some.ensures)
+]

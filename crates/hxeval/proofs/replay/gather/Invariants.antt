@@ -1,0 +1,20 @@
+use Rattle.std.proofs.Common.{◌≡◌, ◌≤◌, true}
+use Rattle.std.specs.Io.KnownBytes.{IsAtEnd}
+use Rattle.hx_record.specs.State.{remaining_work}
+use Rattle.hxeval.specs.Replay.{record_limit}
+use Rattle.hxeval.proofs.ReplayLemmas.{Progress, AreSame}
+use Rattle.hxeval.proofs.replay.gather.Given as goal
+
+abbrev pub invariant-events : goal.invariant-events
+invariant-events g l = record {
+  progress : Progress AreSame l.rules l.state l.reader (g.S.Source.left l.fn.record_in) (g.S.Source.left l.record_in)
+      (g.K.Sink.written l.fn.out) (g.K.Sink.written l.out) l.answers;
+  within : l.reader.at ≤ record_limit;
+  ended : l.reader.ended ≡ true → IsAtEnd (g.S.Source.left l.record_in);
+  counted : l.state.requests ≤ l.reader.at;
+  source : g.S.Source.faults l.fn.record_in ≤ g.S.Source.faults l.record_in;
+  sink : g.K.Sink.faults l.fn.out ≤ g.K.Sink.faults l.out;
+}
+
+abbrev pub decreases-events : goal.decreases-events
+decreases-events g l = remaining_work l.reader

@@ -1,0 +1,50 @@
+-- Views of the code of a replay: answers that are gathered before they are written.
+use Rattle.std.specs.Prelude.{◌≡◌, ℕ, List, [], ◌++◌, Option, None, Some, Result, Ok, Err, ⊤}
+use Rattle.std.specs.Io.KnownBytes.{Appends}
+use Rattle.hx_record.specs.declared.Placed.{Placed}
+use Rattle.hxeval.specs.Replay.{IsRecord, record_outcome}
+use Rattle.hxeval.specs.Rules.{Rule}
+use Rattle.hxeval.specs.Step.{refusal_of, state_after, answer_of}
+use Rattle.hxeval.specs.RunFault.{AreAnswersTo, end_of}
+use Rattle.hxeval.specs.declared.replay_state.ReplayState.{ReplayState}
+use Rattle.hxeval.specs.declared.run_fault.RunFault.{RunFault}
+use Rattle.hxeval.specs.declared.run_fault.RunFault.TheVariants.{ConfigRefused, RecordRefused, Files, Source, Sink, NoMemory}
+
+-- A replay of the record that a source has left: the answers were written, but for the last ones,
+-- which are gathered.
+pub record Replays (rules : List Rule) (left old new : Option (List ℕ)) (gathered : List ℕ)
+    (result : Result (Unit {0}) RunFault) : Type 0 where
+  pub bytes : List ℕ
+  pub of_source : IsRecord left bytes
+  pub wrote : List ℕ
+  pub appended : Appends old new wrote
+  pub answers : AreAnswersTo (end_of result) (record_outcome rules bytes) (wrote ++ gathered)
+
+-- of a text the first bytes were written, the next are gathered, and the rest is lost
+pub record Passes (old new : Option (List ℕ)) (text gathered rest : List ℕ) : Type 0 where
+  pub wrote : List ℕ
+  pub appended : Appends old new wrote
+  pub whole : text ≡ wrote ++ (gathered ++ rest)
+
+-- What one event changes: its answer follows those that are gathered, of which the first ones may be
+-- written, and the state goes on. Or it may not stand here. Or a part of these answers is lost.
+abbrev pub AnswersEvent : List Rule → (before after : ReplayState) → Placed
+    → (old new : Option (List ℕ)) → (gathered gathered' : List ℕ)
+    → Result (Unit {0}) RunFault → Type 0
+AnswersEvent rules before after placed old new gathered gathered' (Ok _) =
+    (refusal_of before placed.event ≡ None) × (after ≡ state_after before placed.event)
+    × Passes old new (gathered ++ answer_of rules before placed.event) gathered' []
+AnswersEvent rules before after placed old new gathered gathered' (Err (RecordRefused offset code)) =
+    (refusal_of before placed.event ≡ Some code) × (offset ≡ placed.offset)
+    × Appends old new [] × (gathered' ≡ gathered)
+AnswersEvent rules before after placed old new gathered gathered' (Err _) =
+    (refusal_of before placed.event ≡ None)
+    × ((rest : List ℕ)
+    × Passes old new (gathered ++ answer_of rules before placed.event) gathered' rest)
+
+-- no refusal: something outside failed, or memory ran out
+abbrev pub IsFailure : RunFault → Type 0
+IsFailure (ConfigRefused line code) = ⊥
+IsFailure (RecordRefused offset code) = ⊥
+IsFailure Files = ⊥
+IsFailure _ = ⊤

@@ -1,0 +1,51 @@
+-- One event of a replay: whether it may stand where it stands, its answer, and the state after it.
+use Rattle.std.specs.Prelude.{◌≡◌, ℕ, ◌+◌, List, [], ◌++◌, Option, None, Some, Result, Ok, Err, if◌then◌else◌}
+use Rattle.std.specs.FinSet as set
+use Rattle.hx_http.specs.Head.{head_of}
+use Rattle.hx_record.specs.declared.Event.{Event}
+use Rattle.hx_record.specs.declared.Event.TheVariants.{Conn, Req, Close, Cli}
+use Rattle.hxeval.specs.Rules.{Rule}
+use Rattle.hxeval.specs.Answers.{verdict_of, answer_line}
+use Rattle.hxeval.specs.declared.replay_state.ReplayState.{ReplayState}
+use Rattle.hxeval.specs.declared.replay_state.StepFault.{StepFault}
+use Rattle.hxeval.specs.declared.replay_state.StepFault.TheVariants.{Refused, NoMemory}
+
+-- before the first event: no connection is open, and no request came
+abbrev pub initial_state : ReplayState
+initial_state = record { connections = set.empty; requests = 0 }
+
+-- The code for which an event may not stand here: a management line is not supported (1), a request
+-- or an end of a connection that isn't open (6), the opening of one that is (7).
+abbrev pub refusal_of : ReplayState → Event → Option ℕ
+refusal_of state (Conn id src src_port dst dst_port) =
+    if set.contains state.connections id then Some 7 else None
+refusal_of state (Req id bytes) = if set.contains state.connections id then None else Some 6
+refusal_of state (Close id) = if set.contains state.connections id then None else Some 6
+refusal_of state (Cli session text) = Some 1
+
+abbrev pub state_after : ReplayState → Event → ReplayState
+state_after state (Conn id src src_port dst dst_port) =
+    record state { connections = set.insert state.connections id }
+state_after state (Req id bytes) = record state { requests = state.requests + 1 }
+state_after state (Close id) = record state { connections = set.remove state.connections id }
+state_after state (Cli session text) = state
+
+-- the answer to an event: to a request its line, to any other nothing
+abbrev pub answer_of : List Rule → ReplayState → Event → List ℕ
+answer_of rules state (Conn id src src_port dst dst_port) = []
+answer_of rules state (Req id bytes) =
+    answer_line (state.requests + 1) (verdict_of rules (head_of bytes))
+answer_of rules state (Close id) = []
+answer_of rules state (Cli session text) = []
+
+-- What a step does: the state goes on, and the answer is appended to those before it. An event that
+-- may not stand here changes nothing, nor does a step for which memory runs out.
+abbrev pub Steps : List Rule → (before after : ReplayState) → Event → (old new : List ℕ)
+    → Result (Unit {0}) StepFault → Type 0
+Steps rules before after event old new (Ok _) =
+    (refusal_of before event ≡ None) × (after ≡ state_after before event)
+    × (new ≡ old ++ answer_of rules before event)
+Steps rules before after event old new (Err (Refused code)) =
+    (refusal_of before event ≡ Some code) × (after ≡ before) × (new ≡ old)
+Steps rules before after event old new (Err NoMemory) =
+    (refusal_of before event ≡ None) × (after ≡ before) × (new ≡ old)
