@@ -8,7 +8,7 @@ use Rattle.std.proofs.lemmas.Fmt.{decimal_is_IsNumeral}
 use Rattle.std.proofs.lemmas.Str.Parse.{tells_digits}
 use Rattle.std.proofs.lemmas.Grind.{flat_map-append}
 use Rattle.std.proofs.lemmas.List.{drop_more}
-use Rattle.hx_text.specs.Address.{cut_of}
+use Rattle.hx_text.specs.Cut.{cut_of}
 use Rattle.hxeval.specs.Explanation.{all_of, cut_or_end, location_of, code_of, config_refused, record_refused, explanation}
 use Rattle.hxeval.specs.Replay.{record_line}
 use Rattle.hxeval.specs.Run.{config_line}

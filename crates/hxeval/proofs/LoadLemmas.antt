@@ -3,7 +3,7 @@ use Rattle.std.proofs.Common.{◌≡◌, ℕ, ◌+◌, ◌≤◌, ◌==◌, Bool
 use Rattle.std.specs.Io.BufRead.{strip_last}
 use Rattle.std.specs.List.{slice_split, onto_first}
 use Rattle.std.proofs.lemmas.Option.{same_Some, none-some}
-use Rattle.hx_text.specs.Address.{cut_of}
+use Rattle.hx_text.specs.Cut.{cut_of}
 use Rattle.hxeval.specs.Configuration.{Refusal, lines_of}
 use Rattle.hxeval.specs.Rules.{Rule}
 

@@ -1,11 +1,11 @@
 -- The function that loads a configuration is the relation between a configuration and its rules.
-use Rattle.std.proofs.Common.{◌≡◌, ◌≢◌, ℕ, ◌+◌, ◌⊎◌, inl, inr, List, [], ◌∷◌, ◌++◌, length, Option, None, Some, Result, Ok, Err, refl, sym, ap, ◌∙◌, subst, arith}
+use Rattle.std.proofs.Common.{◌≡◌, ◌≢◌, ℕ, ◌+◌, inl, inr, List, [], ◌∷◌, ◌++◌, length, Option, None, Some, Result, Ok, Err, refl, sym, ap, ◌∙◌, subst, arith}
 use Rattle.std.specs.Prelude.{◌↔◌}
 use Rattle.std.proofs.lemmas.Option.{none-some}
 use Rattle.hx_words.specs.Variable.{Env}
 use Rattle.hx_words.specs.Words.{words_of}
 use Rattle.hx_words.specs.declared.WordFault.{WordFault}
-use Rattle.hxeval.specs.Configuration.{Refusal, SpellsRule, SpellsNoRule, HasWordFault, IsRefused, GiveRules, IsFirstRefused, LoadsLines, Loads, rule_or_unsupported, statement_of, statement_of_words, fault_code, line_rule, then_rules, lines_of, loaded_from, loaded}
+use Rattle.hxeval.specs.Configuration.{Refusal, SpellsRule, IsRefused, GiveRules, LoadsLines, Loads, rule_or_unsupported, statement_of, statement_of_words, line_rule, then_rules, lines_of, loaded_from, loaded}
 use Rattle.hxeval.specs.Rules.{Rule}
 use Rattle.hxeval.specs.Statement.{Spells, rule_of}
 use Rattle.hxeval.proofs.LoadLemmas.{after_no_rules}

@@ -17,6 +17,7 @@ use Rattle.hxeval.specs.declared.load.LoadFault.TheVariants as load
 use Rattle.hxeval.specs.declared.run_fault.RunFault.{RunFault}
 use Rattle.hxeval.specs.declared.run_fault.RunFault.TheVariants as run
 use Rattle.hxeval.proofs.OutcomeLemmas.{prefix_of}
+use Rattle.hxeval.proofs.LoadingLemmas.{one_loading}
 
 -- the configuration and the record, as far as files and source are known
 abbrev config_in : Option (List (List ℕ × List ℕ)) → List ℕ → Option (List ℕ)
@@ -101,7 +102,7 @@ replayed_run s items rules old new r config accepted replays = record {
 pub source_fails : (s : Setting) (items : List ℕ) (rules : List Rule) (left' old new : Option (List ℕ))
     → HasConfig s.held s.name (Some items) → loaded s.env items ≡ Ok rules → WritesDecided rules s.left left' old new → SourceFails s left' old new
 source_fails s items rules left' old new config accepted written =
-    record { config = items; rules = rules; of_files = config; accepted = accepted; written = written }
+    record { config = items; rules = rules; of_files = config; accepted = (one_loading s.env items (Ok rules)).0 accepted; written = written }
 
 -- it stays so where nothing more is written
 pub source_moved : (s : Setting) (left' old mid new : Option (List ℕ)) → SourceFails s left' old mid → Appends mid new [] → SourceFails s left' old new

@@ -17,6 +17,7 @@ use Rattle.hxeval.specs.declared.replay_state.ReplayState.{ReplayState}
 use Rattle.hxeval.specs.declared.run_fault.RunFault.{RunFault}
 use Rattle.hxeval.specs.declared.run_fault.RunFault.TheVariants as run
 use Rattle.hxeval.proofs.OutcomeLemmas.{prefix_of}
+use Rattle.hxeval.proofs.LoadingLemmas.{one_loading}
 
 -- an end is completed or not
 abbrev IsCompleted : End → Type 0
@@ -90,7 +91,7 @@ headline_of s old new wrote outcome (Some config) o is appended end answers =
       rules = a.rules;
       of_files = rw is at o.of_files;
       of_source = o.of_source;
-      accepted = a.is;
+      accepted = (one_loading s.env config (Ok a.rules)).0 a.is;
       read = c.whole;
       allowed = c.allowed;
       written = rw (← all) appended;

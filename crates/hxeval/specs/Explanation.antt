@@ -5,7 +5,7 @@ use Rattle.std.specs.Prelude.{ℕ, Bool, ◌==◌, ◌&&◌, List, [], ◌∷◌
 use Rattle.std.specs.Borrow.{Bor}
 use Rattle.std.specs.Str.{bytes_eq}
 use Rattle.hx_base.specs.Bytes.{line_feed, space}
-use Rattle.hx_text.specs.Address.{cut_of}
+use Rattle.hx_text.specs.Cut.{cut_of}
 use Rattle.hxeval.specs.Run.{config_name}
 use Rattle.hxeval.specs.declared.explain.TheConstants.{CONFIG_CODES, RECORD_CODES, STATUS_TEXTS, UNKNOWN_CODE, UNKNOWN_STATUS}
 

@@ -6,7 +6,7 @@ use Rattle.std.specs.declared.alloc.Global.{Global}
 use Rattle.std.specs.declared.vec.Vec.{Vec}
 use Rattle.hx_base.specs.Bytes.{equals_sign}
 use Rattle.hx_base.specs.Pairs.{NamedBytes}
-use Rattle.hx_text.specs.Address.{cut_of}
+use Rattle.hx_text.specs.Cut.{cut_of}
 
 -- texts that contracts don't know
 abbrev pub unknown_texts : Option (List (List ℕ))

@@ -8,7 +8,7 @@ use Rattle.hx_base.specs.Pairs.{pairs_of, value_at}
 use Rattle.hx_outside.specs.Prefixes.{AppendsPrefix}
 use Rattle.hx_record.specs.Record.{record_items}
 use Rattle.hx_words.specs.Variable.{Env}
-use Rattle.hxeval.specs.Configuration.{Refusal, loaded}
+use Rattle.hxeval.specs.Configuration.{Refusal, Loads, loaded}
 use Rattle.hxeval.specs.Outcome.{Outcome, ConfigRefused, Undecided, status_of, text_of}
 pub use Rattle.hxeval.specs.Outcome.{config_line}
 use Rattle.hxeval.specs.Replay.{IsRecord, WritesDecided, record_limit, ends_with, record_outcome, events_of, is_whole, AreAllowed, answers_to}
@@ -82,7 +82,7 @@ pub record Headline (s : Setting) (old new : Option (List ℕ)) : Type 0 where
   pub rules : List Rule
   pub of_files : HasConfig s.held s.name (Some config)
   pub of_source : IsRecord s.left bytes
-  pub accepted : loaded s.env config ≡ Ok rules
+  pub accepted : Loads s.env config (Ok rules)
   pub read : is_whole (record_items bytes record_limit) ≡ true
   pub allowed : AreAllowed initial_state (events_of (record_items bytes record_limit))
   pub written :
@@ -94,5 +94,5 @@ pub record SourceFails (s : Setting) (left' old new : Option (List ℕ)) : Type 
   pub config : List ℕ
   pub rules : List Rule
   pub of_files : HasConfig s.held s.name (Some config)
-  pub accepted : loaded s.env config ≡ Ok rules
+  pub accepted : Loads s.env config (Ok rules)
   pub written : WritesDecided rules s.left left' old new

@@ -1,6 +1,6 @@
 //! What pins the configuration and its explanation: laws of their definitions, each the contract of
 //! a function that does nothing.
-ghost use Rattle.std.specs.Prelude.{◌≡◌, ◌↔◌, ℕ, List, [], ◌∷◌, ◌++◌, Ok, Err, Result, Some, true, take};
+ghost use Rattle.std.specs.Prelude.{◌≡◌, ◌↔◌, ℕ, List, [], ◌∷◌, ◌++◌, Result, Some, true, take};
 ghost use Rattle.hx_base.specs.Bytes.{line_feed};
 ghost use Rattle.hx_words.specs.Variable.{Env};
 ghost use Rattle.hxeval.specs.Configuration.{Loads, Refusal, loaded};
