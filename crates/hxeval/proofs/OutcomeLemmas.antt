@@ -1,5 +1,5 @@
 -- Lemmas on the answers of an outcome up to an end.
-use Rattle.std.proofs.Common.{◌≡◌, ℕ, List, [], ◌++◌, refl, sym, ◌∙◌, ap, append-nil, append_assoc}
+use Rattle.std.proofs.Common.{◌≡◌, ℕ, List, [], ◌++◌, sym, ◌∙◌, ap, append-nil, append_assoc}
 use Rattle.hxeval.specs.Outcome.{End, Outcome, Completed, ConfigRefused, RecordRefused, Undecided}
 use Rattle.hxeval.specs.RunFault.{AreAnswersTo}
 

@@ -7,7 +7,7 @@ use Rattle.hx_outside.specs.Prefixes.{AppendsPrefix}
 use Rattle.hx_outside.specs.Log.{Log}
 use Rattle.hx_outside.specs.declared.SinkFault.{SinkFault}
 use Rattle.hx_outside.specs.declared.SinkFault.TheVariants as sink
-use Rattle.hx_record.specs.Record.{Items, Unknown, Done, Bad, Then, items_from, decided_items}
+use Rattle.hx_record.specs.Record.{Items, Unknown, Then, items_from}
 use Rattle.hx_record.specs.State.{State, items_after, decided_items_now, MayFollow}
 use Rattle.hx_record.specs.Reading.{AnswersNext, Decides, Fills}
 use Rattle.hx_record.specs.declared.Event.{Event}
@@ -21,13 +21,13 @@ use Rattle.hxeval.specs.Gathering.{Replays, Passes, AnswersEvent, IsFailure}
 use Rattle.hxeval.specs.Outcome.{Outcome, Completed, RecordRefused, Undecided, after_answers}
 use Rattle.hxeval.specs.Replay.{IsRecord, WritesDecided, record_limit, ends_with, replay_outcome, record_outcome, decided_outcome}
 use Rattle.hxeval.specs.Rules.{Rule}
-use Rattle.hxeval.specs.RunFault.{AreAnswersTo, IsReplayFault, end_of, reader_fault, sink_fault}
+use Rattle.hxeval.specs.RunFault.{IsReplayFault, end_of, reader_fault, sink_fault}
 use Rattle.hxeval.specs.Step.{Steps, initial_state, refusal_of, state_after, answer_of}
 use Rattle.hxeval.specs.declared.replay_state.ReplayState.{ReplayState}
 use Rattle.hxeval.specs.declared.replay_state.StepFault.TheVariants as step
 use Rattle.hxeval.specs.declared.run_fault.RunFault.{RunFault}
 use Rattle.hxeval.specs.declared.run_fault.RunFault.TheVariants as run
-use Rattle.hxeval.proofs.OutcomeLemmas.{prefix_of, shorter_prefix}
+use Rattle.hxeval.proofs.OutcomeLemmas.{shorter_prefix}
 
 -- What was taken and answered so far. Whatever follows the bytes that the reader has, the record's outcome is the
 -- answers that were written, those that are gathered, and then what the items before are answered, and these stand to

@@ -1,5 +1,5 @@
 -- Laws of a run: what it has written at each of its ends.
-use Rattle.std.proofs.Common.{◌≡◌, ℕ, List, [], ◌++◌, Option, None, Some, Result, Ok, Err, IfSome, unwrap_or, refl, sym, ◌∙◌, ap, append-nil}
+use Rattle.std.proofs.Common.{◌≡◌, ℕ, List, [], Option, None, Some, Result, Ok, Err, IfSome, unwrap_or, refl, sym, append-nil}
 use Rattle.std.specs.Io.KnownBytes.{Appends}
 use Rattle.std.proofs.KnownBytes.{Appends-nil, Appends-trans}
 use Rattle.hx_base.specs.Pairs.{value_at}
@@ -7,16 +7,15 @@ use Rattle.hx_outside.specs.declared.FileFault.{FileFault}
 use Rattle.hx_outside.specs.declared.FileFault.TheVariants as file
 use Rattle.hxeval.specs.Configuration.{loaded}
 use Rattle.hxeval.specs.Gathering.{Replays}
-use Rattle.hxeval.specs.Outcome.{Outcome, ConfigRefused, Undecided}
+use Rattle.hxeval.specs.Outcome.{ConfigRefused, Undecided}
 use Rattle.hxeval.specs.Replay.{IsRecord, WritesDecided, ends_with, record_outcome, decided_outcome}
 use Rattle.hxeval.specs.Rules.{Rule}
-use Rattle.hxeval.specs.Run.{Setting, HasConfig, HasOutcome, SourceFails, outcome_of}
-use Rattle.hxeval.specs.RunFault.{AreAnswersTo, Attempted, IsReplayFault, end_of, file_fault, load_fault}
+use Rattle.hxeval.specs.Run.{Setting, HasConfig, SourceFails, outcome_of}
+use Rattle.hxeval.specs.RunFault.{Attempted, IsReplayFault, end_of, file_fault, load_fault}
 use Rattle.hxeval.specs.declared.load.LoadFault.{LoadFault}
 use Rattle.hxeval.specs.declared.load.LoadFault.TheVariants as load
 use Rattle.hxeval.specs.declared.run_fault.RunFault.{RunFault}
 use Rattle.hxeval.specs.declared.run_fault.RunFault.TheVariants as run
-use Rattle.hxeval.proofs.OutcomeLemmas.{prefix_of}
 use Rattle.hxeval.proofs.LoadingLemmas.{one_loading}
 
 -- the configuration and the record, as far as files and source are known

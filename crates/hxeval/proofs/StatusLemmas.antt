@@ -3,15 +3,14 @@ use Rattle.std.proofs.Common.{◌≡◌, ◌≢◌, ℕ, zero, suc, ◌<◌, ◌
 use Rattle.std.specs.Io.KnownBytes.{Appends}
 use Rattle.std.proofs.KnownBytes.{Appends-trans}
 use Rattle.hx_outside.specs.Count.{Rose}
-use Rattle.hx_outside.specs.Prefixes.{AppendsPrefix}
 use Rattle.hx_record.specs.Record.{Items, Unknown, Done, Bad, Then, record_items}
 use Rattle.hx_record.specs.declared.Placed.{Placed}
 use Rattle.hxeval.specs.Configuration.{Refusal, loaded}
 use Rattle.hxeval.specs.Outcome.{End, Outcome, Completed, ConfigRefused, RecordRefused, Undecided, status_of, last_line, text_of, after_answers}
 use Rattle.hxeval.specs.Replay.{ends_with, replay_outcome, record_outcome, record_limit, events_of, is_whole, AreAllowed, answers_to}
 use Rattle.hxeval.specs.Rules.{Rule}
-use Rattle.hxeval.specs.Run.{Setting, HasConfig, HasOutcome, HasStatus, Ran, Headline, outcome_under, outcome_of}
-use Rattle.hxeval.specs.RunFault.{AreAnswersTo, Attempted, Finishes, end_of, fault_end, fault_status}
+use Rattle.hxeval.specs.Run.{Setting, HasOutcome, HasStatus, Ran, Headline, outcome_under, outcome_of}
+use Rattle.hxeval.specs.RunFault.{Attempted, Finishes, fault_end, fault_status}
 use Rattle.hxeval.specs.Step.{initial_state, refusal_of, state_after, answer_of}
 use Rattle.hxeval.specs.declared.replay_state.ReplayState.{ReplayState}
 use Rattle.hxeval.specs.declared.run_fault.RunFault.{RunFault}

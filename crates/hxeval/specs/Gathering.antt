@@ -8,7 +8,7 @@ use Rattle.hxeval.specs.Step.{refusal_of, state_after, answer_of}
 use Rattle.hxeval.specs.RunFault.{AreAnswersTo, end_of}
 use Rattle.hxeval.specs.declared.replay_state.ReplayState.{ReplayState}
 use Rattle.hxeval.specs.declared.run_fault.RunFault.{RunFault}
-use Rattle.hxeval.specs.declared.run_fault.RunFault.TheVariants.{ConfigRefused, RecordRefused, Files, Source, Sink, NoMemory}
+use Rattle.hxeval.specs.declared.run_fault.RunFault.TheVariants.{ConfigRefused, RecordRefused, Files}
 
 -- A replay of the record that a source has left: the answers were written, but for the last ones,
 -- which are gathered.

@@ -113,56 +113,6 @@ fn paths_are_denied_by_the_rules(rt: HostRuntime) -> Result<(), Fail> {
 }
 
 #[test]
-fn an_empty_record_has_no_answers(rt: HostRuntime) -> Result<(), Fail> {
-    let (status, written) = ran(rt.alloc(), b"", b"")?;
-    assert_eq!(rt; status, 0);
-    assert_eq!(rt; written.as_slice(), b"".as_slice());
-    Ok(())
-}
-
-#[test]
-fn each_request_has_its_line(rt: HostRuntime) -> Result<(), Fail> {
-    let heads: [&[u8]; 5] = [
-        b"GET /a HTTP/1.1\r\n\r\n",
-        b"GET /b HTTP/1.1\r\n\r\n",
-        b"",
-        b"GET http://h/a?b HTTP/1.0\r\n\r\n",
-        b"GET /a",
-    ];
-    let record = record_of(rt.alloc(), &heads)?;
-    let (status, written) = ran(
-        rt.alloc(),
-        b"http-request deny if { path /a }",
-        record.as_slice(),
-    )?;
-    assert_eq!(rt; status, 0);
-    assert_eq!(rt;
-        written.as_slice(),
-        b"1 deny 403\n2 pass -\n3 bad 400\n4 deny 403\n5 bad 400\n".as_slice()
-    );
-    Ok(())
-}
-
-#[test]
-fn a_head_of_101_header_lines_is_read_and_of_102_is_bad(rt: HostRuntime) -> Result<(), Fail> {
-    for (lines, text) in [
-        (101, b"1 pass -\n".as_slice()),
-        (102, b"1 bad 400\n".as_slice()),
-    ] {
-        let mut head = b"GET / HTTP/1.1\r\n".to_vec(rt.alloc())?;
-        for _ in 0..lines {
-            head.extend_from_slice(b"X: a\r\n")?;
-        }
-        head.extend_from_slice(b"\r\n")?;
-        let record = record_of(rt.alloc(), &[head.as_slice()])?;
-        let (status, written) = ran(rt.alloc(), b"", record.as_slice())?;
-        assert_eq!(rt; status, 0);
-        assert_eq!(rt; written.as_slice(), text);
-    }
-    Ok(())
-}
-
-#[test]
 fn the_first_faulty_line_refuses_the_configuration(rt: HostRuntime) -> Result<(), Fail> {
     let cases: [(&[u8], &[u8]); 22] = [
         (b"http-request allow", b"config 1 9\n"),
@@ -197,58 +147,6 @@ fn the_first_faulty_line_refuses_the_configuration(rt: HostRuntime) -> Result<()
     Ok(())
 }
 
-#[test]
-fn a_line_has_at_most_256_words(rt: HostRuntime) -> Result<(), Fail> {
-    for (values, status, text) in [
-        (250, 0, b"".as_slice()),
-        (251, 3, b"config 1 4\n".as_slice()),
-    ] {
-        let mut config = b"http-request deny if { path".to_vec(rt.alloc())?;
-        for _ in 0..values {
-            config.extend_from_slice(b" a")?;
-        }
-        config.extend_from_slice(b" }")?;
-        let (ended, written) = ran(rt.alloc(), config.as_slice(), b"")?;
-        assert_eq!(rt; ended, status);
-        assert_eq!(rt; written.as_slice(), text);
-    }
-    let mut config = Vec::new(rt.alloc());
-    for _ in 0..257 {
-        config.extend_from_slice(b"a ")?;
-    }
-    let (ended, written) = ran(rt.alloc(), config.as_slice(), b"")?;
-    assert_eq!(rt; ended, 3);
-    assert_eq!(rt; written.as_slice(), b"config 1 4\n".as_slice());
-    Ok(())
-}
-
-#[test]
-fn words_that_are_no_command_touch_nothing(rt: HostRuntime) -> Result<(), Fail> {
-    let cases: [&[&[u8]]; 6] = [
-        &[],
-        &[b"run"],
-        &[b"run", b"c", b"c"],
-        &[b"check", b"c"],
-        &[b"--help"],
-        &[b"Run", b"c"],
-    ];
-    let alloc = rt.alloc();
-    for case in cases {
-        let mut words = Vec::new(alloc);
-        for word in case {
-            words.push(word.to_vec(alloc)?)?;
-        }
-        let files = vec![in alloc; (b"c".to_vec(alloc)?, b"http-request allow".to_vec(alloc)?)]?;
-        let mut files = MemFiles::new(files, Vec::new(alloc));
-        let mut source = MemSource::new(b"hello".to_vec(alloc)?, 7, Vec::new(alloc));
-        let mut sink = MemSink::new(alloc, 5, Vec::new(alloc));
-        let status = run(alloc, &words, &[], &mut files, &mut source, &mut sink);
-        assert_eq!(rt; status, 2);
-        assert_eq!(rt; sink.bytes(), b"".as_slice());
-    }
-    Ok(())
-}
-
 /// A run over a missing configuration, or a source or a sink that fails at the given calls.
 fn failing(
     alloc: Global,
@@ -273,19 +171,19 @@ fn failing(
 }
 
 #[test]
-fn a_failure_outside_ends_the_run_after_a_front_of_the_text(rt: HostRuntime) -> Result<(), Fail> {
-    let text = b"1 deny 403\n2 deny 403\n".as_slice();
-    let cases: [(&[u8], &[u64], &[u64], u8); 4] = [
-        (b"c", &[], &[], 0),
-        (b"missing", &[], &[], 5),
-        (b"c", &[10], &[], 5),
-        (b"c", &[], &[2], 6),
+fn a_failure_outside_ends_the_run_after_these_answers(rt: HostRuntime) -> Result<(), Fail> {
+    let cases: [(&[u8], &[u64], &[u64], u8, &[u8]); 6] = [
+        (b"c", &[], &[], 0, b"1 deny 403\n2 deny 403\n"),
+        (b"missing", &[], &[], 5, b""),
+        (b"c", &[1], &[], 5, b""),
+        (b"c", &[10], &[], 5, b"1 deny 403\n"),
+        (b"c", &[], &[1], 6, b""),
+        (b"c", &[], &[2], 6, b"1 d"),
     ];
-    for (name, reads, writes, want) in cases {
+    for (name, reads, writes, want, text) in cases {
         let (status, written) = failing(rt.alloc(), name, reads, writes)?;
         assert_eq!(rt; status, want);
-        assert!(rt; text.starts_with(written.as_slice()));
-        assert!(rt; want != 0 || written.as_slice() == text);
+        assert_eq!(rt; written.as_slice(), text);
     }
     Ok(())
 }
@@ -310,7 +208,7 @@ fn an_answer_is_written_before_the_next_event_is_read(rt: HostRuntime) -> Result
 }
 
 #[test]
-fn a_record_is_refused_at_its_place(rt: HostRuntime) -> Result<(), Fail> {
+fn a_record_is_refused_at_its_offset(rt: HostRuntime) -> Result<(), Fail> {
     let cases: [(&[u8], &[u8], &[u8]); 17] = [
         (CONN, CONN, b"record 38 7\n"),
         (CONN, b"close 2", b"record 38 6\n"),
@@ -348,36 +246,55 @@ fn a_record_is_refused_at_its_place(rt: HostRuntime) -> Result<(), Fail> {
     Ok(())
 }
 
+/// A configuration of 3,000 lines, the first of which has a word of 70,000 bytes.
+fn long_config(alloc: Global) -> Result<Vec<u8>, Fail> {
+    let mut config = b"http-request deny if { path ".to_vec(alloc)?;
+    config.extend_from_slice(vec![in alloc; b'x'; 70_000]?.as_slice())?;
+    config.extend_from_slice(b" }\n")?;
+    for _ in 0..2_999 {
+        config.extend_from_slice(b"http-request deny if { path /a }\n")?;
+    }
+    Ok(config)
+}
+
 #[test]
-fn connections_of_both_families_interleave(rt: HostRuntime) -> Result<(), Fail> {
-    let record =
-        b"# two clients\nconn 1 192.0.2.7 1 203.0.113.1 80\r\nconn 2 2001:db8::1 2 ::1 80\n\nreq 2 19\nGET /a HTTP/1.1\r\n\r\n\nreq 1 19\nGET /b HTTP/1.1\r\n\r\n\nclose 2\nreq 1 19\nGET /a HTTP/1.1\r\n\r\n\nconn 2 192.0.2.9 1 203.0.113.1 80\nreq 2 0";
-    let config = b"http-request deny if { path /a }";
-    let (status, written) = ran(rt.alloc(), config.as_slice(), record.as_slice())?;
+fn long_inputs_are_answered_whole(rt: HostRuntime) -> Result<(), Fail> {
+    let alloc = rt.alloc();
+    let config = long_config(alloc)?;
+    let mut record = Vec::new(alloc);
+    let mut text = Vec::new(alloc);
+    for id in 0..1_000u32 {
+        let line = format!(in alloc; "conn {id} 192.0.2.7 40000 203.0.113.1 80\n")?;
+        record.extend_from_slice(line.as_bytes())?;
+    }
+    for number in 1..3_001u32 {
+        let id = number % 1_000;
+        let request = format!(in alloc; "req {id} 19\nGET /a HTTP/1.1\r\n\r\n\n")?;
+        record.extend_from_slice(request.as_bytes())?;
+        let answer = format!(in alloc; "{number} deny 403\n")?;
+        text.extend_from_slice(answer.as_bytes())?;
+    }
+    record.extend_from_slice(b"req 0 1048576\nPOST /b HTTP/1.1\r\n\r\n")?;
+    record.extend_from_slice(vec![in alloc; b'x'; 1_048_556]?.as_slice())?;
+    text.extend_from_slice(b"3001 pass -\n")?;
+    let (status, written) = ran_in_pieces(alloc, config.as_slice(), record, 4_097)?;
     assert_eq!(rt; status, 0);
-    assert_eq!(rt;
-        written.as_slice(),
-        b"1 deny 403\n2 pass -\n3 deny 403\n4 bad 400\n".as_slice()
-    );
+    assert_eq!(rt; written.as_slice(), text.as_slice());
     Ok(())
 }
 
 #[test]
-fn a_record_cut_anywhere_and_read_in_any_pieces_is_answered_alike(
-    rt: HostRuntime,
-) -> Result<(), Fail> {
-    let head = b"GET /a?x HTTP/1.1\r\n\r\n".as_slice();
-    let record = record_of(rt.alloc(), &[head])?;
-    let config = b"http-request deny if { path /a }".as_slice();
-    for cut in 0..record.len() + 1 {
-        let prefix = record[..cut].to_vec(rt.alloc())?;
-        let (status, written) = ran_in_pieces(rt.alloc(), config, prefix, 65536)?;
-        for piece in [1, 2, 3, 7, 8] {
-            let prefix = record[..cut].to_vec(rt.alloc())?;
-            let (again, text) = ran_in_pieces(rt.alloc(), config, prefix, piece)?;
-            assert_eq!(rt; again, status);
-            assert_eq!(rt; text.as_slice(), written.as_slice());
-        }
+fn more_than_64_kib_of_answers_are_decided_by_one_read(rt: HostRuntime) -> Result<(), Fail> {
+    let alloc = rt.alloc();
+    let mut record = CONN.to_vec(alloc)?;
+    let mut text = Vec::new(alloc);
+    for number in 1..15_001u32 {
+        record.extend_from_slice(b"req 1 0\n\n")?;
+        let answer = format!(in alloc; "{number} bad 400\n")?;
+        text.extend_from_slice(answer.as_bytes())?;
     }
+    let (status, written) = ran_in_pieces(alloc, b"", record, 65_536)?;
+    assert_eq!(rt; status, 0);
+    assert_eq!(rt; written.as_slice(), text.as_slice());
     Ok(())
 }

@@ -1,4 +1,3 @@
-use Rattle.std.proofs.Common.{◌≡◌}
 use Rattle.std.proofs.lemmas.Result.{err_from_is_err_and}
 use Rattle.hxeval.proofs.ReplayLemmas.{event_lost, event_unanswered}
 use Rattle.hxeval.proofs.replay.answer_event.Goals as goal

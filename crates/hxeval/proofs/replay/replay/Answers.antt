@@ -1,4 +1,3 @@
-use Rattle.std.proofs.Common.{◌≡◌, Ok, Err}
 use Rattle.std.proofs.lemmas.Result.{err_from_is_err_and}
 use Rattle.hxeval.proofs.ReplayLemmas.{replays_written, replays_written_part}
 use Rattle.hxeval.proofs.replay.replay.Goals as goal

@@ -1,7 +1,7 @@
-use Rattle.std.proofs.Common.{◌≡◌, ap, Ok, Err}
+use Rattle.std.proofs.Common.{ap, Ok, Err}
 use Rattle.std.proofs.lemmas.Result.{err_from_is_err_and}
 use Rattle.hxeval.specs.Run.{setting}
-use Rattle.hxeval.proofs.RunLemmas.{is_config, unread, unloaded, replayed_run, source_fails, no_config, no_files}
+use Rattle.hxeval.proofs.RunLemmas.{is_config, unread, unloaded, replayed_run}
 use Rattle.hxeval.proofs.run.attempt.Goals as goal
 
 pub returns-in_err-config-clause-attempted : goal.returns-in_err-config-clause-attempted

@@ -1,7 +1,5 @@
-use Rattle.std.proofs.Common.{◌≡◌, ◌<◌, ◌⊎◌, ◌∙◌, Some, Err, [], inl, inr, ap, arith, subst, refl}
-use Rattle.std.specs.Io.KnownBytes.{Appends}
-use Rattle.hx_outside.specs.Count.{Rose}
-use Rattle.hxeval.specs.Run.{setting, Ran, HasStatus, Headline, SourceFails}
+use Rattle.std.proofs.Common.{◌≡◌, ◌<◌, ◌∙◌, Some, Err, inl, inr, ap, arith, subst, refl}
+use Rattle.hxeval.specs.Run.{setting, Ran, Headline, SourceFails}
 use Rattle.hxeval.proofs.RunLemmas.{source_moved}
 use Rattle.hxeval.proofs.StatusLemmas.{headline, ran_completed, finished_status, ran_finished, finished_by, finished_line, is_config_refused, is_outside, sink_rose, complete}
 use Rattle.hxeval.proofs.run.run.Goals as goal
