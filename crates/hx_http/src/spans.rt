@@ -1,5 +1,5 @@
-ghost use Rattle.std.specs.Prelude.{ℕ, ◌≡◌, ◌*◌, ◌<◌, ◌≤◌, ◌↔◌, List, length, IfOk, IfSome, OnErr, IfNone, IsErrOf, IsTrue};
-ghost use Rattle.httparse.specs.Grammar.{RequestHead, ReadsRequest};
+ghost use Rattle.std.specs.Prelude.{◌≡◌, ◌*◌, ◌<◌, ◌≤◌, ◌↔◌, length, IfOk, IfSome, IfNone, IsErrOf, IsTrue};
+ghost use Rattle.httparse.specs.Spans.{RequestOverflows};
 ghost use Rattle.hx_http.specs.Head.{message, many, none, header_limit, IsHead, HasHead};
 ghost use Rattle.hx_http.specs.Spans.{parts_at, AreWithin};
 
@@ -10,6 +10,9 @@ use std::alloc::{AllocError, Global};
 
 /// The most header lines that a message may have.
 const MAX_HEADERS: usize = 101;
+
+/// How many header lines most heads have at most. Slots for so many are cleared for each head.
+const COMMON_HEADERS: usize = 16;
 
 /// Where in a text the parts of a head lie.
 #[derive(Debug, Drop)]
@@ -28,20 +31,62 @@ pub(crate) fn read_spans(alloc: Global, bytes: &[u8]) -> Result<HeadSpans, HeadF
     ensures within { IfOk result (λ spans. spans.head.len ≤ length bytes.now) }
     ensures few { IfOk result (λ spans. length spans.lines.items ≤ header_limit) }
 {
+    let mut slots = [EMPTY_HEADER_SPAN; COMMON_HEADERS];
+    match spans_within(alloc, bytes, &mut slots)? {
+        Some(spans) => Ok(spans),
+        None => read_many_spans(alloc, bytes),
+    }
+}
+
+/// The spans of the head that `bytes` begin with, which may have more header lines than most.
+fn read_many_spans(alloc: Global, bytes: &[u8]) -> Result<HeadSpans, HeadFault>
+    ensures found { IfOk result (λ spans.
+        IsHead bytes.now (message (parts_at bytes.now spans) spans.head.len)) }
+    ensures not_a_head { IsErrOf result HeadFault.NotAHead → IsHead bytes.now none }
+    ensures too_many { IsErrOf result HeadFault.TooManyHeaders → IsHead bytes.now many }
+    ensures spans { IfOk result (λ spans. AreWithin spans.head.len spans) }
+    ensures within { IfOk result (λ spans. spans.head.len ≤ length bytes.now) }
+    ensures few { IfOk result (λ spans. length spans.lines.items ≤ header_limit) }
+{
     let mut slots = [EMPTY_HEADER_SPAN; MAX_HEADERS];
-    match parse_request(bytes, &mut slots) {
-        Ok(Status::Complete(head)) => {
-            let lines = Vec::from_slice(alloc, &slots[..head.headers])?;
-            Ok(HeadSpans { head, lines })
-        }
-        Ok(Status::Partial) => Err(HeadFault::NotAHead),
-        Err(Error::TooManyHeaders) => {
+    match spans_within(alloc, bytes, &mut slots)? {
+        Some(spans) => Ok(spans),
+        None => {
             if has_head(alloc, bytes)? {
                 Err(HeadFault::TooManyHeaders)
             } else {
                 Err(HeadFault::NotAHead)
             }
         }
+    }
+}
+
+/// The spans of the head that `bytes` begin with, and `None` where the slots are too few to tell.
+fn spans_within(
+    alloc: Global,
+    bytes: &[u8],
+    slots: &mut [HeaderSpan],
+) -> Result<Option<HeadSpans>, HeadFault>
+    requires { length slots.old ≤ header_limit }
+    ensures found { IfOk result (λ read. IfSome read (λ spans.
+        IsHead bytes.now (message (parts_at bytes.now spans) spans.head.len))) }
+    ensures unknown { IfOk result (λ read.
+        IfNone read (RequestOverflows (length slots.old) bytes.now)) }
+    ensures not_a_head { IsErrOf result HeadFault.NotAHead → IsHead bytes.now none }
+    ensures too_many { ¬ (IsErrOf result HeadFault.TooManyHeaders) }
+    ensures spans { IfOk result (λ read. IfSome read (λ spans. AreWithin spans.head.len spans)) }
+    ensures within { IfOk result (λ read. IfSome read (λ spans.
+        spans.head.len ≤ length bytes.now)) }
+    ensures few { IfOk result (λ read. IfSome read (λ spans.
+        length spans.lines.items ≤ header_limit)) }
+{
+    match parse_request(bytes, slots) {
+        Ok(Status::Complete(head)) => {
+            let lines = Vec::from_slice(alloc, &slots[..head.headers])?;
+            Ok(Some(HeadSpans { head, lines }))
+        }
+        Err(Error::TooManyHeaders) => Ok(None),
+        Ok(Status::Partial) => Err(HeadFault::NotAHead),
         Err(_) => Err(HeadFault::NotAHead),
     }
 }

@@ -1,12 +1,12 @@
 ghost use Rattle.std.specs.Prelude.{◌≡◌, [], ◌++◌, length, IfOk, OnOk, OnErr};
-ghost use Rattle.std.specs.String.{string_bytes};
 ghost use Rattle.hx_http.specs.Head.{head_of};
-ghost use Rattle.hxeval.specs.Answers.{verdict_of, answer_line};
+ghost use Rattle.hxeval.specs.Answers.{verdict_of, verdict_text, answer_line};
 
 use crate::rules::Rules;
 use hx_http::{HeadFault, read_head_in};
 use hx_text::{NoMemory, Octets};
-use std::alloc::{AllocError, Global};
+use itoa::Buffer;
+use std::alloc::Global;
 use std::marker::Model;
 
 /// What the rules decide of a request.
@@ -42,8 +42,6 @@ pub fn decide(alloc: Global, rules: &Rules, bytes: Octets) -> Result<Verdict, No
 #[derive(Drop)]
 pub struct Answers {
     bytes: Vec<u8>,
-    /// A line under way, which keeps its memory for the next one.
-    line: String,
 }
 
 impl Model for Answers {
@@ -61,7 +59,6 @@ impl Answers {
     {
         Answers {
             bytes: Vec::new(alloc),
-            line: String::new(alloc),
         }
     }
 
@@ -71,9 +68,12 @@ impl Answers {
         ensures ok { OnOk result (self.new ≡ self.old ++ answer_line number verdict) }
         ensures err { OnErr result (self.new ≡ self.old) }
     {
-        write_line(&mut self.line, number, verdict)?;
-        self.bytes.extend_from_slice(self.line.as_bytes())?;
-        Ok(())
+        let mut digits = Buffer::new();
+        append_both(
+            &mut self.bytes,
+            digits.format(number).as_bytes(),
+            verdict_text(verdict),
+        )
     }
 
     /// The bytes, lent.
@@ -91,14 +91,29 @@ impl Answers {
     }
 }
 
-/// Writes the line that answers the request with this number, in place of what `line` had.
-fn write_line(line: &mut String, number: u64, verdict: Verdict) -> Result<(), AllocError>
-    ensures { OnOk result (string_bytes line.new ≡ answer_line number verdict) }
+/// Appends two texts, or nothing where memory runs out.
+fn append_both(bytes: &mut Vec<u8>, first: &[u8], second: &[u8]) -> Result<(), NoMemory>
+    ensures ok { OnOk result (bytes.new.items ≡ bytes.old.items ++ (first.now ++ second.now)) }
+    ensures err { OnErr result (bytes.new.items ≡ bytes.old.items) }
 {
-    line.clear();
+    let len = bytes.len();
+    bytes.extend_from_slice(first)?;
+    match bytes.extend_from_slice(second) {
+        Ok(()) => Ok(()),
+        Err(_) => {
+            bytes.truncate(len);
+            Err(NoMemory)
+        }
+    }
+}
+
+/// What stands after the number in the answer to a request.
+fn verdict_text(verdict: Verdict) -> &'static [u8]
+    ensures { result.now ≡ verdict_text verdict }
+{
     match verdict {
-        Verdict::Bad => write!(line, "{number} bad 400\n"),
-        Verdict::Deny => write!(line, "{number} deny 403\n"),
-        Verdict::Pass => write!(line, "{number} pass -\n"),
+        Verdict::Bad => b" bad 400\n",
+        Verdict::Deny => b" deny 403\n",
+        Verdict::Pass => b" pass -\n",
     }
 }
