@@ -1,11 +1,10 @@
 -- What pending bytes begin with under the limit.
-use Rattle.std.proofs.Common.{◌≡◌, ℕ, ◌<◌, ◌≤◌, min, Bool, true, false, List, [], ◌++◌, length, take, drop, refl, sym, ap, subst, ◌∙◌, arith, lt-ltb, inl, inr, append_assoc, append-nil, length-take-le, take-append-drop}
+use Rattle.std.proofs.Common.{◌≡◌, ℕ, ◌<◌, ◌≤◌, min, Bool, true, false, List, ◌++◌, length, take, drop, refl, sym, ap, subst, ◌∙◌, arith, lt-ltb, inl, inr, length-take-le, take-append-drop}
 use Rattle.std.proofs.lemmas.Bool.{cases_lt, le-ltb}
 use Rattle.hx_record.specs.Beginning.{Ends, Beyond, Open, Undecided, beginning_of, line_length}
 use Rattle.hx_record.specs.Record.{continuation_of}
 use Rattle.hx_record.proofs.PieceLemmas.{Takes, takes, line_length-append}
 use Rattle.hx_record.proofs.WindowLemmas.{take_all}
-use Rattle.hx_record.specs.Parts.{IsWait}
 
 -- more bytes than there is room for
 pub under_beyond : (ended : Bool) (room : ℕ) (pending : List ℕ) → room < length pending → beginning_of (continuation_of ended room pending) (take room pending) ≡ beginning_of Beyond (take room pending)
@@ -18,16 +17,6 @@ under_ended room pending all = rw (le-ltb room (length pending) all, take_all ro
 -- what follows isn't known
 pub under_open : (room : ℕ) (pending : List ℕ) → length pending ≤ room → beginning_of (continuation_of false room pending) (take room pending) ≡ beginning_of Open pending
 under_open room pending all = rw (le-ltb room (length pending) all, take_all room pending all) refl
-
--- fewer bytes than are wanted decide nothing
-pub waiting : (pending : List ℕ) (wait : ℕ) → IsWait pending wait → length pending < wait → beginning_of Open pending ≡ Undecided
-waiting pending wait wanted few =
-    let whole : pending ++ [] ≡ pending = append-nil pending in
-    rw whole at (wanted [] (rw whole few))
-
--- bytes that come after leave the wait and the search as they are
-pub wait_more : (pending got : List ℕ) (wait : ℕ) → IsWait pending wait → IsWait (pending ++ got) wait
-wait_more pending got wait wanted more few = rw append_assoc (wanted (got ++ more) (rw (← append_assoc pending got more) few))
 
 -- the search within the front of the bytes begins no later than it may
 pub scanned_front : (room scanned : ℕ) (pending : List ℕ) → room ≤ length pending → scanned ≤ line_length pending → min scanned room ≤ line_length (take room pending)

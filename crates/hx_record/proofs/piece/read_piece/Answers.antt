@@ -1,13 +1,18 @@
-use Rattle.std.proofs.Common.{arith, rules}
-use Rattle.hx_record.specs.PieceView.{continuation}
-use Rattle.hx_record.specs.LineView.{result_meaning}
-use Rattle.hx_record.proofs.PieceLemmas.{line_first}
+use Rattle.std.proofs.Common.{arith}
+use Rattle.hx_record.specs.Beginning.{Ends, Beyond}
+use Rattle.hx_record.proofs.PendingLemmas.{scanned_front}
+use Rattle.hx_record.proofs.WaitLemmas.{closed_waits}
 use Rattle.hx_record.proofs.piece.read_piece.Goals as goal
 
-pub returns-clause-ok : goal.returns-clause-ok
-returns-clause-ok c =
-    rw (← line_first (continuation c.args.tail) c.args.bytes.now c.args.len (result_meaning c.read_line.result) c.split_at-2.result.1.now c.requires (omega arith) (omega arith) (search rules) (search rules)) c.line_piece.ensures.ok
+pub read_first-requires : goal.read_first-requires
+read_first-requires c =
+    let later = c.search_start-start.ensures c.args.pending.now c.requires in
+    grind (arith, scanned_front c.args.room c.search_start-start.result c.args.pending.now)
 
-pub returns-clause-err : goal.returns-clause-err
-returns-clause-err c =
-    rw (← line_first (continuation c.args.tail) c.args.bytes.now c.args.len (result_meaning c.read_line.result) c.split_at-2.result.1.now c.requires (omega arith) (omega arith) (search rules) (search rules)) c.line_piece.ensures.err
+pub returns-then-pending-room-clause-wait : goal.returns-then-pending-room-clause-wait
+returns-then-pending-room-clause-wait c =
+    closed_waits Beyond c.split_at.result.0.now c.args.pending.now c.read_first.result (λ same. cc) c.read_first.ensures.ok
+
+pub returns-then-ended-clause-wait : goal.returns-then-ended-clause-wait
+returns-then-ended-clause-wait c =
+    closed_waits Ends c.args.pending.now c.args.pending.now c.read_first-then-ended.result (λ same. cc) c.read_first-then-ended.ensures.ok
