@@ -1,7 +1,8 @@
 -- What is known of bytes that decide nothing.
-use Rattle.std.proofs.Common.{◌≡◌, ℕ, ◌+◌, ◌<◌, ◌≤◌, List, [], ◌++◌, length, take, drop, Result, Ok, Err, refl, sym, subst, ◌∙◌, arith, length-drop, length-append, append_assoc, append-nil}
+use Rattle.std.proofs.Common.{◌≡◌, ℕ, ◌+◌, ◌-◌, ◌<◌, ◌≤◌, List, ◌++◌, length, take, drop, Result, Ok, Err, refl, sym, ap, subst, ◌∙◌, arith, inl, inr, length-append}
 use Rattle.std.specs.Prelude.{IfOk}
-use Rattle.std.proofs.lemmas.Bool.{le-ltb}
+use Rattle.std.proofs.lemmas.Bool.{cases_lt}
+use Rattle.std.proofs.Math.Seq.{take-append-add}
 use Rattle.std.proofs.lemmas.List.{take-append-le}
 use Rattle.hx_text.specs.declared.fault.NoMemory.{NoMemory}
 use Rattle.hx_record.specs.declared.refusal.RecordRefusal.{RecordRefusal}
@@ -12,8 +13,9 @@ use Rattle.hx_record.specs.declared.piece.Wait.TheVariants as waits
 use Rattle.hx_record.specs.Beginning.{Continuation, Open, Undecided, request_beginning, line_beginning, line_length, meaning_without_cr, beginning_of}
 use Rattle.hx_record.specs.Line.{LineMeaning, Nothing, Says, Announces}
 use Rattle.hx_record.specs.LineView.{SaysEvent}
-use Rattle.hx_record.specs.PieceView.{piece_beginning, IsWait, KnowsWait, WantsRequest}
+use Rattle.hx_record.specs.PieceView.{AnnouncesRequest, piece_beginning, IsWait, KnowsWait, WantsRequest}
 use Rattle.hx_record.specs.Parts.{IsFound}
+use Rattle.hx_record.proofs.WindowLemmas.{take_all}
 use Rattle.hx_record.proofs.PieceLemmas.{Takes, takes, piece_whole, line_length-append, line_length-grows}
 
 -- a line that says an event begins with it
@@ -23,25 +25,16 @@ says_found next (Ok Nothing) used rest says = absurd says
 says_found next (Ok (Announces id len)) used rest says = absurd says
 says_found next (Err refusal) used rest says = absurd says
 
-request_open : (id len used : ℕ) (rest : List ℕ) → length rest ≤ len → request_beginning Open id len used rest ≡ Undecided
-unfolding request_beginning
-request_open id len used rest few = rw (le-ltb len (length rest) few) refl
-
--- a line that announces a request, with fewer bytes than the request and one more
-request_undecided : (bytes more : List ℕ) (id len : ℕ) → line_length bytes ≤ 65536 → line_length bytes < length bytes → meaning_without_cr (take (line_length bytes) bytes) ≡ Ok (Announces id len)
-    → length (bytes ++ more) < line_length bytes + 1 + len + 1 → beginning_of Open (bytes ++ more) ≡ Undecided
-request_undecided bytes more id len short inside says few =
-    let same = line_length-append bytes more inside in
-    let size = length-append bytes more in
-    let whole = piece_whole Open (bytes ++ more) (omega arith) (omega arith) in
-    let front : take (line_length bytes) (bytes ++ more) ≡ take (line_length bytes) bytes = take-append-le (line_length bytes) bytes more (omega arith) in
-    whole ∙ rw (same, front, says) (request_open id len (line_length bytes + 1) (drop (line_length bytes + 1) (bytes ++ more)) (omega (arith, length-drop (line_length bytes + 1) (bytes ++ more))))
+-- after a line that announces a request, the request is read
+pub request_first : (next : Continuation) (seen : List ℕ) (id len used : ℕ) (rest : List ℕ) → AnnouncesRequest seen id len used → rest ≡ drop used seen → request_beginning next id len used rest ≡ beginning_of next seen
+request_first next seen id len used rest a after_it =
+    rw (piece_whole next seen a.short a.whole, a.meaning, after_it, a.line) refl
 
 -- what a first line leaves undecided
 pub line_waits : (bytes : List ℕ) (meaning : Result LineMeaning RecordRefusal) (p : Piece) → line_length bytes ≤ 65536 → line_length bytes < length bytes → meaning_without_cr (take (line_length bytes) bytes) ≡ meaning
     → WantsRequest p meaning (line_length bytes + 1) → KnowsWait bytes p
 line_waits bytes (Ok (Announces id len)) (pieces.Undecided wait) short inside says wants =
-    rw wants (λ more few. request_undecided bytes more id len short inside says few)
+    rw wants (record { line = refl; short = short; whole = inside; meaning = says })
 line_waits bytes (Ok Nothing) (pieces.Undecided wait) short inside says wants = absurd wants
 line_waits bytes (Ok (Says event)) (pieces.Undecided wait) short inside says wants = absurd wants
 line_waits bytes (Err refusal) (pieces.Undecided wait) short inside says wants = absurd wants
@@ -57,24 +50,32 @@ first_waits bytes len (Ok p) first short inside wants =
     line_waits bytes _ p (omega arith) (omega arith) refl (rw first at wants)
 first_waits bytes len (Err fault) first short inside wants = wants
 
--- where it is known what follows, nothing is undecided
-pub closed_waits : (next : Continuation) (bytes seen : List ℕ) (result : Result Piece NoMemory) → (next ≡ Open → ⊥) → IfOk result (λ p. piece_beginning p ≡ beginning_of next bytes) → IfOk result (KnowsWait seen)
-closed_waits next bytes seen (Err fault) closed is = is
-closed_waits next bytes seen (Ok (pieces.Undecided wait)) closed is = absurd (closed (subst (Takes next (length bytes)) (sym is) (takes next bytes)))
-closed_waits next bytes seen (Ok pieces.TooLong) closed is = tt
-closed_waits next bytes seen (Ok pieces.Finish) closed is = tt
-closed_waits next bytes seen (Ok (pieces.Fault skip refusal)) closed is = tt
-closed_waits next bytes seen (Ok (pieces.Skip used)) closed is = tt
-closed_waits next bytes seen (Ok (pieces.Found used event)) closed is = tt
-
--- fewer bytes than are wanted decide nothing
-pub waiting : (pending : List ℕ) (bytes : ℕ) → IsWait pending (waits.Request bytes) → length pending < bytes → beginning_of Open pending ≡ Undecided
-waiting pending bytes wanted few =
-    let whole : pending ++ [] ≡ pending = append-nil pending in
-    rw whole at (wanted [] (rw whole few))
-
 -- what is known of bytes stays so where more follow
-pub wait_more : (pending got : List ℕ) (wait : Wait) → IsWait pending wait → IsWait (pending ++ got) wait
-wait_more pending got (waits.Line scanned) known = omega (arith, line_length-grows pending got, known)
-wait_more pending got (waits.Request bytes) known =
-    λ more few. rw append_assoc (known (got ++ more) (rw (← append_assoc pending got more) few))
+wait_longer : (seen more : List ℕ) (wait : Wait) → IsWait seen wait → IsWait (seen ++ more) wait
+wait_longer seen more (waits.Line scanned) known = omega (arith, line_length-grows seen more, known)
+wait_longer seen more (waits.Request id len used) known =
+    let same = line_length-append seen more known.whole in
+    record {
+      line = rw same known.line;
+      short = rw same known.short;
+      whole = omega (arith, same, length-append seen more, known.whole);
+      meaning = rw (same, take-append-le (line_length seen) seen more (omega (arith, known.whole))) known.meaning;
+    }
+
+-- under the limit too
+pub wait_more : (room : ℕ) (pending got : List ℕ) (wait : Wait) → IsWait (take room pending) wait → IsWait (take room (pending ++ got)) wait
+wait_more room pending got wait known = elim (cases_lt room (length pending)) [
+  | inl beyond ↦ rw (take-append-le room pending got (omega arith)) known
+  | inr all ↦
+      let split : length pending + (room - length pending) ≡ room = omega arith in
+      let longer : take room (pending ++ got) ≡ pending ++ take (room - length pending) got =
+      ap (λ n. take n (pending ++ got)) (sym split) ∙ take-append-add pending got (room - length pending) in
+      rw longer (wait_longer pending (take (room - length pending) got) wait (rw (take_all room pending all) at known))
+]
+
+-- what is known where a piece is undecided
+pub wait_of : (next : Continuation) (seen : List ℕ) (p : Piece) (wait : Wait) → p ≡ pieces.Undecided wait → (next ≡ Open → KnowsWait seen p) → piece_beginning p ≡ beginning_of next seen → IsWait seen wait
+wait_of next seen p wait is known begins =
+    let undecided : beginning_of next seen ≡ Undecided = sym begins ∙ ap piece_beginning is in
+    let is_open : next ≡ Open = subst (Takes next (length seen)) undecided (takes next seen) in
+    rw is at (known is_open)

@@ -31,20 +31,8 @@ pub(crate) enum Tail {
 pub(crate) enum Wait {
     /// No LF is among the first `scanned` of them.
     Line { scanned: usize },
-    /// Fewer than `bytes` decide nothing, since a request is among them.
-    Request { bytes: usize },
-}
-
-impl Wait {
-    /// Where the search for the first LF begins.
-    fn search_start(self) -> usize
-        ensures { (seen : List ℕ) → IsWait seen self → result ≤ line_length seen }
-    {
-        match self {
-            Wait::Line { scanned } => scanned,
-            Wait::Request { .. } => 0,
-        }
-    }
+    /// The first line, of `used` bytes with its LF, announces a request of `len` bytes.
+    Request { id: u32, len: u32, used: usize },
 }
 
 /// What the bytes of a record begin with.
@@ -64,6 +52,7 @@ pub(crate) enum Piece {
     Found { used: usize, event: Event },
 }
 
+/// A request of `bytes`, which takes `used` bytes of the record with its line.
 fn request(alloc: Global, used: usize, id: u32, bytes: &[u8]) -> Result<Piece, NoMemory>
     ensures { IfOk result (λ p. p ≡ Piece.Found used (Event.Req id bytes.now)) }
 {
@@ -74,7 +63,7 @@ fn request(alloc: Global, used: usize, id: u32, bytes: &[u8]) -> Result<Piece, N
     })
 }
 
-/// The request of `len` bytes after a line of `used` bytes, which `rest` follows.
+/// The request of `len` bytes that a line of `used` bytes announces, which `rest` follows.
 #[tactic(auto, unfolding(crate::specs::Beginning::request_beginning))]
 fn read_request(
     alloc: Global,
@@ -84,30 +73,28 @@ fn read_request(
     used: usize,
     rest: &[u8],
 ) -> Result<Piece, NoMemory>
-    requires { used + length rest.now < 2 ^ 63 }
+    requires { used + length rest.now < 2 ^ 64 }
     ensures ok { IfOk result (λ p.
         piece_beginning p ≡ request_beginning (continuation tail) id len used rest.now) }
     ensures wait { IfOk result (λ p. WantsRequest p (Ok (Announces id len)) used) }
     ensures err { OnErr result (IsFound
         (request_beginning (continuation tail) id len used rest.now)) }
 {
-    let len = len as usize;
-    if len < rest.len() {
-        if rest[len] != b'\n' {
+    let end = len as usize;
+    if end < rest.len() {
+        if rest[end] != b'\n' {
             return Ok(Piece::Fault {
-                skip: used + len,
+                skip: used + end,
                 refusal: RecordRefusal::BadLine,
             });
         }
-        let (bytes, _) = rest.split_at(len);
-        return request(alloc, used + len + 1, id, bytes);
+        let (bytes, _) = rest.split_at(end);
+        return request(alloc, used + end + 1, id, bytes);
     }
     match tail {
-        Tail::Open => Ok(Piece::Undecided(Wait::Request {
-            bytes: used + len + 1,
-        })),
+        Tail::Open => Ok(Piece::Undecided(Wait::Request { id, len, used })),
         Tail::Beyond => Ok(Piece::TooLong),
-        Tail::Ends if len == rest.len() => request(alloc, used + len, id, rest),
+        Tail::Ends if end == rest.len() => request(alloc, used + end, id, rest),
         Tail::Ends => Ok(Piece::Fault {
             skip: 0,
             refusal: RecordRefusal::CutRequest,
@@ -124,7 +111,7 @@ fn line_piece(
     used: usize,
     rest: &[u8],
 ) -> Result<Piece, NoMemory>
-    requires { used + length rest.now < 2 ^ 63 }
+    requires { used + length rest.now < 2 ^ 64 }
     ensures ok { IfOk result (λ p. piece_beginning p
         ≡ line_beginning (continuation tail) (meaning_without_cr line.now) used rest.now) }
     ensures wait { IfOk result (λ p. WantsRequest p (meaning_without_cr line.now) used) }
@@ -139,7 +126,7 @@ fn line_piece(
     }
 }
 
-/// The last line, which no LF ends.
+/// What bytes begin with among which no LF is.
 fn read_last(alloc: Global, tail: Tail, bytes: &[u8]) -> Result<Piece, NoMemory>
     requires { length bytes.now ≡ line_length bytes.now }
     ensures ok { IfOk result (λ p.
@@ -181,33 +168,37 @@ fn read_first(alloc: Global, tail: Tail, bytes: &[u8], from: usize) -> Result<Pi
     line_piece(alloc, tail, line, len + 1, rest)
 }
 
-/// What the pending bytes of a record begin with, where `room` more bytes are within the limit, and
-/// `wait` is known of those that were there before. Memory is taken for an event alone.
-#[tactic(auto, using(crate::proofs::PendingLemmas::under_beyond, crate::proofs::PendingLemmas::under_ended, crate::proofs::PendingLemmas::under_open, crate::proofs::WaitLemmas::waiting))]
+/// What the bytes begin with, where `wait` is known of them. Memory is taken for an event alone.
 pub(crate) fn read_piece(
     alloc: Global,
-    pending: &[u8],
-    room: u64,
-    ended: bool,
+    tail: Tail,
+    bytes: &[u8],
     wait: Wait,
 ) -> Result<Piece, NoMemory>
-    requires { IsWait pending.now wait }
-    ensures ok { IfOk result (λ p. piece_beginning p
-        ≡ beginning_of (continuation_of ended room pending.now) (take room pending.now)) }
-    ensures wait { IfOk result (KnowsWait pending.now) }
-    ensures err { OnErr result (IsFound
-        (beginning_of (continuation_of ended room pending.now) (take room pending.now))) }
+    requires { IsWait bytes.now wait }
+    ensures ok { IfOk result (λ p. piece_beginning p ≡ beginning_of (continuation tail) bytes.now) }
+    ensures wait { continuation tail ≡ Open → IfOk result (KnowsWait bytes.now) }
+    ensures err { OnErr result (IsFound (beginning_of (continuation tail) bytes.now)) }
 {
-    let start = wait.search_start();
+    match wait {
+        Wait::Line { scanned } => read_first(alloc, tail, bytes, scanned),
+        Wait::Request { id, len, used } => {
+            let (_, rest) = bytes.split_at(used);
+            read_request(alloc, tail, id, len, used, rest)
+        }
+    }
+}
+
+/// The pending bytes that the limit leaves room for, and what follows them.
+#[tactic(auto, using(crate::proofs::WindowLemmas::take_all))]
+pub(crate) fn under_limit(pending: &[u8], room: u64, ended: bool) -> (Tail, &[u8])
+    ensures tail { continuation result.0 ≡ continuation_of ended room pending.now }
+    ensures bytes { result.1.now ≡ take room pending.now }
+{
     if pending.len() as u64 > room {
         let (within, _) = pending.split_at(room as usize);
-        return read_first(alloc, Tail::Beyond, within, start.min(within.len()));
+        return (Tail::Beyond, within);
     }
-    if ended {
-        return read_first(alloc, Tail::Ends, pending, start);
-    }
-    match wait {
-        Wait::Request { bytes } if pending.len() < bytes => Ok(Piece::Undecided(wait)),
-        _ => read_first(alloc, Tail::Open, pending, start),
-    }
+    let tail = if ended { Tail::Ends } else { Tail::Open };
+    (tail, pending)
 }

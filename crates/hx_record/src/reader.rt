@@ -9,7 +9,7 @@ ghost use Rattle.hx_record.specs.Parts.{IsFound, beginning_now, state_past};
 
 use crate::events::{Next, Placed};
 use crate::fault::RecordFault;
-use crate::piece::{Piece, Wait, read_piece};
+use crate::piece::{Piece, Wait, read_piece, under_limit};
 use crate::refusal::RecordRefusal;
 use crate::window::Window;
 use hx_outside::Source;
@@ -21,8 +21,8 @@ use std::marker::Model;
 ///
 /// Contracts see a reader as its limit on the record, how many bytes it has passed, the bytes that
 /// it took and has not passed, and whether a read found the record's end. What is left of the
-/// record is those bytes and then what the source has left, so each call of one reader is lent the same
-/// source.
+/// record is those bytes and then what the source has left, so each call of one reader is lent the
+/// same source.
 #[derive(Drop)]
 pub struct Reader {
     alloc: Global,
@@ -217,9 +217,9 @@ impl Reader {
         ensures ok { IfOk result (λ piece. piece_beginning piece ≡ beginning_now self.old) }
         ensures err { OnErr result (IsFound (beginning_now self.old)) }
     {
-        let pending = self.window.bytes();
         let room = self.limit - self.at;
-        let piece = read_piece(self.alloc, pending, room, self.ended, self.wait)?;
+        let (tail, bytes) = under_limit(self.window.bytes(), room, self.ended);
+        let piece = read_piece(self.alloc, tail, bytes, self.wait)?;
         if let Piece::Undecided(wait) = piece {
             self.wait = wait;
         }
