@@ -11,7 +11,7 @@ use Rattle.hx_record.specs.Asking.{state_after_read, state_after_reads, AreDue, 
 use Rattle.hx_record.specs.Reading.{Decides, Fills}
 use Rattle.hx_record.proofs.ReadLemmas.{SoFar, so_far_start, so_far_more, both_ends}
 
--- ---- reads, by a log that is told
+-- ---- reads, by a log that is known
 
 since_start : (log : Option Log) (P : Log → Type 0) → P [] → HoldsSince log log P
 since_start None P start = tt
@@ -50,7 +50,7 @@ gave_more [] got gave = tt
 gave_more (None ∷ reads) got gave = absurd gave
 gave_more (Some first ∷ reads) got gave = gave_more reads got gave
 
--- reads that gave, and a result that tells no failure
+-- reads that gave, and a result that is no failure
 failure_other : {A : Type 0} → (reads : Log) (result : Result A RecordFault) → result ≢ Err faults.Failed → Gave reads → FailureIsAnswered result reads
 failure_other [] result other gave = other
 failure_other (None ∷ reads) result other gave = absurd gave
@@ -89,7 +89,7 @@ asked_due : (before s now : State) (left left' : Option (List ℕ)) (reads : Log
 asked_due before s now left left' reads read b d going unknown t =
     due_more before reads read t.due (ap (λ (s : State). s.ended) t.same ∙ sym d.ended ∙ going) (ap decided_items_now t.same ∙ unknown_before before s now left left' b d going unknown)
 
--- a read that gave bytes or told the end
+-- a read that gave bytes or found the end
 after_got : (before s after : State) (took got : List ℕ) → s.ended ≡ false → (after.ended ≡ false → 0 < length got) → (after.ended ≡ true → got ≡ [])
     → state_after_read (record before { pending = before.pending ++ took; ended = s.ended }) (Some got) ≡ record before { pending = before.pending ++ (took ++ got); ended = after.ended }
 after_got before s after took got going some none = at_end after.ended refl where

@@ -13,7 +13,6 @@ use Rattle.hx_record.specs.State.{State, MayFollow, items_after, decided_items_n
 use Rattle.hx_record.specs.Reading.{Decides, HasEvent}
 use Rattle.hx_record.specs.Parts.{IsFound, beginning_now, state_past}
 use Rattle.hx_record.proofs.PieceLemmas.{Takes}
-use Rattle.hx_record.proofs.PendingLemmas.{undecided_open}
 use Rattle.hx_record.proofs.StateLemmas.{now_takes, now_decided, skip_passes, found_passes, undecided_now, skip_after, found_after, finish_after, fault_after, long_after}
 
 -- lines that say nothing were passed, and the items are the same, whatever follows
@@ -129,9 +128,16 @@ found_event s found = rw (now_decided s) (has_event s.limit (beginning_now s) s.
 
 -- undecided bytes have no end after them, and are within the limit
 pub undecided_now_open : (s : State) → beginning_now s ≡ Undecided → (s.ended ≡ false) × (length s.pending ≤ s.limit - s.at)
-undecided_now_open s e =
-    let is_open = undecided_open s.ended (s.limit - s.at) s.pending e in
-    (is_open.0, is_open.1)
+undecided_now_open s e = at_open s.ended (subst (Takes (continuation_of s.ended (s.limit - s.at) s.pending) (length (take (s.limit - s.at) s.pending))) e (now_takes s)) where
+  at_open : (ended : Bool) → continuation_of ended (s.limit - s.at) s.pending ≡ Open → (ended ≡ false) × (length s.pending ≤ s.limit - s.at)
+  at_open true h = elim (cases_lt (s.limit - s.at) (length s.pending)) [
+    | inl beyond ↦ let other : Beyond ≡ Open = rw (lt-ltb (s.limit - s.at) (length s.pending) beyond) at h in cc
+    | inr all ↦ let other : Ends ≡ Open = rw (le-ltb (s.limit - s.at) (length s.pending) all) at h in cc
+  ]
+  at_open false h = elim (cases_lt (s.limit - s.at) (length s.pending)) [
+    | inl beyond ↦ let other : Beyond ≡ Open = rw (lt-ltb (s.limit - s.at) (length s.pending) beyond) at h in cc
+    | inr all ↦ (refl, all)
+  ]
 
 pub undecided_known : (s : State) → beginning_now s ≡ Undecided → (s.ended ≡ false) × (decided_items_now s ≡ Unknown)
 undecided_known s e = ((undecided_now_open s e).0, undecided_now s e)

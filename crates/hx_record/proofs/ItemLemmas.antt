@@ -17,7 +17,7 @@ items_skip : (limit : ℕ) (tail : Continuation) (bytes : List ℕ) (at skip : �
 items_skip limit tail bytes at zero h = rw (add-zero at) refl
 items_skip limit tail [] at (suc skip) h = absurd (omega arith)
 items_skip limit tail (b ∷ bs) at (suc skip) h =
-    items_one_past limit tail b bs at skip ∙ items_skip limit tail bs (at + 1) skip (omega arith) ∙ ap (λ place. items limit tail (drop skip bs) place 0) (omega arith)
+    items_one_past limit tail b bs at skip ∙ items_skip limit tail bs (at + 1) skip (omega arith) ∙ ap (λ offset. items limit tail (drop skip bs) offset 0) (omega arith)
 
 -- what follows a piece counts only at the bytes that a piece takes
 follow_same : (limit : ℕ) (tail : Continuation) (n : ℕ) (p : Beginning) (at : ℕ) (f g : ℕ → Items) → Takes tail n p → ((used : ℕ) → 0 < used → used ≤ n → f used ≡ g used) → items_of_beginning limit p at f ≡ items_of_beginning limit p at g
@@ -37,10 +37,10 @@ items_step limit tail (b ∷ bs) at = follow_same limit tail (length (b ∷ bs))
   past zero some fits = absurd (omega arith)
   past (suc k) some fits =
       let less : suc k - 1 ≡ k = omega arith in
-      ap (λ n. items limit tail bs (at + 1) n) less ∙ items_skip limit tail bs (at + 1) k (omega arith) ∙ ap (λ place. items limit tail (drop k bs) place 0) (omega arith)
+      ap (λ n. items limit tail bs (at + 1) n) less ∙ items_skip limit tail bs (at + 1) k (omega arith) ∙ ap (λ offset. items limit tail (drop k bs) offset 0) (omega arith)
 
--- what follows the prefix of a record that the limit leaves room for follows the rest of
--- that front too
+-- what follows the prefix of a record that the limit leaves room for follows the rest of that prefix
+-- too
 continuation_of-drop : (ends : Bool) (room used : ℕ) (bytes : List ℕ) → used ≤ room → used ≤ length bytes → continuation_of ends (room - used) (drop used bytes) ≡ continuation_of ends room bytes
 continuation_of-drop ends room used bytes within inside =
     let rest : length (drop used bytes) ≡ length bytes - used = length-drop used bytes in
@@ -59,9 +59,9 @@ pub rest_step : (ends : Bool) (at : ℕ) (bytes : List ℕ) (limit : ℕ) → it
 unfolding items_from
 rest_step ends at bytes limit =
     let room = limit - at in
-    let front = take room bytes in
+    let prefix = take room bytes in
     let tail = continuation_of ends room bytes in
-    items_step limit tail front at ∙ follow_same limit tail (length front) (beginning_of tail front) at _ _ (takes tail front) (λ used some fits.
+    items_step limit tail prefix at ∙ follow_same limit tail (length prefix) (beginning_of tail prefix) at _ _ (takes tail prefix) (λ used some fits.
     let size = length-take room bytes in
     let within : used ≤ room = omega arith in
     let inside : used ≤ length bytes = omega arith in

@@ -2,9 +2,8 @@ pub mod FindLemmas
 pub mod WordLemmas
 pub mod PieceLemmas
 pub mod ItemLemmas
-pub mod WaitLemmas
-pub mod PendingLemmas
 pub mod WindowLemmas
+pub mod WaitLemmas
 pub mod StateLemmas
 pub mod DecisionLemmas
 pub mod ReadLemmas

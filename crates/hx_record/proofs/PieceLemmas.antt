@@ -9,7 +9,7 @@ use Rattle.std.proofs.lemmas.List.Folds.{prefix_len-append}
 use Rattle.memchr.specs.Find.{is_byte}
 use Rattle.hx_record.specs.declared.refusal.RecordRefusal.{RecordRefusal}
 use Rattle.hx_record.specs.declared.refusal.RecordRefusal.TheVariants as refusals
-use Rattle.hx_record.specs.Beginning.{Continuation, Ends, Beyond, Open, Beginning, Undecided, TooLong, Finish, Fault, Skip, Found, beginning_at, request_beginning, line_beginning, line_length, last_line_beginning, beginning_of}
+use Rattle.hx_record.specs.Beginning.{Continuation, Ends, Beyond, Open, Beginning, Undecided, TooLong, Finish, Fault, Skip, Found, beginning_at, request_beginning, line_beginning, line_length, meaning_without_cr, last_line_beginning, beginning_of}
 use Rattle.hx_record.specs.Line.{LineMeaning, Nothing, Says, Announces, line_meaning}
 
 -- ---- the three ways in which the definition computes
@@ -27,9 +27,9 @@ unfolding beginning_of
 piece_last tail bytes short all = rw (le-ltb 65536 (line_length bytes) short, le-ltb (line_length bytes) (length bytes) all) refl
 
 -- the first line, cut off as the code does
-pub line_first : (tail : Continuation) (bytes : List ℕ) (len : ℕ) (line : Result LineMeaning RecordRefusal) (rest : List ℕ) → len ≡ line_length bytes → len ≤ 65536 → len < length bytes → line ≡ line_meaning (strip_last 13 (take len bytes)) → rest ≡ drop 1 (drop len bytes) → line_beginning tail line (len + 1) rest ≡ beginning_of tail bytes
-line_first tail bytes len line rest first short inside says after_it =
-    rw (piece_whole tail bytes (omega arith) (omega arith), says, after_it, drop-drop, first) refl
+pub line_first : (tail : Continuation) (bytes : List ℕ) (len : ℕ) (line rest : List ℕ) → len ≡ line_length bytes → len ≤ 65536 → len < length bytes → line ≡ take len bytes → rest ≡ drop 1 (drop len bytes) → line_beginning tail (meaning_without_cr line) (len + 1) rest ≡ beginning_of tail bytes
+line_first tail bytes len line rest first short inside cut after_it =
+    rw (piece_whole tail bytes (omega arith) (omega arith), cut, after_it, drop-drop, first) refl
 
 -- ---- what a piece takes of so many bytes, and which piece needs which tail
 

@@ -47,7 +47,7 @@ within s used h =
     let size = length-take (s.limit - s.at) s.pending in
     let some = h.0 in
     let fits = h.1 in
-    (some, omega arith, λ place. omega arith)
+    (some, omega arith, λ inside. omega arith)
 
 pub skip_passes : (s : State) (used : ℕ) → beginning_now s ≡ Skip used → Passes s used
 skip_passes s used e = within s used (subst (Takes _ _) e (now_takes s))
@@ -56,7 +56,7 @@ pub found_passes : (s : State) (used : ℕ) (event : Event) → beginning_now s 
 found_passes s used event e = within s used (subst (Takes _ _) e (now_takes s))
 
 pub fault_within : (s : State) (skip : ℕ) (refusal : RecordRefusal) → beginning_now s ≡ Fault skip refusal → s.at ≤ s.limit → s.at + skip ≤ s.limit
-fault_within s skip refusal e place =
+fault_within s skip refusal e inside =
     let size = length-take (s.limit - s.at) s.pending in
     let fits : skip ≤ length (take (s.limit - s.at) s.pending) = subst (Takes _ _) e (now_takes s) in
     omega arith

@@ -12,7 +12,7 @@ take_all room bytes all =
     let long : take (length bytes + (room - length bytes)) (bytes ++ []) ≡ bytes ++ take (room - length bytes) [] = take-append-add bytes [] (room - length bytes) in
     grind (arith, append-nil)
 
--- bytes that were moved to the front
+-- bytes that were moved to the start
 pub moved : (old new : List ℕ) (start end : ℕ) → start ≤ end → end ≤ length old → new ≡ copy_within old start end 0 → take (end - start) new ≡ drop start (take end old)
 moved old new start end order inside copied =
     let n = end - start in

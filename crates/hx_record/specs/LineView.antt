@@ -1,24 +1,25 @@
 -- What the code reads in a line, in the words of the definitions.
 use Rattle.std.specs.Prelude.{◌≡◌, ℕ, List, [], ◌∷◌, Option, Some, None, Result, Ok, Err}
 use Rattle.hx_record.specs.Line.{LineMeaning, Nothing, Says, Announces, line_words}
-use Rattle.hx_record.specs.declared.events.Event.TheVariants as events
 use Rattle.hx_record.specs.declared.refusal.RecordRefusal.{RecordRefusal}
 use Rattle.hx_record.specs.declared.line.Line.{Line}
 use Rattle.hx_record.specs.declared.line.Line.TheVariants as lines
 
 -- what a line says that was read
 abbrev pub meaning_read : Line → LineMeaning
-meaning_read lines.Skip = Nothing
-meaning_read (lines.Conn id src src_port dst dst_port) =
-    Says (events.Conn id src src_port dst dst_port)
-meaning_read (lines.Req id len) = Announces id len
-meaning_read (lines.Close id) = Says (events.Close id)
-meaning_read (lines.Cli session text) = Says (events.Cli session text.now)
+meaning_read lines.Nothing = Nothing
+meaning_read (lines.Event event) = Says event
+meaning_read (lines.Request id len) = Announces id len
 
 -- the same, where the line is no line of a record
 abbrev pub result_meaning : Result Line RecordRefusal → Result LineMeaning RecordRefusal
 result_meaning (Ok line) = Ok (meaning_read line)
 result_meaning (Err refusal) = Err refusal
+
+-- a line that says an event
+abbrev pub SaysEvent : Result LineMeaning RecordRefusal → Type 0
+SaysEvent (Ok (Says event)) = Unit {0}
+SaysEvent _ = ⊥
 
 -- the words of what follows a space, and none where no space is there
 abbrev pub words_after : Option (List ℕ) → List (List ℕ)

@@ -1,8 +1,8 @@
 -- What the parts of a reader do.
-use Rattle.std.specs.Prelude.{◌≡◌, ℕ, ◌+◌, ◌<◌, List, ◌++◌, length, drop, Option, Some}
+use Rattle.std.specs.Prelude.{◌≡◌, ℕ, ◌+◌, List, ◌++◌, length, drop, Option, Some}
 use Rattle.std.specs.Io.KnownBytes.{Consumes, IsAtEnd}
 use Rattle.hx_outside.specs.Log.{Log, Logs}
-use Rattle.hx_record.specs.Beginning.{Open, Beginning, Undecided, Found, beginning_of}
+use Rattle.hx_record.specs.Beginning.{Beginning, Found}
 use Rattle.hx_record.specs.Record.{beginning_under}
 use Rattle.hx_record.specs.State.{State}
 
@@ -10,11 +10,6 @@ use Rattle.hx_record.specs.State.{State}
 abbrev pub IsFound : Beginning → Type 0
 IsFound (Found used event) = Unit {0}
 IsFound _ = ⊥
-
--- While there are fewer bytes than `wait`, of which these are a prefix, nothing is decided.
-abbrev pub IsWait : List ℕ → ℕ → Type 0
-IsWait bytes wait = (more : List ℕ) → length (bytes ++ more) < wait
-    → beginning_of Open (bytes ++ more) ≡ Undecided
 
 -- what the pending bytes begin with
 abbrev pub beginning_now : State → Beginning

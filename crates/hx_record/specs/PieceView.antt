@@ -1,6 +1,11 @@
 -- What the code finds in the pending bytes, in the words of the definitions.
-use Rattle.hx_record.specs.Beginning.{Continuation, Beginning}
+use Rattle.std.specs.Prelude.{◌≡◌, ℕ, ◌+◌, ◌<◌, ◌≤◌, List, length, take, Result, Ok, ⊤}
+use Rattle.hx_record.specs.Beginning.{Continuation, Beginning, line_length, meaning_without_cr}
 use Rattle.hx_record.specs.Beginning as beginnings
+use Rattle.hx_record.specs.Line.{LineMeaning, Announces}
+use Rattle.hx_record.specs.declared.refusal.RecordRefusal.{RecordRefusal}
+use Rattle.hx_record.specs.declared.piece.Wait.{Wait}
+use Rattle.hx_record.specs.declared.piece.Wait.TheVariants as waits
 use Rattle.hx_record.specs.declared.piece.Tail.{Tail}
 use Rattle.hx_record.specs.declared.piece.Tail.TheVariants as tails
 use Rattle.hx_record.specs.declared.piece.Piece.{Piece}
@@ -12,9 +17,33 @@ continuation tails.Beyond = beginnings.Beyond
 continuation tails.Open = beginnings.Open
 
 abbrev pub piece_beginning : Piece → Beginning
-piece_beginning pieces.Undecided = beginnings.Undecided
+piece_beginning (pieces.Undecided wait) = beginnings.Undecided
 piece_beginning pieces.TooLong = beginnings.TooLong
 piece_beginning pieces.Finish = beginnings.Finish
 piece_beginning (pieces.Fault skip refusal) = beginnings.Fault skip refusal
 piece_beginning (pieces.Skip used) = beginnings.Skip used
 piece_beginning (pieces.Found used event) = beginnings.Found used event
+
+-- the first line, of `used` bytes with its LF, announces a request
+pub record AnnouncesRequest (seen : List ℕ) (id len used : ℕ) : Type 0 where
+  pub line : used ≡ line_length seen + 1
+  pub short : line_length seen ≤ 65536
+  pub whole : line_length seen < length seen
+  pub meaning : meaning_without_cr (take (line_length seen) seen) ≡ Ok (Announces id len)
+
+-- What is known of bytes that decide nothing: no LF is among the first `scanned` of them, or they
+-- begin with a line that announces a request.
+abbrev pub IsWait : List ℕ → Wait → Type 0
+IsWait seen (waits.Line scanned) = scanned ≤ line_length seen
+IsWait seen (waits.Request id len used) = AnnouncesRequest seen id len used
+
+-- where the bytes decide nothing, that is known of them
+abbrev pub KnowsWait : List ℕ → Piece → Type 0
+KnowsWait seen (pieces.Undecided wait) = IsWait seen wait
+KnowsWait seen _ = ⊤
+
+-- where a line of `used` bytes leaves it undecided, the line announces a request
+abbrev pub WantsRequest : Piece → Result LineMeaning RecordRefusal → ℕ → Type 0
+WantsRequest (pieces.Undecided wait) (Ok (Announces id len)) used = wait ≡ waits.Request id len used
+WantsRequest (pieces.Undecided wait) _ used = ⊥
+WantsRequest _ meaning used = ⊤

@@ -8,9 +8,9 @@ use thiserror::Error;
 pub enum RecordFault {
     /// The record is refused at this offset, with the code of a `RecordRefusal`: 1, an unknown
     /// first word, a wrong number of words, an address that can't be read, or a byte other than LF
-    /// after a request; 2, a number
-    /// that isn't digits or is above its limit; 3, a request that the record's end cuts; 4, a
-    /// record longer than the reader's limit; 5, a line of more than 65,536 bytes.
+    /// after a request; 2, a number that isn't digits or is above its limit; 3, a request that the
+    /// record's end cuts; 4, a record longer than the reader's limit; 5, a line of more than 65,536
+    /// bytes.
     #[error("the record is refused at byte {offset} with code {code}")]
     Bad { offset: u64, code: u32 },
     /// The source failed. Its count of faults rose in this call.

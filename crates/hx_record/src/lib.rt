@@ -11,9 +11,9 @@
 //!
 //! Numbers are decimal digits: ID and SESSION have 32 bits, ports 16, and LEN is 1,048,576 at most.
 //! A line has 65,536 bytes at most before its LF. `RecordFault` has the codes of refusals. Of
-//! several faults in a line, its length comes before its first word and the number of its words, and those
-//! before its other words, the leftmost first. A record is too long where the byte at the reader's
-//! limit is there and the bytes before it don't settle what comes next.
+//! several faults in a line, its length comes before its first word and the number of its words,
+//! and those before its other words, the leftmost first. A record is too long where the byte at the
+//! reader's limit is there and the bytes before it don't settle what comes next.
 //!
 //! ```text
 //! let mut reader = Reader::new(rt.alloc(), 1 << 32);

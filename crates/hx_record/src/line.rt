@@ -1,41 +1,26 @@
-ghost use Rattle.std.specs.Prelude.{◌≡◌, [], ◌∷◌, MatchResult, IfOk, ◌≤◌, ◌-◌, ◌^◌};
+ghost use Rattle.std.specs.Prelude.{◌≡◌, [], ◌∷◌, Ok, Err, MatchResult, IfOk, OnErr, ◌≤◌, ◌-◌, ◌^◌};
 ghost use Rattle.std.specs.Option.{option_copied};
-ghost use Rattle.hx_record.specs.Line.{line_words, number_of_word, address_of_word, line_meaning, words_meaning, conn_meaning, req_meaning, close_meaning, cli_meaning};
-ghost use Rattle.hx_record.specs.LineView.{result_meaning, words_after, IsSomeWords};
+ghost use Rattle.hx_record.specs.Line.{Says, line_words, number_of_word, address_of_word, line_meaning, conn_meaning, req_meaning, close_meaning, cli_meaning};
+ghost use Rattle.hx_record.specs.declared.events.Event.TheVariants.{Cli};
+ghost use Rattle.hx_record.specs.LineView.{result_meaning, words_after, IsSomeWords, SaysEvent};
 
+use crate::events::Event;
 use crate::refusal::RecordRefusal;
-use hx_text::{Ip, cut_at, read_ip, read_number};
+use hx_text::{Ip, NoMemory, Octets, cut_at, read_ip, read_number};
+use std::alloc::Global;
 
 /// How many bytes a request has at most.
 const REQUEST_MAX: u32 = 1_048_576;
 
 /// What one line says.
-#[derive(Clone, Copy)]
-pub(crate) enum Line<'a> {
+#[derive(Drop)]
+pub(crate) enum Line {
     /// Nothing.
-    Skip,
-    /// A connection opens.
-    Conn {
-        id: u32,
-        src: Ip,
-        src_port: u16,
-        dst: Ip,
-        dst_port: u16,
-    },
+    Nothing,
+    /// An event.
+    Event(Event),
     /// The `len` bytes after the line are a request.
-    Req {
-        id: u32,
-        len: u32,
-    },
-    /// A connection closes.
-    Close {
-        id: u32,
-    },
-    /// A line of management.
-    Cli {
-        session: u32,
-        text: &'a [u8],
-    },
+    Request { id: u32, len: u32 },
 }
 
 fn number(word: &[u8], most: u32) -> Result<u32, RecordRefusal>
@@ -97,7 +82,7 @@ fn no_word(rest: Option<&[u8]>) -> Result<(), RecordRefusal>
 }
 
 #[tactic(auto, unfolding(crate::specs::Line::conn_meaning))]
-fn read_conn(rest: Option<&[u8]>) -> Result<Line<'_>, RecordRefusal>
+fn read_conn(rest: Option<&[u8]>) -> Result<Line, RecordRefusal>
     ensures { result_meaning result ≡ conn_meaning (words_after (option_copied rest.entry)) }
 {
     let (id, rest) = word(rest)?;
@@ -111,17 +96,17 @@ fn read_conn(rest: Option<&[u8]>) -> Result<Line<'_>, RecordRefusal>
     let src_port = port(src_port)?;
     let dst = address(dst)?;
     let dst_port = port(dst_port)?;
-    Ok(Line::Conn {
+    Ok(Line::Event(Event::Conn {
         id,
         src,
         src_port,
         dst,
         dst_port,
-    })
+    }))
 }
 
 #[tactic(auto, unfolding(crate::specs::Line::req_meaning))]
-fn read_req(rest: Option<&[u8]>) -> Result<Line<'_>, RecordRefusal>
+fn read_req(rest: Option<&[u8]>) -> Result<Line, RecordRefusal>
     ensures { result_meaning result ≡ req_meaning (words_after (option_copied rest.entry)) }
 {
     let (id, rest) = word(rest)?;
@@ -129,56 +114,65 @@ fn read_req(rest: Option<&[u8]>) -> Result<Line<'_>, RecordRefusal>
     no_word(rest)?;
     let id = number(id, u32::MAX)?;
     let len = number(len, REQUEST_MAX)?;
-    Ok(Line::Req { id, len })
+    Ok(Line::Request { id, len })
 }
 
 #[tactic(auto, unfolding(crate::specs::Line::close_meaning))]
-fn read_close(rest: Option<&[u8]>) -> Result<Line<'_>, RecordRefusal>
+fn read_close(rest: Option<&[u8]>) -> Result<Line, RecordRefusal>
     ensures { result_meaning result ≡ close_meaning (words_after (option_copied rest.entry)) }
 {
     let (id, rest) = word(rest)?;
     no_word(rest)?;
     let id = number(id, u32::MAX)?;
-    Ok(Line::Close { id })
+    Ok(Line::Event(Event::Close { id }))
 }
 
+/// The session and the text of a line of management.
 #[tactic(auto, unfolding(crate::specs::Line::cli_meaning), using(crate::proofs::WordLemmas::words_joined))]
-fn read_cli(rest: Option<&[u8]>) -> Result<Line<'_>, RecordRefusal>
-    ensures { result_meaning result ≡ cli_meaning (words_after (option_copied rest.entry)) }
+fn cli_words(rest: Option<&[u8]>) -> Result<(u32, &[u8]), RecordRefusal>
+    ensures { MatchResult result
+        (λ p. cli_meaning (words_after (option_copied rest.entry)) ≡ Ok (Says (Cli p.0 p.1.now)))
+        (λ refusal. cli_meaning (words_after (option_copied rest.entry)) ≡ Err refusal) }
 {
     let (session, text) = word(rest)?;
     let session = number(session, u32::MAX)?;
-    Ok(Line::Cli {
-        session,
-        text: text.unwrap_or(b""),
-    })
+    Ok((session, text.unwrap_or(b"")))
 }
 
-#[tactic(auto, unfolding(crate::specs::Line::words_meaning))]
-fn read_words(line: &[u8]) -> Result<Line<'_>, RecordRefusal>
-    ensures { result_meaning result ≡ words_meaning (line_words line.now) }
+fn read_cli(alloc: Global, rest: Option<&[u8]>) -> Result<Result<Line, RecordRefusal>, NoMemory>
+    ensures ok { IfOk result (λ read.
+        result_meaning read ≡ cli_meaning (words_after (option_copied rest.entry))) }
+    ensures err { OnErr result (SaysEvent
+        (cli_meaning (words_after (option_copied rest.entry)))) }
 {
-    let (name, rest) = cut(line);
-    if name == b"conn".as_slice() {
-        read_conn(rest)
-    } else if name == b"req".as_slice() {
-        read_req(rest)
-    } else if name == b"close".as_slice() {
-        read_close(rest)
-    } else if name == b"cli".as_slice() {
-        read_cli(rest)
-    } else {
-        Err(RecordRefusal::BadLine)
+    match cli_words(rest) {
+        Ok((session, text)) => {
+            let text = Octets::copy(alloc, text)?;
+            Ok(Ok(Line::Event(Event::Cli { session, text })))
+        }
+        Err(refusal) => Ok(Err(refusal)),
     }
 }
 
-/// What a line says, which is given without its ending.
-#[tactic(auto, unfolding(crate::specs::Line::line_meaning))]
-pub(crate) fn read_line(line: &[u8]) -> Result<Line<'_>, RecordRefusal>
-    ensures { result_meaning result ≡ line_meaning line.now }
+/// What a line says, which is given without its ending. Memory is taken for an event alone.
+#[tactic(auto, unfolding(crate::specs::Line::line_meaning, crate::specs::Line::words_meaning))]
+pub(crate) fn read_line(alloc: Global, line: &[u8]) -> Result<Result<Line, RecordRefusal>, NoMemory>
+    ensures ok { IfOk result (λ read. result_meaning read ≡ line_meaning line.now) }
+    ensures err { OnErr result (SaysEvent (line_meaning line.now)) }
 {
-    match line {
-        [] | [b'#', ..] => Ok(Line::Skip),
-        _ => read_words(line),
+    if let [] | [b'#', ..] = line {
+        return Ok(Ok(Line::Nothing));
+    }
+    let (name, rest) = cut(line);
+    if name == b"conn".as_slice() {
+        Ok(read_conn(rest))
+    } else if name == b"req".as_slice() {
+        Ok(read_req(rest))
+    } else if name == b"close".as_slice() {
+        Ok(read_close(rest))
+    } else if name == b"cli".as_slice() {
+        read_cli(alloc, rest)
+    } else {
+        Ok(Err(RecordRefusal::BadLine))
     }
 }

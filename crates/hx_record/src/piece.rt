@@ -1,9 +1,9 @@
-ghost use Rattle.std.specs.Prelude.{◌≡◌, ◌+◌, ◌^◌, ◌<◌, ◌≤◌, length, take, IfOk, OnErr};
-ghost use Rattle.hx_record.specs.Beginning.{beginning_at, request_beginning, line_beginning, last_line_beginning, line_length, beginning_of, Open, Undecided};
+ghost use Rattle.std.specs.Prelude.{◌≡◌, ℕ, ◌+◌, ◌^◌, ◌<◌, ◌≤◌, List, length, take, IfOk, OnErr, Ok};
+ghost use Rattle.hx_record.specs.Beginning.{beginning_at, request_beginning, line_beginning, last_line_beginning, meaning_without_cr, line_length, beginning_of, Open};
 ghost use Rattle.hx_record.specs.Record.{continuation_of};
-ghost use Rattle.hx_record.specs.LineView.{result_meaning};
-ghost use Rattle.hx_record.specs.PieceView.{continuation, piece_beginning};
-ghost use Rattle.hx_record.specs.Parts.{IsFound, IsWait};
+ghost use Rattle.hx_record.specs.Line.{Announces};
+ghost use Rattle.hx_record.specs.PieceView.{continuation, piece_beginning, IsWait, KnowsWait, WantsRequest};
+ghost use Rattle.hx_record.specs.Parts.{IsFound};
 
 use crate::events::Event;
 use crate::find::first_at;
@@ -26,11 +26,20 @@ pub(crate) enum Tail {
     Open,
 }
 
+/// What is known of bytes that decide nothing.
+#[derive(Clone, Copy)]
+pub(crate) enum Wait {
+    /// No LF is among the first `scanned` of them.
+    Line { scanned: usize },
+    /// The first line, of `used` bytes with its LF, announces a request of `len` bytes.
+    Request { id: u32, len: u32, used: usize },
+}
+
 /// What the bytes of a record begin with.
 #[derive(Drop)]
 pub(crate) enum Piece {
     /// More bytes decide it.
-    Undecided,
+    Undecided(Wait),
     /// The byte at the limit is needed, and is there.
     TooLong,
     /// Nothing: the record ends.
@@ -43,8 +52,8 @@ pub(crate) enum Piece {
     Found { used: usize, event: Event },
 }
 
-/// A request of so many bytes of the record.
-fn found(alloc: Global, used: usize, id: u32, bytes: &[u8]) -> Result<Piece, NoMemory>
+/// A request of `bytes`, which takes `used` bytes of the record with its line.
+fn request(alloc: Global, used: usize, id: u32, bytes: &[u8]) -> Result<Piece, NoMemory>
     ensures { IfOk result (λ p. p ≡ Piece.Found used (Event.Req id bytes.now)) }
 {
     let bytes = Octets::copy(alloc, bytes)?;
@@ -54,36 +63,38 @@ fn found(alloc: Global, used: usize, id: u32, bytes: &[u8]) -> Result<Piece, NoM
     })
 }
 
-/// The request of `len` bytes after a line of `used` bytes, which `rest` follows.
+/// The request of `len` bytes that a line of `used` bytes announces, which `rest` follows.
 #[tactic(auto, unfolding(crate::specs::Beginning::request_beginning))]
 fn read_request(
     alloc: Global,
     tail: Tail,
     id: u32,
-    len: usize,
+    len: u32,
     used: usize,
     rest: &[u8],
 ) -> Result<Piece, NoMemory>
     requires { used + length rest.now < 2 ^ 64 }
     ensures ok { IfOk result (λ p.
         piece_beginning p ≡ request_beginning (continuation tail) id len used rest.now) }
+    ensures wait { IfOk result (λ p. WantsRequest p (Ok (Announces id len)) used) }
     ensures err { OnErr result (IsFound
         (request_beginning (continuation tail) id len used rest.now)) }
 {
-    if len < rest.len() {
-        if rest[len] != b'\n' {
+    let end = len as usize;
+    if end < rest.len() {
+        if rest[end] != b'\n' {
             return Ok(Piece::Fault {
-                skip: used + len,
+                skip: used + end,
                 refusal: RecordRefusal::BadLine,
             });
         }
-        let (bytes, _) = rest.split_at(len);
-        return found(alloc, used + len + 1, id, bytes);
+        let (bytes, _) = rest.split_at(end);
+        return request(alloc, used + end + 1, id, bytes);
     }
     match tail {
-        Tail::Open => Ok(Piece::Undecided),
+        Tail::Open => Ok(Piece::Undecided(Wait::Request { id, len, used })),
         Tail::Beyond => Ok(Piece::TooLong),
-        Tail::Ends if len == rest.len() => found(alloc, used + len, id, rest),
+        Tail::Ends if end == rest.len() => request(alloc, used + end, id, rest),
         Tail::Ends => Ok(Piece::Fault {
             skip: 0,
             refusal: RecordRefusal::CutRequest,
@@ -92,150 +103,102 @@ fn read_request(
 }
 
 /// What a line gives that takes `used` bytes with its ending, where `rest` follows it.
+#[tactic(auto, using(crate::proofs::WaitLemmas::says_found))]
 fn line_piece(
     alloc: Global,
     tail: Tail,
-    line: Result<Line<'_>, RecordRefusal>,
+    line: &[u8],
     used: usize,
     rest: &[u8],
 ) -> Result<Piece, NoMemory>
     requires { used + length rest.now < 2 ^ 64 }
     ensures ok { IfOk result (λ p. piece_beginning p
-        ≡ line_beginning (continuation tail) (result_meaning line.entry) used rest.now) }
+        ≡ line_beginning (continuation tail) (meaning_without_cr line.now) used rest.now) }
+    ensures wait { IfOk result (λ p. WantsRequest p (meaning_without_cr line.now) used) }
     ensures err { OnErr result (IsFound
-        (line_beginning (continuation tail) (result_meaning line.entry) used rest.now)) }
+        (line_beginning (continuation tail) (meaning_without_cr line.now) used rest.now)) }
 {
-    let event = match line {
-        Err(refusal) => return Ok(Piece::Fault { skip: 0, refusal }),
-        Ok(Line::Skip) => return Ok(Piece::Skip { used }),
-        Ok(Line::Req { id, len }) => {
-            return read_request(alloc, tail, id, len as usize, used, rest);
-        }
-        Ok(
-            Line::Conn {
-                id,
-                src,
-                src_port,
-                dst,
-                dst_port,
-            },
-        ) => Event::Conn {
-            id,
-            src,
-            src_port,
-            dst,
-            dst_port,
-        },
-        Ok(Line::Close { id }) => Event::Close { id },
-        Ok(Line::Cli { session, text }) => Event::Cli {
-            session,
-            text: Octets::copy(alloc, text)?,
-        },
-    };
-    Ok(Piece::Found { used, event })
+    match read_line(alloc, without_cr(line))? {
+        Err(refusal) => Ok(Piece::Fault { skip: 0, refusal }),
+        Ok(Line::Nothing) => Ok(Piece::Skip { used }),
+        Ok(Line::Event(event)) => Ok(Piece::Found { used, event }),
+        Ok(Line::Request { id, len }) => read_request(alloc, tail, id, len, used, rest),
+    }
 }
 
+/// What bytes begin with among which no LF is.
 fn read_last(alloc: Global, tail: Tail, bytes: &[u8]) -> Result<Piece, NoMemory>
+    requires { length bytes.now ≡ line_length bytes.now }
     ensures ok { IfOk result (λ p.
         piece_beginning p ≡ beginning_at (continuation tail) (last_line_beginning bytes.now)) }
+    ensures wait { continuation tail ≡ Open → IfOk result (KnowsWait bytes.now) }
     ensures err { OnErr result (IsFound
         (beginning_at (continuation tail) (last_line_beginning bytes.now))) }
 {
     match tail {
-        Tail::Open => Ok(Piece::Undecided),
+        Tail::Open => Ok(Piece::Undecided(Wait::Line {
+            scanned: bytes.len(),
+        })),
         Tail::Beyond => Ok(Piece::TooLong),
         Tail::Ends if bytes.is_empty() => Ok(Piece::Finish),
-        Tail::Ends => {
-            let line = read_line(without_cr(bytes));
-            line_piece(alloc, Tail::Ends, line, bytes.len(), b"")
-        }
+        Tail::Ends => line_piece(alloc, Tail::Ends, bytes, bytes.len(), b""),
     }
 }
 
-/// What the bytes begin with, whose first line has `len` bytes. Memory is taken for an event
-/// alone.
+/// What the bytes begin with. No LF may stand before `from`.
 #[tactic(auto, unfolding(crate::specs::Beginning::beginning_of))]
-pub(crate) fn read_piece(
-    alloc: Global,
-    tail: Tail,
-    bytes: &[u8],
-    len: usize,
-) -> Result<Piece, NoMemory>
-    requires { len ≡ line_length bytes.now }
+fn read_first(alloc: Global, tail: Tail, bytes: &[u8], from: usize) -> Result<Piece, NoMemory>
+    requires { from ≤ line_length bytes.now }
     ensures ok { IfOk result (λ p. piece_beginning p ≡ beginning_of (continuation tail) bytes.now) }
+    ensures wait { continuation tail ≡ Open → IfOk result (KnowsWait bytes.now) }
     ensures err { OnErr result (IsFound (beginning_of (continuation tail) bytes.now)) }
 {
+    let len = first_at(b'\n', bytes, from);
     if len > LINE_MAX {
         return Ok(Piece::Fault {
             skip: 0,
             refusal: RecordRefusal::LineTooLong,
         });
     }
-    if len >= bytes.len() {
+    if len == bytes.len() {
         return read_last(alloc, tail, bytes);
     }
     let (line, after) = bytes.split_at(len);
     let (_, rest) = after.split_at(1);
-    line_piece(alloc, tail, read_line(without_cr(line)), len + 1, rest)
+    line_piece(alloc, tail, line, len + 1, rest)
 }
 
-/// How many bytes at least decide what these begin with, whose first line has `len` bytes. These
-/// don't decide it.
-#[tactic(auto, using(crate::proofs::WaitLemmas::wait_line, crate::proofs::WaitLemmas::wait_request, crate::proofs::WaitLemmas::wait_none))]
-pub(crate) fn wanted(bytes: &[u8], len: usize) -> usize
-    requires first { len ≡ line_length bytes.now }
-    requires undecided { beginning_of Open bytes.now ≡ Undecided }
-    ensures { IsWait bytes.now result }
-{
-    if len >= bytes.len() {
-        return bytes.len() + 1;
-    }
-    let (line, _) = bytes.split_at(len);
-    match read_line(without_cr(line)) {
-        Ok(Line::Req { len: more, .. }) => len + more as usize + 2,
-        _ => 0,
-    }
-}
-
-/// What the pending bytes of a record begin with, where `room` more bytes are within the limit. No
-/// LF may stand before `scanned`.
-#[tactic(auto, using(crate::proofs::PendingLemmas::under_beyond, crate::proofs::PendingLemmas::under_ended, crate::proofs::PendingLemmas::under_open, crate::proofs::PendingLemmas::waiting))]
-pub(crate) fn piece_under(
+/// What the bytes begin with, where `wait` is known of them. Memory is taken for an event alone.
+pub(crate) fn read_piece(
     alloc: Global,
-    pending: &[u8],
-    room: u64,
-    ended: bool,
-    scanned: usize,
-    wait: usize,
+    tail: Tail,
+    bytes: &[u8],
+    wait: Wait,
 ) -> Result<Piece, NoMemory>
-    requires scanned { scanned ≤ line_length pending.now }
-    requires wait { IsWait pending.now wait }
-    ensures ok { IfOk result (λ p. piece_beginning p
-        ≡ beginning_of (continuation_of ended room pending.now) (take room pending.now)) }
-    ensures err { OnErr result (IsFound
-        (beginning_of (continuation_of ended room pending.now) (take room pending.now))) }
+    requires { IsWait bytes.now wait }
+    ensures ok { IfOk result (λ p. piece_beginning p ≡ beginning_of (continuation tail) bytes.now) }
+    ensures wait { continuation tail ≡ Open → IfOk result (KnowsWait bytes.now) }
+    ensures err { OnErr result (IsFound (beginning_of (continuation tail) bytes.now)) }
+{
+    match wait {
+        Wait::Line { scanned } => read_first(alloc, tail, bytes, scanned),
+        Wait::Request { id, len, used } => {
+            let (_, rest) = bytes.split_at(used);
+            read_request(alloc, tail, id, len, used, rest)
+        }
+    }
+}
+
+/// The pending bytes that the limit leaves room for, and what follows them.
+#[tactic(auto, using(crate::proofs::WindowLemmas::take_all))]
+pub(crate) fn under_limit(pending: &[u8], room: u64, ended: bool) -> (Tail, &[u8])
+    ensures tail { continuation result.0 ≡ continuation_of ended room pending.now }
+    ensures bytes { result.1.now ≡ take room pending.now }
 {
     if pending.len() as u64 > room {
         let (within, _) = pending.split_at(room as usize);
-        let len = first_at(b'\n', within, scanned.min(within.len()));
-        return read_piece(alloc, Tail::Beyond, within, len);
-    }
-    if !ended && pending.len() < wait {
-        return Ok(Piece::Undecided);
+        return (Tail::Beyond, within);
     }
     let tail = if ended { Tail::Ends } else { Tail::Open };
-    let len = first_at(b'\n', pending, scanned);
-    read_piece(alloc, tail, pending, len)
-}
-
-/// Where the search for the LF goes on, and how many bytes at least decide something, where the
-/// pending bytes decide nothing.
-pub(crate) fn waits(pending: &[u8], scanned: usize) -> (usize, usize)
-    requires scanned { scanned ≤ line_length pending.now }
-    requires undecided { beginning_of Open pending.now ≡ Undecided }
-    ensures scanned { result.0 ≤ line_length pending.now }
-    ensures wait { IsWait pending.now result.1 }
-{
-    let len = first_at(b'\n', pending, scanned);
-    (len, wanted(pending, len))
+    (tail, pending)
 }

@@ -9,7 +9,7 @@ ghost use Rattle.hx_record.specs.Parts.{IsFound, beginning_now, state_past};
 
 use crate::events::{Next, Placed};
 use crate::fault::RecordFault;
-use crate::piece::{Piece, piece_under, waits};
+use crate::piece::{Piece, Wait, read_piece, under_limit};
 use crate::refusal::RecordRefusal;
 use crate::window::Window;
 use hx_outside::Source;
@@ -21,16 +21,15 @@ use std::marker::Model;
 ///
 /// Contracts see a reader as its limit on the record, how many bytes it has passed, the bytes that
 /// it took and has not passed, and whether a read found the record's end. What is left of the
-/// record is those bytes and then what the source has left, so each call of one reader is lent the same
-/// source.
+/// record is those bytes and then what the source has left, so each call of one reader is lent the
+/// same source.
 #[derive(Drop)]
 pub struct Reader {
     alloc: Global,
     limit: u64,
     at: u64,
     window: Window,
-    scanned: usize,
-    wait: usize,
+    wait: Wait,
     ended: bool,
 }
 
@@ -57,8 +56,7 @@ impl Reader {
             limit,
             at: 0,
             window: Window::new(alloc),
-            scanned: 0,
-            wait: 0,
+            wait: Wait::Line { scanned: 0 },
             ended: false,
         }
     }
@@ -136,7 +134,7 @@ impl Reader {
     {
         'lines: loop {
             match self.judge()? {
-                Piece::Undecided => return Ok(Next::Undecided),
+                Piece::Undecided(_) => return Ok(Next::Undecided),
                 Piece::Skip { used } => self.advance(used),
                 Piece::Found { used, event } => {
                     let offset = self.offset_past(0);
@@ -209,8 +207,7 @@ impl Reader {
         let _limit = self.limit;
         self.window.pass(used);
         self.at += used as u64;
-        self.scanned = 0;
-        self.wait = 0;
+        self.wait = Wait::Line { scanned: 0 };
     }
 
     /// What the pending bytes begin with. Memory is taken for an event alone.
@@ -220,19 +217,10 @@ impl Reader {
         ensures ok { IfOk result (λ piece. piece_beginning piece ≡ beginning_now self.old) }
         ensures err { OnErr result (IsFound (beginning_now self.old)) }
     {
-        let pending = self.window.bytes();
         let room = self.limit - self.at;
-        let piece = piece_under(
-            self.alloc,
-            pending,
-            room,
-            self.ended,
-            self.scanned,
-            self.wait,
-        )?;
-        if pending.len() >= self.wait && matches!(piece, Piece::Undecided) {
-            let (scanned, wait) = waits(pending, self.scanned);
-            self.scanned = scanned;
+        let (tail, bytes) = under_limit(self.window.bytes(), room, self.ended);
+        let piece = read_piece(self.alloc, tail, bytes, self.wait)?;
+        if let Piece::Undecided(wait) = piece {
             self.wait = wait;
         }
         Ok(piece)

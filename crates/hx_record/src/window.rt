@@ -74,8 +74,8 @@ impl Window {
     pub(crate) fn read<S: Source>(&mut self, source: &mut S) -> Result<usize, Failed>
         requires { 0 < self.old.room }
         ensures ok { IfOk result (λ count.
-            AppendsRead (S.left source.old) (S.left source.new) (S.log source.old) (S.log source.new)
-            self.old.bytes self.new.bytes count) }
+            AppendsRead (S.left source.old) (S.left source.new)
+            (S.log source.old) (S.log source.new) self.old.bytes self.new.bytes count) }
         ensures err { OnErr result (self.new.bytes ≡ self.old.bytes) }
         ensures kept { OnErr result (Keeps (S.left source.old) (S.left source.new)) }
         ensures log { OnErr result (Logs (S.log source.old) (S.log source.new) None) }

@@ -1,13 +1,12 @@
-use Rattle.std.proofs.Common.{arith, rules}
+use Rattle.std.proofs.Common.{rules}
 use Rattle.hx_record.specs.PieceView.{continuation}
-use Rattle.hx_record.specs.LineView.{result_meaning}
-use Rattle.hx_record.proofs.PieceLemmas.{line_first}
+use Rattle.hx_record.proofs.WaitLemmas.{request_first}
 use Rattle.hx_record.proofs.piece.read_piece.Goals as goal
 
-pub returns-clause-ok : goal.returns-clause-ok
-returns-clause-ok c =
-    rw (← line_first (continuation c.args.tail) c.args.bytes.now c.args.len (result_meaning c.read_line.result) c.split_at-2.result.1.now c.requires (omega arith) (omega arith) (search rules) (search rules)) c.line_piece.ensures.ok
+pub returns-in-Request-clause-ok : goal.returns-in-Request-clause-ok
+returns-in-Request-clause-ok c =
+    rw (← request_first (continuation c.args.tail) c.args.bytes.now c.in-Request.id c.in-Request.len c.in-Request.used c.split_at.result.1.now (search rules) c.split_at.ensures.back) c.read_request.ensures.ok
 
-pub returns-clause-err : goal.returns-clause-err
-returns-clause-err c =
-    rw (← line_first (continuation c.args.tail) c.args.bytes.now c.args.len (result_meaning c.read_line.result) c.split_at-2.result.1.now c.requires (omega arith) (omega arith) (search rules) (search rules)) c.line_piece.ensures.err
+pub returns-in-Request-clause-err : goal.returns-in-Request-clause-err
+returns-in-Request-clause-err c =
+    rw (← request_first (continuation c.args.tail) c.args.bytes.now c.in-Request.id c.in-Request.len c.in-Request.used c.split_at.result.1.now (search rules) c.split_at.ensures.back) c.read_request.ensures.err
