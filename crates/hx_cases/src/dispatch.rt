@@ -24,8 +24,8 @@ use std::alloc::Global;
 use std::fmt::Write;
 use std::{rt, str};
 
-/// Writes a line with its answer after ` => `: what its call answers, or why it has no answer. A line
-/// that is empty or a comment stands alone.
+/// Writes a line with its answer after ` => `: what its call answers, or why it has no answer. A
+/// line that is empty or a comment stands alone.
 pub fn answer_line<R: rt::Files>(
     rt: &R,
     alloc: Global,

@@ -7,8 +7,8 @@ use hx_text::Octets;
 use std::alloc::Global;
 use std::fmt::Write;
 
-/// `read_head BYTES`: the length of the head; the method, the target, the minor number, the path and
-/// the query; how many lines there are, and the lines.
+/// `read_head BYTES`: the length of the head; the method, the target, the minor number, the path
+/// and the query; how many lines there are, and the lines.
 pub fn read_head_case(alloc: Global, out: &mut String, args: &[Vec<u8>]) -> Result<(), CaseFault> {
     let [bytes] = args else {
         return Err(CaseFault::BadArguments);

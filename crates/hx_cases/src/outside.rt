@@ -164,8 +164,8 @@ pub fn write_all_case(alloc: Global, out: &mut String, args: &[Vec<u8>]) -> Resu
     show(out, sink.bytes())
 }
 
-/// `std_sink ROOM TEXT`: whether a writer of std with ROOM bytes of room takes the text, and the room
-/// then.
+/// `std_sink ROOM TEXT`: whether a writer of std with ROOM bytes of room takes the text, and the
+/// room then.
 pub fn std_sink_case(alloc: Global, out: &mut String, args: &[Vec<u8>]) -> Result<(), CaseFault> {
     let [room, text] = args else {
         return Err(CaseFault::BadArguments);

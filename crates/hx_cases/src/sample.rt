@@ -167,8 +167,8 @@ fn vars_step(
     }
 }
 
-/// `items NUMBER ..`: the list of the numbers: its length, its items, and those at each position and
-/// past the last.
+/// `items NUMBER ..`: the list of the numbers: its length, its items, and those at each position
+/// and past the last.
 pub fn items_case(alloc: Global, out: &mut String, args: &[Vec<u8>]) -> Result<(), CaseFault> {
     let mut items: Items<u64> = Items::new(alloc);
     for text in args {

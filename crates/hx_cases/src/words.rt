@@ -48,8 +48,8 @@ fn show_call(out: &mut String, call: &Call) -> Result<(), CaseFault> {
     Ok(out.push(')')?)
 }
 
-/// `calls STOP TEXT`, where an empty STOP is none: the number of calls, the calls, and how many bytes
-/// were read; or the code of the fault.
+/// `calls STOP TEXT`, where an empty STOP is none: the number of calls, the calls, and how many
+/// bytes were read; or the code of the fault.
 pub fn calls_case(alloc: Global, out: &mut String, args: &[Vec<u8>]) -> Result<(), CaseFault> {
     let [stop, text] = args else {
         return Err(CaseFault::BadArguments);
@@ -71,8 +71,8 @@ pub fn calls_case(alloc: Global, out: &mut String, args: &[Vec<u8>]) -> Result<(
     }
 }
 
-/// `next_call STOP TEXT`, where an empty STOP is none: the call, and the bytes after it; or the name
-/// and the code of the fault.
+/// `next_call STOP TEXT`, where an empty STOP is none: the call, and the bytes after it; or the
+/// name and the code of the fault.
 pub fn next_call_case(alloc: Global, out: &mut String, args: &[Vec<u8>]) -> Result<(), CaseFault> {
     let [stop, text] = args else {
         return Err(CaseFault::BadArguments);

@@ -79,7 +79,8 @@ fn next_line<'w>(
         (header_lines (option_copied name.entry) (drop start message.now.headers) ≡ []) }
     ensures some { IfSome result (λ found.
         header_lines (option_copied name.entry) (drop start message.now.headers)
-        ≡ found.0.now ∷ header_lines (option_copied name.entry) (drop found.1 message.now.headers)) }
+        ≡ found.0.now
+        ∷ header_lines (option_copied name.entry) (drop found.1 message.now.headers)) }
 {
     for at in start..message.len() {
         if let Some((line_name, line)) = message.header(at) {

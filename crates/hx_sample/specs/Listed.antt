@@ -13,7 +13,8 @@ use Rattle.hx_sample.specs.Seen.{occurrence_values}
 abbrev pub lent_occurrences : Kind → List (Bor (List ℕ)) → List (Option Value)
 lent_occurrences kind texts = map (λ text. from_str text.now kind) texts
 
-abbrev pub listed_occurrences : Option (Option Sample) → Kind → List (Bor (List ℕ)) → List (Option Sample)
+abbrev pub listed_occurrences
+    : Option (Option Sample) → Kind → List (Bor (List ℕ)) → List (Option Sample)
     → List (Option Value)
 listed_occurrences first kind texts others =
     occurrence_values (option_to_list first)

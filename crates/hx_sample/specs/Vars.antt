@@ -142,7 +142,14 @@ by_session_code = map.code (coded× coded_ℕ (coded_list coded_ℕ)) value_cont
 abbrev pub scopes_code : Coded Scopes
 scopes_code =
     code_by (ByName × (BySession × (ByName × (ByName × ByName))))
-    (coded× by_name_code (coded× by_session_code (coded× by_name_code (coded× by_name_code by_name_code))))
+    (coded× by_name_code
+    (coded× by_session_code (coded× by_name_code (coded× by_name_code by_name_code))))
     (λ s. (s.process, (s.sessions, (s.transaction, (s.request, s.response)))))
-    (λ p. record { process = p.0; sessions = p.1.0; transaction = p.1.1.0; request = p.1.1.1.0; response = p.1.1.1.1 })
+    (λ p. record {
+      process = p.0;
+      sessions = p.1.0;
+      transaction = p.1.1.0;
+      request = p.1.1.1.0;
+      response = p.1.1.1.1;
+    })
     (λ _. refl)

@@ -12,10 +12,10 @@ pub enum WordFault {
     #[error("the line ends inside a quote")]
     OpenQuote,
     /// `\x` stands outside single quotes without two hex digits after it.
-    #[error("two hex digits are missing behind \\x")]
+    #[error("two hex digits are missing after \\x")]
     BadEscape,
     /// `$` stands in double quotes and neither `NAME` nor `{NAME}` follows it.
-    #[error("a variable's name is missing behind $")]
+    #[error("a variable's name is missing after $")]
     BadVariable,
     /// The line has more than 256 words.
     #[error("more than 256 words")]
@@ -81,10 +81,10 @@ pub enum ArgFault {
     #[error("the text ends where a call isn't closed")]
     Unclosed,
     /// Neither a comma nor the stop byte follows the parentheses of a call.
-    #[error("a comma is missing behind the parentheses of a call")]
+    #[error("a comma is missing after the parentheses of a call")]
     AfterClose,
     /// `\x` stands in an argument outside single quotes without two hex digits after it.
-    #[error("two hex digits are missing behind \\x in an argument")]
+    #[error("two hex digits are missing after \\x in an argument")]
     BadEscape,
     /// The text ends inside a quote.
     #[error("the text ends inside a quote")]

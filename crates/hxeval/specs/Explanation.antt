@@ -1,6 +1,6 @@
--- What a person reads on standard error of a run that ended. The names and reasons of codes, and the
--- texts of statuses, are tables of the program: what is defined here is the sentence in which they
--- stand.
+-- What a person reads on standard error of a run that ended. The names and reasons of codes, and
+-- the texts of statuses, are tables of the program: what is defined here is the sentence in which
+-- they stand.
 use Rattle.std.specs.Prelude.{ℕ, Bool, ◌==◌, ◌&&◌, List, [], ◌∷◌, ◌++◌, codes, flat_map, map, unwrap_or, if◌then◌else◌}
 use Rattle.std.specs.Borrow.{Bor}
 use Rattle.std.specs.Str.{bytes_eq}

@@ -26,15 +26,17 @@ pub record Passes (old new : Option (List ℕ)) (text gathered rest : List ℕ) 
   pub appended : Appends old new wrote
   pub whole : text ≡ wrote ++ (gathered ++ rest)
 
--- What one event changes: its answer follows those that are gathered, of which the first ones may be
--- written, and the state goes on. Or it may not stand here. Or a part of these answers is lost.
+-- What one event changes: its answer follows those that are gathered, of which the first ones may
+-- be written, and the state goes on. Or it may not stand here. Or a part of these answers is
+-- lost.
 abbrev pub AnswersEvent : List Rule → (before after : ReplayState) → Placed
     → (old new : Option (List ℕ)) → (gathered gathered' : List ℕ)
     → Result (Unit {0}) RunFault → Type 0
 AnswersEvent rules before after placed old new gathered gathered' (Ok _) =
     (refusal_of before placed.event ≡ None) × (after ≡ state_after before placed.event)
     × Passes old new (gathered ++ answer_of rules before placed.event) gathered' []
-AnswersEvent rules before after placed old new gathered gathered' (Err (RecordRefused offset code)) =
+AnswersEvent rules before after placed old new gathered gathered'
+    (Err (RecordRefused offset code)) =
     (refusal_of before placed.event ≡ Some code) × (offset ≡ placed.offset)
     × Appends old new [] × (gathered' ≡ gathered)
 AnswersEvent rules before after placed old new gathered gathered' (Err _) =

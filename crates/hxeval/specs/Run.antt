@@ -24,8 +24,8 @@ abbrev pub config_name : List (List ℕ) → Option (List ℕ)
 config_name (command ∷ name ∷ []) = if bytes_eq command (codes "run") then Some name else None
 config_name _ = None
 
--- What a run is given: the environment, what the files hold, the name of the configuration, and what
--- the source has left. Of files and source that is what is known.
+-- What a run is given: the environment, what the files hold, the name of the configuration, and
+-- what the source has left. Of files and source that is what is known.
 pub record Setting : Type 0 where
   pub env : Env
   pub held : Option (List (List ℕ × List ℕ))
@@ -59,8 +59,8 @@ pub record HasOutcome (s : Setting) (outcome : Outcome) : Type 0 where
   pub of_source : IsRecord s.left bytes
   pub is : outcome ≡ outcome_of s.env config bytes
 
--- What a run does: it writes a prefix of the text of its setting's outcome. Where its status is 0, 3
--- or 4 it writes the whole text, and the status is the outcome's.
+-- What a run does: it writes a prefix of the text of its setting's outcome. Where its status is
+-- 0, 3 or 4 it writes the whole text, and the status is the outcome's.
 pub record Ran (s : Setting) (old new : Option (List ℕ)) (status : ℕ) : Type 0 where
   pub outcome : Outcome
   pub of_setting : HasOutcome s outcome

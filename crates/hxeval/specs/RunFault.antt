@@ -73,8 +73,8 @@ pub record Attempted (s : Setting) (old new : Option (List ℕ)) (result : Resul
   pub appended : Appends old new wrote
   pub answers : AreAnswersTo (end_of result) outcome wrote
 
--- the end of a run: the line that tells the fault was written, and the status is the fault's, or the
--- sink failed or memory ran out before
+-- the end of a run: the line that tells the fault was written, and the status is the fault's, or
+-- the sink failed or memory ran out before
 abbrev pub Finishes : RunFault → (old new : Option (List ℕ)) → ℕ → Type 0
 Finishes fault old new status =
     ((status ≡ fault_status fault) × Appends old new (last_line (fault_end fault)))

@@ -153,7 +153,8 @@ fn write_many<K: Sink>(out: &mut K, answers: &mut Answers) -> Result<(), SinkFau
     ensures ok { OnOk result (Passes (K.written out.old) (K.written out.new)
         answers.old answers.new []) }
     ensures err { OnErr result (answers.new ≡ []) }
-    ensures prefix { OnErr result (AppendsPrefix (K.written out.old) (K.written out.new) answers.old) }
+    ensures prefix { OnErr result
+        (AppendsPrefix (K.written out.old) (K.written out.new) answers.old) }
     ensures failed { IsErrOf result SinkFault.Failed → Rose (K.faults out.old) (K.faults out.new) }
     ensures later { K.faults out.old ≤ K.faults out.new }
 {

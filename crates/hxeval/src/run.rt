@@ -97,7 +97,8 @@ fn attempt<F: Files, S: Source, K: Sink>(
     record_in: &mut S,
     out: &mut K,
 ) -> Result<(), RunFault>
-    ensures attempted { Attempted (setting env.now (F.held files.old) name.now (S.left record_in.old))
+    ensures attempted { Attempted
+        (setting env.now (F.held files.old) name.now (S.left record_in.old))
         (K.written out.old) (K.written out.new) result }
     ensures at_end { OnOk result (IsAtEnd (S.left record_in.new)) }
     ensures config_refused { (line code : ℕ) → result ≡ Err (RunFault.ConfigRefused line code)

@@ -6,7 +6,8 @@ use std::test::Fail;
 /// The line that opens connection 1.
 const CONN: &[u8] = b"conn 1 192.0.2.7 40000 203.0.113.1 80\n";
 
-/// A run of `run c` over a configuration named `c`, with the variable A of value `x`: its status and text.
+/// A run of `run c` over a configuration named `c`, with the variable A of value `x`: its status
+/// and text.
 fn ran(alloc: Global, config: &[u8], record: &[u8]) -> Result<(u8, Vec<u8>), Fail> {
     ran_in_pieces(alloc, config, record.to_vec(alloc)?, 7)
 }
