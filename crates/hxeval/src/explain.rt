@@ -267,73 +267,103 @@ mod tests {
     use hx_outside::MemSink;
     use std::test::Fail;
 
-    /// Each status, and each code of both tables: the status, whether the configuration couldn't be
-    /// read, and the last line.
-    const RUNS: [(u8, bool, &[u8]); 21] = [
-        (0, false, b"9 pass -\n"),
-        (1, false, b""),
-        (2, false, b""),
-        (3, false, b"config 12 1\n"),
-        (3, false, b"config 1 2\n"),
-        (3, false, b"config 1 3\n"),
-        (3, false, b"config 1 4\n"),
-        (3, false, b"config 3 9\n"),
-        (3, false, b"config 3 17\n"),
-        (4, false, b"record 38 1\n"),
-        (4, false, b"record 0 2\n"),
-        (4, false, b"record 38 3\n"),
-        (4, false, b"record 4294967296 4\n"),
-        (4, false, b"record 0 5\n"),
-        (4, false, b"record 9 6\n"),
-        (4, false, b"record 9 7\n"),
-        (4, false, b"record 9 9\n"),
-        (5, true, b""),
-        (5, false, b""),
-        (6, false, b""),
-        (7, false, b""),
-    ];
-
-    const EXPLAINED: &[u8] = b"hxeval: ended with an unknown status\n\
-        usage: hxeval run CONFIG\n\
-        \n\
-        Replays the record on standard input through the rules of the file CONFIG, and\n\
-        writes one line for each request: whether a rule denies it or it passes.\n\
-        \n\
-        Exit status: 0 done, 2 wrong words, 3 configuration refused, 4 record refused,\n\
-        5 a file or the record can't be read, 6 an answer can't be written, 7 out of memory.\n\
-        hxeval: deny.cfg:12: the line ends inside a quote (1 OpenQuote)\n\
-        hxeval: deny.cfg:1: \\x needs two hexadecimal digits after it (2 BadEscape)\n\
-        hxeval: deny.cfg:1: $ in double quotes needs NAME or {NAME} after it (3 BadVariable)\n\
-        hxeval: deny.cfg:1: the line has more than 256 words (4 TooManyWords)\n\
-        hxeval: deny.cfg:3: unknown or unsupported statement (9 Unsupported)\n\
-        hxeval: deny.cfg:3: unknown code (17 Unknown)\n\
-        hxeval: record, byte 38: unknown or unsupported event, words missing or too many, \
-        a word that is no address, or another byte than a line feed after a request (1 BadLine)\n\
-        hxeval: record, byte 0: a number of this line isn't digits, or is above its limit \
-        (2 BadNumber)\n\
-        hxeval: record, byte 38: the record ends inside the request that begins here \
-        (3 CutRequest)\n\
-        hxeval: record, byte 4294967296: the record goes on after 4294967296 bytes (4 TooLong)\n\
-        hxeval: record, byte 0: this line has more than 65536 bytes (5 LineTooLong)\n\
-        hxeval: record, byte 9: the connection of this line isn't open (6 UnknownConn)\n\
-        hxeval: record, byte 9: the connection of this line is open already (7 ConnOpen)\n\
-        hxeval: record, byte 9: unknown code (9 Unknown)\n\
-        hxeval: deny.cfg can't be read\n\
-        hxeval: the record can't be read from standard input\n\
-        hxeval: the answers can't be written to standard output\n\
-        hxeval: out of memory\n";
-
-    #[test]
-    fn each_status_and_each_code_is_explained(rt: HostRuntime) -> Result<(), Fail> {
+    /// Whether a run of `run deny.cfg` that ended so is explained by this text.
+    fn is_explained(
+        rt: &HostRuntime,
+        status: u8,
+        file_failed: bool,
+        last_line: &[u8],
+        text: &[u8],
+    ) -> Result<bool, Fail> {
         let alloc = rt.alloc();
         let words = vec![in alloc; b"run".to_vec(alloc)?, b"deny.cfg".to_vec(alloc)?]?;
         let mut err = MemSink::new(alloc, 9, Vec::new(alloc));
-        for (status, file_failed, last_line) in RUNS {
-            explain(&mut err, status, &words, file_failed, last_line)?;
-        }
-        assert_eq!(rt; err.bytes(), EXPLAINED);
-        let mut err = MemSink::new(alloc, 9, vec![in alloc; 1u64]?);
-        assert!(rt; explain(&mut err, 7, &words, false, b"").is_err());
+        explain(&mut err, status, &words, file_failed, last_line)?;
+        Ok(err.bytes() == text)
+    }
+
+    #[test]
+    fn each_status_is_explained(rt: HostRuntime) -> Result<(), Fail> {
+        let usage = b"usage: hxeval run CONFIG\n\
+            \n\
+            Replays the record on standard input through the rules of the file CONFIG, and\n\
+            writes one line for each request: whether a rule denies it or it passes.\n\
+            \n\
+            Exit status: 0 done, 2 wrong words, 3 configuration refused, 4 record refused,\n\
+            5 a file or the record can't be read, 6 an answer can't be written, 7 out of memory.\n";
+        let file = b"hxeval: deny.cfg can't be read\n";
+        let record = b"hxeval: the record can't be read from standard input\n";
+        let answers = b"hxeval: the answers can't be written to standard output\n";
+        assert!(rt; is_explained(&rt, 0, false, b"9 pass -\n", b"")?);
+        assert!(rt;
+            is_explained(
+                &rt,
+                1,
+                false,
+                b"",
+                b"hxeval: ended with an unknown status\n"
+            )?
+        );
+        assert!(rt; is_explained(&rt, 2, false, b"", usage)?);
+        assert!(rt; is_explained(&rt, 5, true, b"", file)?);
+        assert!(rt; is_explained(&rt, 5, false, b"", record)?);
+        assert!(rt; is_explained(&rt, 6, false, b"", answers)?);
+        assert!(rt; is_explained(&rt, 7, false, b"", b"hxeval: out of memory\n")?);
+        Ok(())
+    }
+
+    /// Whether a configuration that is refused at line 12 with this code is explained by this text.
+    fn is_config_explained(rt: &HostRuntime, last_line: &[u8], text: &[u8]) -> Result<bool, Fail> {
+        is_explained(rt, 3, false, last_line, text)
+    }
+
+    #[test]
+    fn each_code_of_a_configuration_is_explained(rt: HostRuntime) -> Result<(), Fail> {
+        let quote = b"hxeval: deny.cfg:12: the line ends inside a quote (1 OpenQuote)\n";
+        let escape =
+            b"hxeval: deny.cfg:1: \\x needs two hexadecimal digits after it (2 BadEscape)\n";
+        let name =
+            b"hxeval: deny.cfg:1: $ in double quotes needs NAME or {NAME} after it (3 BadVariable)\n";
+        let words = b"hxeval: deny.cfg:1: the line has more than 256 words (4 TooManyWords)\n";
+        let unknown = b"hxeval: deny.cfg:3: unknown or unsupported statement (9 Unsupported)\n";
+        let code = b"hxeval: deny.cfg:3: unknown code (17 Unknown)\n";
+        assert!(rt; is_config_explained(&rt, b"config 12 1\n", quote)?);
+        assert!(rt; is_config_explained(&rt, b"config 1 2\n", escape)?);
+        assert!(rt; is_config_explained(&rt, b"config 1 3\n", name)?);
+        assert!(rt; is_config_explained(&rt, b"config 1 4\n", words)?);
+        assert!(rt; is_config_explained(&rt, b"config 3 9\n", unknown)?);
+        assert!(rt; is_config_explained(&rt, b"config 3 17\n", code)?);
+        Ok(())
+    }
+
+    /// Whether a record that is refused, as its last line says, is explained by this text.
+    fn is_record_explained(rt: &HostRuntime, last_line: &[u8], text: &[u8]) -> Result<bool, Fail> {
+        is_explained(rt, 4, false, last_line, text)
+    }
+
+    #[test]
+    fn each_code_of_a_record_is_explained(rt: HostRuntime) -> Result<(), Fail> {
+        let line =
+            b"hxeval: record, byte 38: unknown or unsupported event, words missing or too many, a word that is no address, or another byte than a line feed after a request (1 BadLine)\n";
+        let number =
+            b"hxeval: record, byte 0: a number of this line isn't digits, or is above its limit (2 BadNumber)\n";
+        let cut =
+            b"hxeval: record, byte 38: the record ends inside the request that begins here (3 CutRequest)\n";
+        let long =
+            b"hxeval: record, byte 4294967296: the record goes on after 4294967296 bytes (4 TooLong)\n";
+        let long_line =
+            b"hxeval: record, byte 0: this line has more than 65536 bytes (5 LineTooLong)\n";
+        let unknown =
+            b"hxeval: record, byte 9: the connection of this line isn't open (6 UnknownConn)\n";
+        let open =
+            b"hxeval: record, byte 9: the connection of this line is open already (7 ConnOpen)\n";
+        assert!(rt; is_record_explained(&rt, b"record 38 1\n", line)?);
+        assert!(rt; is_record_explained(&rt, b"record 0 2\n", number)?);
+        assert!(rt; is_record_explained(&rt, b"record 38 3\n", cut)?);
+        assert!(rt; is_record_explained(&rt, b"record 4294967296 4\n", long)?);
+        assert!(rt; is_record_explained(&rt, b"record 0 5\n", long_line)?);
+        assert!(rt; is_record_explained(&rt, b"record 9 6\n", unknown)?);
+        assert!(rt; is_record_explained(&rt, b"record 9 7\n", open)?);
         Ok(())
     }
 }

@@ -259,15 +259,16 @@ mod tests {
     /// How many texts there are, with a longest one that is taken or refused.
     #[test]
     fn texts_may_be_many_and_as_long_as_linux_hands_over(rt: HostRuntime) -> Result<(), Fail> {
-        let bytes = vec![in rt.alloc(); b'='; MAX_TEXT_LEN + 1]?;
-        let mut texts = vec![in rt.alloc(); &bytes[..3]; 1_000]?;
-        texts.push(&bytes[..MAX_TEXT_LEN])?;
+        let longest = vec![in rt.alloc(); b'='; MAX_TEXT_LEN]?;
+        let longer = vec![in rt.alloc(); b'='; MAX_TEXT_LEN + 1]?;
+        let mut texts = vec![in rt.alloc(); b"===".as_slice(); 1_000]?;
+        texts.push(&longest)?;
         let memory = MemTexts { texts: &texts };
         let words = arguments(rt.alloc(), &memory)?;
         assert_eq!(rt; words.len(), 1_000);
-        assert_eq!(rt; words[999].as_slice(), &bytes[..MAX_TEXT_LEN]);
+        assert_eq!(rt; words[999].as_slice(), longest.as_slice());
         assert_eq!(rt; environment(rt.alloc(), &memory)?.len(), 1_001);
-        texts.push(&bytes)?;
+        texts.push(&longer)?;
         let memory = MemTexts { texts: &texts };
         assert!(rt; arguments(rt.alloc(), &memory).err() == Some(MachineFault::TooLong));
         assert!(rt; environment(rt.alloc(), &memory).err() == Some(MachineFault::TooLong));
