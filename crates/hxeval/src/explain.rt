@@ -312,7 +312,7 @@ mod tests {
         Ok(())
     }
 
-    /// Whether a configuration that is refused at line 12 with this code is explained by this text.
+    /// Whether a configuration that is refused, as its last line says, is explained by this text.
     fn is_config_explained(rt: &HostRuntime, last_line: &[u8], text: &[u8]) -> Result<bool, Fail> {
         is_explained(rt, 3, false, last_line, text)
     }
@@ -322,8 +322,8 @@ mod tests {
         let quote = b"hxeval: deny.cfg:12: the line ends inside a quote (1 OpenQuote)\n";
         let escape =
             b"hxeval: deny.cfg:1: \\x needs two hexadecimal digits after it (2 BadEscape)\n";
-        let name =
-            b"hxeval: deny.cfg:1: $ in double quotes needs NAME or {NAME} after it (3 BadVariable)\n";
+        let name = b"hxeval: deny.cfg:1: $ in double quotes needs NAME or {NAME} after it \
+            (3 BadVariable)\n";
         let words = b"hxeval: deny.cfg:1: the line has more than 256 words (4 TooManyWords)\n";
         let unknown = b"hxeval: deny.cfg:3: unknown or unsupported statement (9 Unsupported)\n";
         let code = b"hxeval: deny.cfg:3: unknown code (17 Unknown)\n";
@@ -344,13 +344,16 @@ mod tests {
     #[test]
     fn each_code_of_a_record_is_explained(rt: HostRuntime) -> Result<(), Fail> {
         let line =
-            b"hxeval: record, byte 38: unknown or unsupported event, words missing or too many, a word that is no address, or another byte than a line feed after a request (1 BadLine)\n";
+            b"hxeval: record, byte 38: unknown or unsupported event, words missing or too many, \
+            a word that is no address, or another byte than a line feed after a request \
+            (1 BadLine)\n";
         let number =
-            b"hxeval: record, byte 0: a number of this line isn't digits, or is above its limit (2 BadNumber)\n";
-        let cut =
-            b"hxeval: record, byte 38: the record ends inside the request that begins here (3 CutRequest)\n";
-        let long =
-            b"hxeval: record, byte 4294967296: the record goes on after 4294967296 bytes (4 TooLong)\n";
+            b"hxeval: record, byte 0: a number of this line isn't digits, or is above its limit \
+            (2 BadNumber)\n";
+        let cut = b"hxeval: record, byte 38: the record ends inside the request that begins here \
+            (3 CutRequest)\n";
+        let long = b"hxeval: record, byte 4294967296: the record goes on after 4294967296 bytes \
+            (4 TooLong)\n";
         let long_line =
             b"hxeval: record, byte 0: this line has more than 65536 bytes (5 LineTooLong)\n";
         let unknown =
