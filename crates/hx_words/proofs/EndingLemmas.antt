@@ -1,7 +1,7 @@
 -- What holds of each ending that an item or the text's end gives holds of the ending of a reading.
 use Rattle.std.proofs.Common.{ℕ, zero, suc, Bool, true, false, if◌then◌else◌, List, [], ◌∷◌, length, Option, Some, None}
 use Rattle.hx_words.specs.TextItems.{QuoteState}
-use Rattle.hx_words.specs.TextItems.{TextItem, TextItems, text_items, items_from, part_or}
+use Rattle.hx_words.specs.TextItems.{TextItem, TextItems, text_items, items_with_rest, part_or}
 use Rattle.hx_words.specs.TextItems.TextItem.{Gap, Part, NoItem}
 
 -- P holds of the ending, if the item is one
@@ -20,12 +20,12 @@ pub stops-part : {E : Type 0} (P : E → Type 0) (wrong : E) (state : QuoteState
 stops-part P wrong state None p = p
 stops-part P wrong state (Some part) p = tt
 
-stops-items_from : {E : Type 0} (P : E → Type 0) (x : TextItem E)
+stops-items_with_rest : {E : Type 0} (P : E → Type 0) (x : TextItem E)
     (rest : QuoteState → ℕ → TextItems E) (state : QuoteState) → StopsBy P x
-    → ((after : QuoteState) (n : ℕ) → P (rest after n).ending) → P (items_from x rest state).ending
-stops-items_from P (Gap count) rest state here later = later state count
-stops-items_from P (Part count value after) rest state here later = later after count
-stops-items_from P (NoItem ending) rest state here later = here
+    → ((after : QuoteState) (n : ℕ) → P (rest after n).ending) → P (items_with_rest x rest state).ending
+stops-items_with_rest P (Gap count) rest state here later = later state count
+stops-items_with_rest P (Part count value after) rest state here later = later after count
+stops-items_with_rest P (NoItem ending) rest state here later = here
 
 -- P also takes the number of bytes, and holds of a larger one where it holds of a smaller
 pub ending-by : {E : Type 0} (P : ℕ → E → Type 0) (item : QuoteState → ℕ → List ℕ → TextItem E)
@@ -38,6 +38,6 @@ ending-by P item close more here end [] state k = end state
 ending-by P item close more here end (b ∷ bs) state (suc k) =
     more (length bs) _ (ending-by P item close more here end bs state k)
 ending-by P item close more here end (b ∷ bs) state zero =
-    stops-items_from (P (suc (length bs))) (item state b bs)
+    stops-items_with_rest (P (suc (length bs))) (item state b bs)
     (λ after n. text_items item close bs after n) state (here state b bs)
     (λ after n. more (length bs) _ (ending-by P item close more here end bs after n))

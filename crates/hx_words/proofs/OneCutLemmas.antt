@@ -1,7 +1,7 @@
 -- Bytes have exactly one list of items.
 use Rattle.std.proofs.Common.{◌≡◌, ℕ, zero, suc, ◌≤◌, List, [], ◌∷◌, ◌++◌, length, take, drop, Some, None, refl, sym, ap, ◌∙◌, subst, arith}
 use Rattle.std.proofs.lemmas.Grind.{common_steps}
-use Rattle.hx_words.specs.TextItems.{QuoteState, TextItem, TextItems, following_count, text_items, items_from, longer_items, AreTextItems}
+use Rattle.hx_words.specs.TextItems.{QuoteState, TextItem, TextItems, following_count, text_items, items_with_rest, longer_items, AreTextItems}
 use Rattle.hx_words.specs.TextItems.TextItem.{Gap, Part, NoItem}
 use Rattle.hx_words.specs.TextItems.AreTextItems.{NoBytes, FirstGap, FirstPart, FirstNone}
 use Rattle.hx_words.proofs.TextItemLemmas.{text_items-end, text_items-gap, text_items-part, text_items-no_items}
@@ -63,7 +63,7 @@ at-item : {E : Type 0} (item : QuoteState → ℕ → List ℕ → TextItem E) (
     → following_count x ≤ length bs
     → ((after : QuoteState) (n : ℕ) → n ≤ length bs → AreTextItems item close after (drop n bs)
     (text_items item close bs after n)) → AreTextItems item close state (b ∷ bs)
-    (items_from x (λ after n. text_items item close bs after n) state)
+    (items_with_rest x (λ after n. text_items item close bs after n) state)
 at-item item close state b bs (Gap n) is within follows =
     at-gap item close state b bs n (text_items item close bs state n) is within
     (follows state n within)

@@ -47,11 +47,11 @@ part_or wrong state None = NoItem wrong
 part_or wrong state (Some part) = Part part.0 part.1 state
 
 -- an item, and the items of what follows it
-abbrev pub items_from : {E : Type 0}
+abbrev pub items_with_rest : {E : Type 0}
     → TextItem E → (QuoteState → ℕ → TextItems E) → QuoteState → TextItems E
-items_from (Gap count) rest state = longer_items None (rest state count)
-items_from (Part count value after) rest state = longer_items (Some value) (rest after count)
-items_from (NoItem ending) rest state = no_items ending
+items_with_rest (Gap count) rest state = longer_items None (rest state count)
+items_with_rest (Part count value after) rest state = longer_items (Some value) (rest after count)
+items_with_rest (NoItem ending) rest state = no_items ending
 
 -- the items of these bytes in this state, of which the first `skip` belong to the item before
 unfoldable pub text_items : {E : Type 0}
@@ -60,7 +60,7 @@ unfoldable pub text_items : {E : Type 0}
 text_items item close [] state skip = no_items (close state)
 text_items item close (b ∷ bs) state (suc skip) = text_items item close bs state skip
 text_items item close (b ∷ bs) state zero =
-    items_from (item state b bs) (λ after skip. text_items item close bs after skip) state
+    items_with_rest (item state b bs) (λ after skip. text_items item close bs after skip) state
 
 -- The relation between bytes and their items. `item` is the table of items: what begins with a
 -- byte, with the bytes after it. `close` says how the reading ends where the bytes do. The bytes

@@ -17,25 +17,25 @@ use Rattle.hx_words.specs.Arguments.ArgumentsEnd.{AtParenthesis, AtFault}
 use Rattle.hx_words.specs.Words.{LineEnd}
 use Rattle.hx_words.specs.Words.LineEnd.{WrongItem}
 
-abbrev pub state_of : Mode → QuoteState
-state_of modes.Outside = Outside
-state_of modes.Single = Single
-state_of modes.Double = Double
+abbrev pub quote_state_of : Mode → QuoteState
+quote_state_of modes.Outside = Outside
+quote_state_of modes.Single = Single
+quote_state_of modes.Double = Double
 
 -- the bytes that a part's value is
-abbrev pub bytes_of : PartValue → List ℕ
-bytes_of Nothing = []
-bytes_of (One a) = a ∷ []
-bytes_of (Two a b) = a ∷ b ∷ []
-bytes_of (Lent bytes) = bytes.now
+abbrev pub part_bytes : PartValue → List ℕ
+part_bytes Nothing = []
+part_bytes (One a) = a ∷ []
+part_bytes (Two a b) = a ∷ b ∷ []
+part_bytes (Lent bytes) = bytes.now
 
 abbrev pub escape_view : Option (ℕ × PartValue) → Option (ℕ × List ℕ)
-escape_view part = option_map (λ found. (found.0, bytes_of found.1)) part
+escape_view part = option_map (λ found. (found.0, part_bytes found.1)) part
 
 -- the item of a line that a token is
 abbrev pub word_item_of : Token → TextItem LineEnd
 word_item_of (word.Gap count) = Gap count
-word_item_of (word.Part count value mode) = Part count (bytes_of value) (state_of mode)
+word_item_of (word.Part count value mode) = Part count (part_bytes value) (quote_state_of mode)
 word_item_of (word.Wrong fault) = NoItem (WrongItem fault)
 
 -- the item of an argument that a token is, where these bytes follow its first
@@ -43,5 +43,5 @@ abbrev pub argument_item_of : List ℕ → ArgToken → TextItem ArgumentsEnd
 argument_item_of after argument.Comma = Gap 0
 argument_item_of after argument.Close = NoItem (AtParenthesis after)
 argument_item_of after (argument.Part count value mode) =
-    Part count (bytes_of value) (state_of mode)
+    Part count (part_bytes value) (quote_state_of mode)
 argument_item_of after argument.NoHex = NoItem (AtFault BadEscape)

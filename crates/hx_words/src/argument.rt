@@ -1,7 +1,7 @@
 ghost use Rattle.std.specs.Prelude.{◌≡◌, ◌≢◌, ◌<◌, ◌≤◌, length, IfOk, IfErr};
 ghost use Rattle.hx_words.specs.Arguments.{argument_item, outside_argument, double_argument, arguments, argument_items};
 ghost use Rattle.hx_words.specs.Arguments.ArgumentsEnd.{AtParenthesis, AtFault};
-ghost use Rattle.hx_words.specs.TokenView.{argument_item_of, state_of};
+ghost use Rattle.hx_words.specs.TokenView.{argument_item_of, quote_state_of};
 ghost use Rattle.hx_words.specs.Quoting.{escape_of};
 ghost use Rattle.hx_words.specs.TextItems.{following_count, part_or, single_item};
 
@@ -69,7 +69,7 @@ pub(crate) fn read_arguments(alloc: Global, text: &[u8]) -> Result<Arguments<'_>
 #[tactic(auto, unfolding(crate::specs::Arguments::argument_item))]
 fn argument_at<'a>(mode: Mode, byte: u8, after: &[u8]) -> ArgToken<'a>
     ensures item { argument_item_of after.now result
-        ≡ argument_item (state_of mode) byte after.now }
+        ≡ argument_item (quote_state_of mode) byte after.now }
     ensures within { following_count (argument_item_of after.now result) ≤ length after.now }
 {
     match mode {
@@ -116,7 +116,7 @@ fn single<'a>(byte: u8, after: &[u8]) -> ArgToken<'a>
 
 fn escaped<'a>(mode: Mode, after: &[u8]) -> ArgToken<'a>
     ensures item { argument_item_of after.now result
-        ≡ part_or (AtFault ArgFault.BadEscape) (state_of mode) (escape_of after.now) }
+        ≡ part_or (AtFault ArgFault.BadEscape) (quote_state_of mode) (escape_of after.now) }
     ensures within { following_count (argument_item_of after.now result) ≤ length after.now }
 {
     match read_escape(after) {

@@ -1,5 +1,5 @@
 ghost use Rattle.std.specs.Prelude.{◌≡◌, ◌++◌, ◌∷◌, [], ◌≤◌, ◌↔◌, length, IsTrue, IsNone, OnOk, IfOk, unwrap_or, option_to_list};
-ghost use Rattle.hx_words.specs.TokenView.{bytes_of};
+ghost use Rattle.hx_words.specs.TokenView.{part_bytes};
 
 use crate::quoting::PartValue;
 use hx_text::{NoMemory, Octets};
@@ -38,7 +38,7 @@ impl PartsSoFar {
     pub(crate) fn append(&mut self, alloc: Global, value: &PartValue) -> Result<(), NoMemory>
         ensures done { OnOk result (self.new.done.items ≡ self.old.done.items) }
         ensures word { OnOk result
-            (self.new.word ≡ Some (unwrap_or self.old.word [] ++ bytes_of value.now)) }
+            (self.new.word ≡ Some (unwrap_or self.old.word [] ++ part_bytes value.now)) }
     {
         let mut word = match self.word.take() {
             Some(word) => word,

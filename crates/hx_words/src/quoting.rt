@@ -1,6 +1,6 @@
 ghost use Rattle.std.specs.Prelude.{◌≡◌, ◌∷◌, ◌++◌, [], ◌+◌, ◌≤◌, length, drop, MatchOption, IfSome, OnOk};
 ghost use Rattle.hx_words.specs.Quoting.{escape_of, hex_escape, hex_value};
-ghost use Rattle.hx_words.specs.TokenView.{bytes_of, escape_view};
+ghost use Rattle.hx_words.specs.TokenView.{part_bytes, escape_view};
 
 use hx_text::{NoMemory, Octets};
 
@@ -24,7 +24,7 @@ pub(crate) enum PartValue<'a> {
 impl PartValue<'_> {
     /// Appends the bytes to what is there.
     pub(crate) fn append_to(&self, bytes: &mut Octets) -> Result<(), NoMemory>
-        ensures { OnOk result (bytes.new ≡ bytes.old ++ bytes_of self.now) }
+        ensures { OnOk result (bytes.new ≡ bytes.old ++ part_bytes self.now) }
     {
         match self {
             PartValue::Nothing => Ok(()),

@@ -1,7 +1,7 @@
 ghost use Rattle.std.specs.Prelude.{◌≡◌, ◌≤◌, length};
 ghost use Rattle.hx_words.specs.Quoting.{escape_of};
 ghost use Rattle.hx_words.specs.TextItems.{following_count, part_or, single_item};
-ghost use Rattle.hx_words.specs.TokenView.{word_item_of, state_of};
+ghost use Rattle.hx_words.specs.TokenView.{word_item_of, quote_state_of};
 ghost use Rattle.hx_base.specs.Pairs.{pairs_of};
 ghost use Rattle.hx_words.specs.Words.{word_item, outside_item, double_item, double_escape};
 ghost use Rattle.hx_words.specs.Words.LineEnd.{WrongItem};
@@ -27,7 +27,7 @@ pub(crate) fn item_at<'a>(
     after: &[u8],
 ) -> Token<'a>
     ensures item { word_item_of result
-        ≡ word_item (pairs_of env.now) (state_of mode) byte after.now }
+        ≡ word_item (pairs_of env.now) (quote_state_of mode) byte after.now }
     ensures within { following_count (word_item_of result) ≤ length after.now }
 {
     match mode {
@@ -90,7 +90,7 @@ fn dollar_escape<'a>(after: &[u8]) -> Token<'a>
 /// A backslash outside quotes, and one in double quotes before any byte but `$`.
 fn plain_escape<'a>(mode: Mode, after: &[u8]) -> Token<'a>
     ensures item { word_item_of result
-        ≡ part_or (WrongItem WordFault.BadEscape) (state_of mode) (escape_of after.now) }
+        ≡ part_or (WrongItem WordFault.BadEscape) (quote_state_of mode) (escape_of after.now) }
     ensures within { following_count (word_item_of result) ≤ length after.now }
 {
     match read_escape(after) {

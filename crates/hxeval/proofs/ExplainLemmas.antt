@@ -9,7 +9,7 @@ use Rattle.std.proofs.lemmas.Str.Parse.{tells_digits}
 use Rattle.std.proofs.lemmas.Grind.{flat_map-append}
 use Rattle.std.proofs.lemmas.List.{drop_more}
 use Rattle.hx_text.specs.Cut.{cut_of}
-use Rattle.hxeval.specs.Explanation.{all_of, cut_or_end, location_of, code_of, config_refused, record_refused, explanation}
+use Rattle.hxeval.specs.Explanation.{all_of, cut_or_end, location_of, code_in, config_refused, record_refused, explanation}
 use Rattle.hxeval.specs.Replay.{record_line}
 use Rattle.hxeval.specs.Run.{config_line}
 
@@ -46,14 +46,14 @@ cut_number n fits =
 pub config_location : (line code : ℕ) → line < 2 ^ 64 → location_of (config_line line code) ≡ decimal line
 config_location line code fits = ap (λ (p : List ℕ × List ℕ). p.0) (cut_numbers line code fits)
 
-pub config_code : (line code : ℕ) → line < 2 ^ 64 → code < 2 ^ 64 → code_of (config_line line code) ≡ decimal code
+pub config_code : (line code : ℕ) → line < 2 ^ 64 → code < 2 ^ 64 → code_in (config_line line code) ≡ decimal code
 config_code line code fits small =
     ap (λ (p : List ℕ × List ℕ). (cut_or_end 10 p.1).0) (cut_numbers line code fits) ∙ ap (λ (p : List ℕ × List ℕ). p.0) (cut_number code small)
 
 pub record_location : (offset code : ℕ) → offset < 2 ^ 64 → location_of (record_line offset code) ≡ decimal offset
 record_location offset code fits = ap (λ (p : List ℕ × List ℕ). p.0) (cut_numbers offset code fits)
 
-pub record_code : (offset code : ℕ) → offset < 2 ^ 64 → code < 2 ^ 64 → code_of (record_line offset code) ≡ decimal code
+pub record_code : (offset code : ℕ) → offset < 2 ^ 64 → code < 2 ^ 64 → code_in (record_line offset code) ≡ decimal code
 record_code offset code fits small =
     ap (λ (p : List ℕ × List ℕ). (cut_or_end 10 p.1).0) (cut_numbers offset code fits) ∙ ap (λ (p : List ℕ × List ℕ). p.0) (cut_number code small)
 
@@ -61,12 +61,12 @@ pub config_explained : (name : List ℕ) (file_failed : Bool) (last_line : List 
     → last_line ≡ config_line line code → explanation 3 name file_failed last_line ≡ config_refused name (decimal line) (decimal code)
 unfolding explanation
 config_explained name file_failed last_line line code fits small is =
-    rw (is) (ap (λ location. config_refused name location (code_of (config_line line code))) (config_location line code fits)
+    rw (is) (ap (λ location. config_refused name location (code_in (config_line line code))) (config_location line code fits)
     ∙ ap (config_refused name (decimal line)) (config_code line code fits small))
 
 pub record_explained : (name : List ℕ) (file_failed : Bool) (last_line : List ℕ) (offset code : ℕ) → offset < 2 ^ 64 → code < 2 ^ 64
     → last_line ≡ record_line offset code → explanation 4 name file_failed last_line ≡ record_refused (decimal offset) (decimal code)
 unfolding explanation
 record_explained name file_failed last_line offset code fits small is =
-    rw (is) (ap (λ location. record_refused location (code_of (record_line offset code))) (record_location offset code fits)
+    rw (is) (ap (λ location. record_refused location (code_in (record_line offset code))) (record_location offset code fits)
     ∙ ap (record_refused (decimal offset)) (record_code offset code fits small))

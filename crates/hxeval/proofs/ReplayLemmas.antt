@@ -21,7 +21,7 @@ use Rattle.hxeval.specs.Gathering.{Replays, Passes, AnswersEvent, IsFailure}
 use Rattle.hxeval.specs.Outcome.{Outcome, Completed, RecordRefused, Undecided, after_answers}
 use Rattle.hxeval.specs.Replay.{IsRecord, WritesDecided, record_limit, ends_with, replay_outcome, record_outcome, decided_outcome}
 use Rattle.hxeval.specs.Rules.{Rule}
-use Rattle.hxeval.specs.RunFault.{IsReplayFault, end_of, reader_fault, sink_fault}
+use Rattle.hxeval.specs.RunFault.{IsReplayFault, result_end, reader_fault, sink_fault}
 use Rattle.hxeval.specs.Step.{Steps, initial_state, refusal_of, state_after, answer_of}
 use Rattle.hxeval.specs.declared.replay_state.ReplayState.{ReplayState}
 use Rattle.hxeval.specs.declared.replay_state.StepFault.TheVariants as step
@@ -193,7 +193,7 @@ replays_end rules state s left left' old new gathered p at_end =
 -- where memory runs out, a prefix of the answers is written or gathered
 pub replays_part : (what : Items → Items → Type 0) (rules : List Rule) (state : ReplayState) (s : State) (left left' old new : Option (List ℕ)) (gathered : List ℕ)
     → Progress what rules state s left left' old new gathered → (s.ended ≡ true → IsAtEnd left')
-    → (fault : RunFault) → end_of (Err fault) ≡ Undecided → Replays rules left old new gathered (Err fault)
+    → (fault : RunFault) → result_end (Err fault) ≡ Undecided → Replays rules left old new gathered (Err fault)
 replays_part what rules state s left left' old new gathered p at_end fault undecided =
     let v = seen what rules state s left left' old new gathered p at_end in
     record {
@@ -232,7 +232,7 @@ no_source before after reader.Failed d is = d.answers true [] (λ _. (refl, refl
 no_source before after reader.NoMemory d is = cc
 
 -- no refusal ends what is decided
-failure_end : (fault : RunFault) → IsFailure fault → end_of (Err fault) ≡ Undecided
+failure_end : (fault : RunFault) → IsFailure fault → result_end (Err fault) ≡ Undecided
 failure_end (run.ConfigRefused line code) is = absurd is
 failure_end (run.RecordRefused offset code) is = absurd is
 failure_end run.Files is = absurd is
@@ -322,7 +322,7 @@ writes_decided rules state s left left' left'' old new new' gathered p going und
 -- an event of whose answer, with those gathered before, a part is lost
 event_part : (rules : List Rule) (state after : ReplayState) (s : State) (left left' old new new' : Option (List ℕ)) (placed : Placed)
     (gathered gathered' : List ℕ) (fault : RunFault) → Progress (Answer (Ok (next.Event placed))) rules state s left left' old new gathered
-    → (s.ended ≡ true → IsAtEnd left') → end_of (Err fault) ≡ Undecided → refusal_of state placed.event ≡ None → (rest : List ℕ)
+    → (s.ended ≡ true → IsAtEnd left') → result_end (Err fault) ≡ Undecided → refusal_of state placed.event ≡ None → (rest : List ℕ)
     → Passes new new' (gathered ++ answer_of rules state placed.event) gathered' rest → Replays rules left old new' gathered' (Err fault)
 unfolding replay_outcome
 event_part rules state after s left left' old new new' placed gathered gathered' fault p at_end undecided allowed rest passes =
@@ -405,7 +405,7 @@ replays_written_part rules left old new new' gathered result r part fault =
       of_source = r.of_source;
       wrote = r.wrote ++ part.prefix;
       appended = Appends-trans old new new' r.wrote part.prefix r.appended part.appended;
-      answers = rw (failure_end (sink_fault fault) (sink_failure fault)) (shorter_prefix (end_of result) (record_outcome rules r.bytes) (r.wrote ++ gathered)
+      answers = rw (failure_end (sink_fault fault) (sink_failure fault)) (shorter_prefix (result_end result) (record_outcome rules r.bytes) (r.wrote ++ gathered)
           (r.wrote ++ part.prefix ++ []) part.rest r.answers whole);
     }
 

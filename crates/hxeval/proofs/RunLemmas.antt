@@ -11,7 +11,7 @@ use Rattle.hxeval.specs.Outcome.{ConfigRefused, Undecided}
 use Rattle.hxeval.specs.Replay.{IsRecord, WritesDecided, ends_with, record_outcome, decided_outcome}
 use Rattle.hxeval.specs.Rules.{Rule}
 use Rattle.hxeval.specs.Run.{Setting, HasConfig, SourceFails, outcome_of}
-use Rattle.hxeval.specs.RunFault.{Attempted, IsReplayFault, end_of, file_fault, load_fault}
+use Rattle.hxeval.specs.RunFault.{Attempted, IsReplayFault, result_end, fault_of_file, load_fault}
 use Rattle.hxeval.specs.declared.load.LoadFault.{LoadFault}
 use Rattle.hxeval.specs.declared.load.LoadFault.TheVariants as load
 use Rattle.hxeval.specs.declared.run_fault.RunFault.{RunFault}
@@ -37,7 +37,7 @@ is_config None name items known = tt
 is_config (Some files) name items known = sym known
 
 -- where nothing was written and nothing has to be, any configuration and record will do
-unknown : (s : Setting) (old : Option (List ℕ)) (fault : RunFault) → end_of (Err fault) ≡ Undecided → Attempted s old old (Err fault)
+unknown : (s : Setting) (old : Option (List ℕ)) (fault : RunFault) → result_end (Err fault) ≡ Undecided → Attempted s old old (Err fault)
 unknown s old fault undecided =
     let outcome = outcome_of s.env (config_in s.held s.name) (unwrap_or s.left []) in
     record {
@@ -55,7 +55,7 @@ unknown s old fault undecided =
     }
 
 -- the configuration can't be read
-pub unread : (s : Setting) (old : Option (List ℕ)) (fault : FileFault) → Attempted s old old (Err (file_fault fault))
+pub unread : (s : Setting) (old : Option (List ℕ)) (fault : FileFault) → Attempted s old old (Err (fault_of_file fault))
 unread s old file.Failed = unknown s old run.Files refl
 unread s old file.NoMemory = unknown s old run.NoMemory refl
 

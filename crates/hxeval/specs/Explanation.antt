@@ -27,8 +27,8 @@ abbrev pub location_of : List ℕ → List ℕ
 location_of line = (cut_or_end space (cut_or_end space line).1).0
 
 -- the code in it
-abbrev pub code_of : List ℕ → List ℕ
-code_of line = (cut_or_end line_feed (cut_or_end space (cut_or_end space line).1).1).0
+abbrev pub code_in : List ℕ → List ℕ
+code_in line = (cut_or_end line_feed (cut_or_end space (cut_or_end space line).1).1).0
 
 -- the name and the reason of a code, by the first row that begins with it; without one, those of an
 -- unknown code
@@ -65,7 +65,7 @@ status_text other (row ∷ rows) status =
 unfoldable pub explanation
     : ℕ → (name : List ℕ) → (file_failed : Bool) → (last_line : List ℕ) → List ℕ
 explanation status name file_failed last_line =
-    if status == 3 then config_refused name (location_of last_line) (code_of last_line) else
-    (if status == 4 then record_refused (location_of last_line) (code_of last_line) else
+    if status == 3 then config_refused name (location_of last_line) (code_in last_line) else
+    (if status == 4 then record_refused (location_of last_line) (code_in last_line) else
     (if status == 5 && file_failed then codes "hxeval: " ++ (name ++ codes " can't be read\n") else
     status_text UNKNOWN_STATUS.now (map (λ row. (row.0, row.1.now)) STATUS_TEXTS) status))

@@ -5,7 +5,7 @@ use Rattle.hx_record.specs.declared.Placed.{Placed}
 use Rattle.hxeval.specs.Replay.{IsRecord, record_outcome}
 use Rattle.hxeval.specs.Rules.{Rule}
 use Rattle.hxeval.specs.Step.{refusal_of, state_after, answer_of}
-use Rattle.hxeval.specs.RunFault.{AreAnswersTo, end_of}
+use Rattle.hxeval.specs.RunFault.{AreAnswersTo, result_end}
 use Rattle.hxeval.specs.declared.replay_state.ReplayState.{ReplayState}
 use Rattle.hxeval.specs.declared.run_fault.RunFault.{RunFault}
 use Rattle.hxeval.specs.declared.run_fault.RunFault.TheVariants.{ConfigRefused, RecordRefused, Files}
@@ -18,7 +18,7 @@ pub record Replays (rules : List Rule) (left old new : Option (List ℕ)) (gathe
   pub of_source : IsRecord left bytes
   pub wrote : List ℕ
   pub appended : Appends old new wrote
-  pub answers : AreAnswersTo (end_of result) (record_outcome rules bytes) (wrote ++ gathered)
+  pub answers : AreAnswersTo (result_end result) (record_outcome rules bytes) (wrote ++ gathered)
 
 -- of a text the first bytes were written, the next are gathered, and the rest is lost
 pub record Passes (old new : Option (List ℕ)) (text gathered rest : List ℕ) : Type 0 where

@@ -17,11 +17,11 @@ abbrev pub HasLonger : ℕ → List (List ℕ) → Type 0
 HasLonger bytes texts = list_any (λ text. nat_lt bytes (length text)) texts ≡ true
 
 -- the variable that an entry is, cut at its first `=`; one without `=` is none
-unfoldable pub variable_of : List ℕ → Option (List ℕ × List ℕ)
-variable_of entry = cut_of equals_sign entry
+unfoldable pub entry_variable : List ℕ → Option (List ℕ × List ℕ)
+entry_variable entry = cut_of equals_sign entry
 
 abbrev pub variables_of : List (List ℕ) → NamedBytes
-variables_of entries = filter_map variable_of entries
+variables_of entries = filter_map entry_variable entries
 
 -- a variable in vectors as lists of bytes
 abbrev pub variable_bytes : Option (Vec ℕ Global × Vec ℕ Global) → Option (List ℕ × List ℕ)

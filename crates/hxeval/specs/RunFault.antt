@@ -16,9 +16,9 @@ use Rattle.hxeval.specs.declared.load.LoadFault.TheVariants as load
 use Rattle.hxeval.specs.declared.run_fault.RunFault.{RunFault}
 use Rattle.hxeval.specs.declared.run_fault.RunFault.TheVariants.{ConfigRefused, RecordRefused, Files, Source, Sink, NoMemory}
 
-abbrev pub file_fault : FileFault → RunFault
-file_fault file.Failed = Files
-file_fault file.NoMemory = NoMemory
+abbrev pub fault_of_file : FileFault → RunFault
+fault_of_file file.Failed = Files
+fault_of_file file.NoMemory = NoMemory
 
 abbrev pub load_fault : LoadFault → RunFault
 load_fault (load.Refused line code) = ConfigRefused line code
@@ -48,9 +48,9 @@ fault_end (ConfigRefused line code) = ends.ConfigRefused line code
 fault_end (RecordRefused offset code) = ends.RecordRefused offset code
 fault_end _ = Undecided
 
-abbrev pub end_of : Result (Unit {0}) RunFault → End
-end_of (Ok _) = Completed
-end_of (Err fault) = fault_end fault
+abbrev pub result_end : Result (Unit {0}) RunFault → End
+result_end (Ok _) = Completed
+result_end (Err fault) = fault_end fault
 
 -- a replay has this fault: the configuration is loaded before it
 abbrev pub IsReplayFault : RunFault → Type 0
@@ -71,7 +71,7 @@ pub record Attempted (s : Setting) (old new : Option (List ℕ)) (result : Resul
   pub of_setting : HasOutcome s outcome
   pub wrote : List ℕ
   pub appended : Appends old new wrote
-  pub answers : AreAnswersTo (end_of result) outcome wrote
+  pub answers : AreAnswersTo (result_end result) outcome wrote
 
 -- the end of a run: the line that tells the fault was written, and the status is the fault's, or
 -- the sink failed or memory ran out before

@@ -7,7 +7,7 @@ ghost use Rattle.hxeval.specs.Replay.{record_line};
 ghost use Rattle.hxeval.specs.Run.{config_line, texts_of};
 ghost use Rattle.hxeval.specs.Explanation.{all_of, explanation, refusal_text, config_refused};
 ghost use Rattle.hxeval.specs.Explanation.{record_refused, meaning_of, status_text, cut_or_end, location_of};
-ghost use Rattle.hxeval.specs.Explanation.{code_of, given_name};
+ghost use Rattle.hxeval.specs.Explanation.{code_in, given_name};
 
 use crate::run::config_name;
 use hx_outside::{Sink, SinkFault, write_all};
@@ -182,7 +182,7 @@ fn refusal<'t>(
     last_line: &'t [u8],
     rows: &'static [Row],
 ) -> Parts<'t>
-    ensures { let code = code_of last_line.now in
+    ensures { let code = code_in last_line.now in
         let texts = map (λ row. (row.0.now, row.1.now, row.2.now)) rows.now in
         all_of result ≡ refusal_text subject.now separator.now (location_of last_line.now) code
         (meaning_of texts code) }
@@ -245,7 +245,7 @@ fn location(line: &[u8]) -> &[u8]
 
 /// The third word of a line, which is the code of a refusal.
 fn code(line: &[u8]) -> &[u8]
-    ensures { result.now ≡ code_of line.now }
+    ensures { result.now ≡ code_in line.now }
 {
     cut_or_end(b'\n', cut_or_end(b' ', cut_or_end(b' ', line).1).1).0
 }

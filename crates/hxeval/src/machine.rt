@@ -3,7 +3,7 @@ ghost use Rattle.std.specs.Prelude.{slice_index_or, IfOk, OnOk, IfSome, IsErrOf}
 ghost use Rattle.std.specs.Io.{WritesAtMost};
 ghost use Rattle.hx_base.specs.Pairs.{pairs_of};
 ghost use Rattle.hxeval.specs.Run.{texts_of};
-ghost use Rattle.hxeval.specs.Machine.{HasLonger, unknown_texts, variable_of, variables_of};
+ghost use Rattle.hxeval.specs.Machine.{HasLonger, unknown_texts, entry_variable, variables_of};
 ghost use Rattle.hxeval.specs.Machine.{variable_bytes};
 
 use hx_text::cut_at;
@@ -179,9 +179,9 @@ fn push_variable(
 }
 
 /// The variable that an entry `NAME=VALUE` is, cut at its first `=`; one without `=` is none.
-#[tactic(auto, unfolding(crate::specs::Machine::variable_of))]
+#[tactic(auto, unfolding(crate::specs::Machine::entry_variable))]
 fn variable(alloc: Global, entry: &[u8]) -> Result<Option<(Vec<u8>, Vec<u8>)>, AllocError>
-    ensures { IfOk result (λ found. variable_bytes found ≡ variable_of entry.now) }
+    ensures { IfOk result (λ found. variable_bytes found ≡ entry_variable entry.now) }
 {
     match cut_at(b'=', entry) {
         None => Ok(None),

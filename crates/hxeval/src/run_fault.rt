@@ -60,9 +60,9 @@ impl RunFault {
 
 impl From<FileFault> for RunFault {
     ghost use Rattle.std.specs.Prelude.{◌≡◌};
-    ghost use Rattle.hxeval.specs.RunFault.{file_fault};
+    ghost use Rattle.hxeval.specs.RunFault.{fault_of_file};
 
-    ghost from_gives = { λ fault given. given ≡ file_fault fault };
+    ghost from_gives = { λ fault given. given ≡ fault_of_file fault };
 
     fn from(fault: FileFault) -> RunFault {
         match fault {

@@ -1,4 +1,4 @@
-use Rattle.hx_words.specs.TokenView.{state_of}
+use Rattle.hx_words.specs.TokenView.{quote_state_of}
 use Rattle.hx_words.proofs.ArgumentLemmas.{arguments_comma, arguments_part}
 use Rattle.hx_words.proofs.argument.read_arguments.Goals as goal
 
@@ -14,4 +14,4 @@ items-preserved c =
     let appended = c.in_ok-append-in-Part.ensures in
     rw (c.skip-rest.ensures, appended.done, appended.word)
     (arguments_part _ _ _ _ _ c.in-Some.byte _ c.in-Part.count _
-    (state_of c.in-Part.next) c.items.invariant c.in-Some.ensures c.in-Part.ensures.item)
+    (quote_state_of c.in-Part.next) c.items.invariant c.in-Some.ensures c.in-Part.ensures.item)

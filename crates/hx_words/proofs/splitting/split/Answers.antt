@@ -1,5 +1,5 @@
 use Rattle.std.proofs.Common.{rules}
-use Rattle.hx_words.specs.TokenView.{state_of}
+use Rattle.hx_words.specs.TokenView.{quote_state_of}
 use Rattle.hx_words.proofs.WordLemmas.{words_gap, words_part}
 use Rattle.hx_words.proofs.splitting.split.Goals as goal
 
@@ -15,5 +15,5 @@ items-preserved c =
     let appended = c.in_ok-append-in-Part.ensures in
     rw (c.skip-rest-in-Part.ensures, appended.done, appended.word)
     (words_part _ _ _ _ _ _ c.in-Some.byte _ c.in-Part.count _
-    (state_of c.in-Part.next) c.items.invariant c.in-Some.ensures c.in-Part.ensures.item
+    (quote_state_of c.in-Part.next) c.items.invariant c.in-Some.ensures c.in-Part.ensures.item
     (λ full. search rules))
