@@ -10,7 +10,7 @@ use Rattle.std.proofs.lemmas.List.{length-take-le, take-append-drop}
 use Rattle.std.proofs.lemmas.Option.{same_Some, none-some, cond_some}
 use Rattle.std.proofs.lemmas.Slice.Eq.{bytes_eq-Decides}
 use Rattle.hxeval.specs.Rules.{Rule}
-use Rattle.hxeval.specs.Statement.{Spells, is_value, polarity, polarity_of, words_after, values_of, condition_of, conditional_rule, rule_with, rule_of}
+use Rattle.hxeval.specs.Statement.{Spells, is_value, polarity, polarity_of, words_after_word, values_of, condition_of, conditional_rule, rule_with, rule_of}
 
 -- the values before a closing brace are read as they are
 values_of-spelled : (values : List (List ℕ)) → 0 < length values → list_all is_value values ≡ true → values_of (values ++ codes "}" ∷ []) ≡ Some values
@@ -41,7 +41,7 @@ and_then_some : {A B : Type 0} (f : A → Option B) (o : Option A) (y : B) → o
 and_then_some f None y is = absurd (none-some y is)
 and_then_some f (Some x) y is = (x, refl, is)
 
-words_after_is : (word : List ℕ) (words rest : List (List ℕ)) → words_after word words ≡ Some rest → words ≡ word ∷ rest
+words_after_is : (word : List ℕ) (words rest : List (List ℕ)) → words_after_word word words ≡ Some rest → words ≡ word ∷ rest
 words_after_is word [] rest is = absurd (none-some rest is)
 words_after_is word (first ∷ words) rest is =
     let (same, after) = cond_some (bytes_eq first word) words rest is in
@@ -88,8 +88,8 @@ conditional_rule_is : (words : List (List ℕ)) (rule : Rule) → conditional_ru
 conditional_rule_is [] rule is = absurd (none-some rule is)
 conditional_rule_is (word ∷ words) rule is =
     let (unless, values) = rule_with_is (polarity_of word) (condition_of words) rule is in
-    let (after_path, path, values_are) = and_then_some values_of (option_and_then (words_after (codes "path")) (words_after (codes "{") words)) rule.values values in
-    let (after_brace, brace, path_is) = and_then_some (words_after (codes "path")) (words_after (codes "{") words) after_path path in
+    let (after_path, path, values_are) = and_then_some values_of (option_and_then (words_after_word (codes "path")) (words_after_word (codes "{") words)) rule.values values in
+    let (after_brace, brace, path_is) = and_then_some (words_after_word (codes "path")) (words_after_word (codes "{") words) after_path path in
     let (closed, some, all) = values_of_is after_path rule.values values_are in
     let first : word ≡ polarity rule.unless = polarity_is word rule.unless unless in
     let second : words ≡ codes "{" ∷ after_brace = words_after_is (codes "{") words after_brace brace in
@@ -100,8 +100,8 @@ conditional_rule_is (word ∷ words) rule is =
 pub spells : (words : List (List ℕ)) (rule : Rule) → rule_of words ≡ Some rule → Spells words rule
 unfolding rule_of
 spells words rule is =
-    let (after_deny, deny, rest) = and_then_some conditional_rule (option_and_then (words_after (codes "deny")) (words_after (codes "http-request") words)) rule is in
-    let (after_http, http, deny_is) = and_then_some (words_after (codes "deny")) (words_after (codes "http-request") words) after_deny deny in
+    let (after_deny, deny, rest) = and_then_some conditional_rule (option_and_then (words_after_word (codes "deny")) (words_after_word (codes "http-request") words)) rule is in
+    let (after_http, http, deny_is) = and_then_some (words_after_word (codes "deny")) (words_after_word (codes "http-request") words) after_deny deny in
     let (condition_are, some, all) = conditional_rule_is after_deny rule rest in
     let first : words ≡ codes "http-request" ∷ after_http = words_after_is (codes "http-request") words after_http http in
     let second : after_http ≡ codes "deny" ∷ after_deny = words_after_is (codes "deny") after_http after_deny deny_is in

@@ -27,9 +27,9 @@ pub record Spells (words : List (List ℕ)) (rule : Rule) : Type 0 where
 -- that they agree
 
 -- the words after a first word that is this one
-abbrev pub words_after : List ℕ → List (List ℕ) → Option (List (List ℕ))
-words_after word [] = None
-words_after word (first ∷ rest) = if bytes_eq first word then Some rest else None
+abbrev pub words_after_word : List ℕ → List (List ℕ) → Option (List (List ℕ))
+words_after_word word [] = None
+words_after_word word (first ∷ rest) = if bytes_eq first word then Some rest else None
 
 -- the values that a closing brace ends
 abbrev pub values_of : List (List ℕ) → Option (List (List ℕ))
@@ -43,7 +43,7 @@ values_of words =
 abbrev pub condition_of : List (List ℕ) → Option (List (List ℕ))
 condition_of words =
     option_and_then values_of
-    (option_and_then (words_after (codes "path")) (words_after (codes "{") words))
+    (option_and_then (words_after_word (codes "path")) (words_after_word (codes "{") words))
 
 -- whether a word turns the condition after it round
 abbrev pub polarity_of : List ℕ → Option Bool
@@ -64,4 +64,4 @@ conditional_rule (word ∷ rest) = rule_with (polarity_of word) (condition_of re
 unfoldable pub rule_of : List (List ℕ) → Option Rule
 rule_of words =
     option_and_then conditional_rule
-    (option_and_then (words_after (codes "deny")) (words_after (codes "http-request") words))
+    (option_and_then (words_after_word (codes "deny")) (words_after_word (codes "http-request") words))

@@ -1,7 +1,7 @@
 ghost use Rattle.std.specs.Prelude.{◌≡◌, IfOk};
 ghost use Rattle.std.specs.List.{list_all};
 ghost use Rattle.std.specs.Option.{option_copied};
-ghost use Rattle.hxeval.specs.Statement.{is_value, words_after, values_of, condition_of};
+ghost use Rattle.hxeval.specs.Statement.{is_value, words_after_word, values_of, condition_of};
 ghost use Rattle.hxeval.specs.Statement.{polarity_of, rule_of};
 
 use crate::rules::Rule;
@@ -14,10 +14,10 @@ use std::alloc::Global;
 pub fn rule_of(alloc: Global, words: &[Octets]) -> Result<Option<Rule>, NoMemory>
     ensures { IfOk result (λ rule. rule ≡ rule_of words.now) }
 {
-    let Some(rest) = words_after(words, b"http-request") else {
+    let Some(rest) = words_after_word(words, b"http-request") else {
         return Ok(None);
     };
-    let Some(rest) = words_after(rest, b"deny") else {
+    let Some(rest) = words_after_word(rest, b"deny") else {
         return Ok(None);
     };
     let Some((word, rest)) = rest.split_first() else {
@@ -33,8 +33,8 @@ pub fn rule_of(alloc: Global, words: &[Octets]) -> Result<Option<Rule>, NoMemory
 }
 
 /// The words after the first, where that is `word`.
-fn words_after<'a>(words: &'a [Octets], word: &[u8]) -> Option<&'a [Octets]>
-    ensures { option_copied result ≡ words_after word.now words.now }
+fn words_after_word<'a>(words: &'a [Octets], word: &[u8]) -> Option<&'a [Octets]>
+    ensures { option_copied result ≡ words_after_word word.now words.now }
 {
     let (first, rest) = words.split_first()?;
     if first.as_slice() == word {
@@ -62,8 +62,8 @@ fn polarity_of(word: &[u8]) -> Option<bool>
 fn condition_of(words: &[Octets]) -> Option<&[Octets]>
     ensures { option_copied result ≡ condition_of words.now }
 {
-    let rest = words_after(words, b"{")?;
-    let rest = words_after(rest, b"path")?;
+    let rest = words_after_word(words, b"{")?;
+    let rest = words_after_word(rest, b"path")?;
     values_of(rest)
 }
 
