@@ -1,6 +1,7 @@
 //! What a program reads and writes: sources, sinks and files, as traits whose contracts say which
 //! bytes moved and count each fault, with fakes in memory that fail at chosen calls, a source that
-//! logs its reads, and adapters over std.
+//! logs its reads, and adapters over std; and makers of regular expressions, whose contracts say
+//! which expression a text is, and count each text that is too large.
 //!
 //! ```
 //! fn copy<S: Source, K: Sink>(alloc: Global, from: &mut S, to: &mut K) -> Result<(), SinkFault> {
@@ -13,24 +14,32 @@
 #![tactic(auto)]
 
 mod dir_files;
+mod fail_maker;
 mod fault;
 mod files;
 mod log_source;
 mod mem_files;
 mod mem_sink;
 mod mem_source;
+mod pattern_fault;
+mod plain_maker;
+mod re_maker;
 mod sink;
 mod source;
 mod std_sink;
 mod std_source;
 
 pub use dir_files::DirFiles;
+pub use fail_maker::FailMaker;
 pub use fault::{Failed, FileFault, ReadFault, SinkFault};
 pub use files::Files;
 pub use log_source::LogSource;
 pub use mem_files::MemFiles;
 pub use mem_sink::MemSink;
 pub use mem_source::MemSource;
+pub use pattern_fault::{PatFault, ReFault};
+pub use plain_maker::PlainMaker;
+pub use re_maker::ReMaker;
 pub use sink::{Sink, write_all};
 pub use source::{Source, read_to_end};
 pub use std_sink::StdSink;
