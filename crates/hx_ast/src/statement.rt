@@ -1,0 +1,77 @@
+use crate::expr::Expr;
+use crate::items::Items;
+use hx_text::{By, Octets};
+
+/// The numbers of the heads by which a declaration looks up its patterns, in their order.
+pub type Heads = Items<u32>;
+
+/// Texts, in their order.
+pub type Texts = Items<Octets>;
+
+/// The terms of a conjunction: it holds where each of them does.
+pub type Conj = Items<Term>;
+
+/// The conjunctions of a condition: it holds where one of them does.
+pub type Cond = Items<Conj>;
+
+/// An ACL: a sample and the patterns that it is compared with (HAProxy configuration manual 2.4,
+/// section 7.1).
+#[derive(Debug, Drop)]
+pub struct Decl {
+    /// gives the samples
+    pub expr: Expr,
+    /// the match method
+    pub by: By,
+    /// whether the inline patterns ignore the case of letters
+    pub ci: bool,
+    /// what the samples are looked up in
+    pub heads: Heads,
+    /// the inline patterns
+    pub words: Texts,
+}
+
+/// The ACL of a term.
+#[derive(Debug, Drop)]
+pub enum AclUse {
+    /// one that stands in the condition itself, in braces
+    Own(Decl),
+}
+
+/// A term of a condition (HAProxy configuration manual 2.4, section 7.2).
+#[derive(Debug, Drop)]
+pub struct Term {
+    /// whether the term holds where the ACL doesn't
+    pub negated: bool,
+    /// its ACL
+    pub acl: AclUse,
+}
+
+/// What a rule of `http-request` does (HAProxy configuration manual 2.4, section 4.2): a variant
+/// for each action, whose fields are its arguments in their order.
+#[derive(Debug, Drop)]
+pub enum Action {
+    /// `deny [status N]`: the request is denied with the status N, 403 without it
+    Deny(Option<u16>),
+}
+
+/// A rule: an action, and when it is taken.
+#[derive(Debug, Drop)]
+pub struct Rule {
+    /// the number of its line in the configuration, counted from 1
+    pub line: u64,
+    /// what it does
+    pub action: Action,
+    /// whether it is taken where the condition doesn't hold, as with `unless`
+    pub unless: bool,
+    /// when it is taken, and always without one
+    pub cond: Option<Cond>,
+}
+
+/// What a line of a configuration says.
+#[derive(Debug, Drop)]
+pub enum Statement {
+    /// nothing that changes a rule, as a line without words
+    Plain,
+    /// `http-request`
+    Rule(Rule),
+}
