@@ -1,0 +1,6 @@
+mod ChunkLemmas
+mod SlotLemmas
+pub mod PoolLemmas
+pub mod ChainLemmas
+mod LinkingLemmas
+mod ChainSteps
