@@ -1,3 +1,4 @@
 pub mod MapLemmas
 pub mod SessionLemmas
 pub mod LawLemmas
+pub mod FindLemmas

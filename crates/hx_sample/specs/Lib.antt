@@ -2,6 +2,9 @@
 pub mod Seen
 pub mod Cast
 pub mod Vars
+pub mod Keys
+pub mod Find
+pub mod Tables
 -- views of the code, for the contracts of private functions
 pub mod Stored
 pub mod Listed

@@ -1,15 +1,20 @@
-//! Laws: what the definitions of casts and of variables imply.
-ghost use Rattle.std.specs.Prelude.{◌≡◌, ◌≢◌, ℕ, Some, None, option_and_then, if◌then◌else◌};
+//! Laws: what the definitions of casts, of variables and of searches imply.
+ghost use Rattle.std.specs.Prelude.{◌≡◌, ◌≢◌, ◌↔◌, ℕ, true, false, List, Some, None, option_and_then, if◌then◌else◌};
+ghost use Rattle.std.specs.List.{find, list_any};
+ghost use Rattle.std.specs.Str.{bytes_eq};
 ghost use Rattle.hx_text.specs.declared.kinds.Kind.TheVariants as kind;
 ghost use Rattle.hx_text.specs.declared.names.VarName.{VarName};
 ghost use Rattle.hx_sample.specs.Cast.{cast_of};
+ghost use Rattle.hx_sample.specs.declared.sample.Value.{Value};
 ghost use Rattle.hx_sample.specs.declared.sample.Value.TheVariants as value;
+ghost use Rattle.hx_sample.specs.Find.{Entry, found_entry};
+ghost use Rattle.hx_sample.specs.Keys.{hits};
 ghost use Rattle.hx_sample.specs.Vars.{var_of, with_var, without_var, after_request, after_session, ends_with_request, owner_of, IsSameVar};
 
 use crate::sample::Value;
 use crate::vars::Vars;
 use hx_text::laws::{printed_i64_reads_back, printed_ip_reads_back};
-use hx_text::{Ip, VarName};
+use hx_text::{By, Ip, VarName};
 
 /// A number that is cast to a text is cast back to the same number.
 pub fn number_is_cast_back(n: i64)
@@ -56,4 +61,20 @@ pub fn ended_session_is_forgotten(vars: &Vars, conn: u32)
         var_of (after_session vars.now conn) c n ≡ None }
     ensures others { (c : ℕ) (n : VarName) → owner_of c n.scope ≢ Some conn →
         var_of (after_session vars.now conn) c n ≡ var_of vars.now c n }
+{}
+
+/// The entry that is found hits, and of the entries that have its key it is the first.
+pub fn found_entry_hits_and_is_first(by: By, ci: bool)
+    ensures hits { (entries : List Entry) (v : Value) (found : Entry) →
+        found_entry by ci entries v ≡ Some found → hits by ci found.key v ≡ true }
+    ensures first { (entries : List Entry) (v : Value) (found : Entry) →
+        found_entry by ci entries v ≡ Some found →
+        find (λ entry. bytes_eq entry.key found.key) entries ≡ Some found }
+{}
+
+/// No entry is found exactly where none hits.
+pub fn none_is_found_where_none_hits(by: By, ci: bool)
+    ensures { (entries : List Entry) (v : Value) →
+        (found_entry by ci entries v ≡ None)
+        ↔ (list_any (λ entry. hits by ci entry.key v) entries ≡ false) }
 {}

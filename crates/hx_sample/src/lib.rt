@@ -1,6 +1,7 @@
 //! Samples: the typed values that rules work with. What a sample is, how it is owned and lent, to
-//! which types it can be cast, the occurrences that a fetch finds, and the variables that keep
-//! samples.
+//! which types it can be cast, the occurrences that a fetch finds, the variables that keep samples,
+//! and the tables in which samples are looked up. `specs/Keys.antt` says which keys hit a sample,
+//! and `specs/Find.antt` which entry of a list is found.
 //!
 //! A caller that keeps a text in a variable and takes it out as a number:
 //!
@@ -18,9 +19,11 @@ pub mod laws;
 mod sample;
 mod samples;
 mod stored;
+mod tables;
 mod vars;
 
 pub use casting::cast;
 pub use sample::{Bytes, Sample, Value, lend, own};
 pub use samples::Samples;
+pub use tables::{EmptyTables, Hit, Tables};
 pub use vars::Vars;
