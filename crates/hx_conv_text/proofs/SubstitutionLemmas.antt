@@ -1,0 +1,146 @@
+-- What replaces the matches of an expression, and that expressions which match the same are
+-- replaced the same.
+use Rattle.std.proofs.Common.{◌≡◌, ℕ, zero, suc, ◌+◌, ◌*◌, ◌<◌, ◌≤◌, ◌==◌, ◌⊎◌, Bool, true, false, List, [], ◌∷◌, ◌++◌, map, get_or, drop, take, length, Option, Some, None, option_map, refl, sym, ap, ap₂, ◌∙◌, inl, inr, arith, append_assoc, slice_range, if◌then◌else◌}
+use Rattle.std.proofs.lemmas.Bool.{ne_eqb}
+use Rattle.std.proofs.lemmas.List.{drop_more, get_or_default}
+use Rattle.std.proofs.lemmas.Option.{same_Some}
+use mathlib.Core.Path.{fun_ext}
+use Rattle.regex.specs.Bytes.{IsCapturesOf, captures_span, regex_pattern}
+use Rattle.regex.specs.Patterns.{Re, Match, SameCaptures, find, find_all, span}
+use Rattle.regex.specs.Replace.{IsReplacedBy, bytes_of, group_bytes, replaced_by}
+use Rattle.regex.specs.Search.{group_span}
+use Rattle.regex.specs.Writes.{both}
+use Rattle.regex.specs.declared.bytes.captures.Captures.{Captures}
+use Rattle.regex.specs.declared.bytes.regex.Regex.{Regex}
+use Rattle.regex.proofs.ForCallers.{find_all_alike, spans}
+use Rattle.regex_syntax.proofs.CapturesLemmas.{find_alike}
+use Rattle.hx_outside.specs.Expressions.{IsExpression}
+use Rattle.hx_conv_text.specs.Captured.{captured}
+use Rattle.hx_conv_text.specs.Substitution.{expanded_of, expansion, expansion_at, regsub_of, substituted_text, with_replaced}
+
+plain : (group : ℕ → List ℕ) (b : ℕ) (rest : List ℕ) → (b ≡ 92 → ⊥) ⊎ (rest ≡ [])
+    → expansion group (b ∷ rest) ≡ b ∷ expansion group rest
+plain group b [] h = refl
+plain group b (next ∷ rest) (inl other) = rw (ne_eqb b 92 other) refl
+plain group b (next ∷ rest) (inr none) = absurd cc
+
+pub plain_step : (group : ℕ → List ℕ) (sub : List ℕ) (at : ℕ) (made now : List ℕ) → at < length sub
+    → (get_or sub at 0 ≡ 92 → ⊥) ⊎ (drop (at + 1) sub ≡ []) → now ≡ made ++ get_or sub at 0 ∷ []
+    → made ++ expansion group (drop at sub) ≡ expansion group sub
+    → now ++ expansion group (drop (at + 1) sub) ≡ expansion group sub
+plain_step group sub at made now h other e so_far =
+    let b = get_or sub at 0 in
+    let rest = drop (at + 1) sub in
+    ap (λ l. l ++ expansion group rest) e
+    ∙ append_assoc made (b ∷ []) (expansion group rest)
+    ∙ ap (λ l. made ++ l) (sym (plain group b rest other))
+    ∙ ap (λ l. made ++ expansion group l) (sym (drop_more sub at 0 h))
+    ∙ so_far
+
+group_zero : (input : List ℕ) (m : Match) (c : Captures) → IsCapturesOf input m c → captured c 0 ≡ group_bytes input m 0
+unfolding group_span
+group_zero input m c h = ap₂ bytes_of h.0 (ap Some h.1.whole_is)
+
+group_some : (input : List ℕ) (m : Match) (c : Captures) → IsCapturesOf input m c → (n : ℕ) → 1 ≤ n
+    → captured c n ≡ group_bytes input m n
+group_some input m c h n le =
+    let some : n == 0 ≡ false = ne_eqb n 0 (λ e. absurd (omega (arith, e))) in
+    rw some (ap₂ bytes_of h.0 (h.2 n le))
+
+group_at : (input : List ℕ) (m : Match) (c : Captures) → IsCapturesOf input m c → (n : ℕ) → captured c n ≡ group_bytes input m n
+group_at input m c h zero = group_zero input m c h
+group_at input m c h (suc n) = group_some input m c h (suc n) (omega arith)
+
+pub expansion-captured : (sub input : List ℕ) (m : Match) (c : Captures) → IsCapturesOf input m c
+    → expansion (captured c) sub ≡ expansion_at sub input m
+expansion-captured sub input m c h = ap (λ (group : ℕ → List ℕ). expansion group sub) (fun_ext (group_at input m c h))
+
+-- What a search tells of a match: where it starts and ends, and its groups. A replacement depends
+-- on no more.
+abbrev Seen : Type 0
+Seen = ℕ × ℕ × (ℕ → Option ℕ)
+
+expansion_seen : List ℕ → List ℕ → Seen → List ℕ
+expansion_seen sub input s =
+    expansion (λ n. bytes_of input (if n == 0 then Some (s.0, s.1) else both (s.2 (2 * n)) (s.2 (2 * n + 1)))) sub
+
+replaced_seen : List ℕ → List ℕ → Option Seen → List ℕ
+replaced_seen sub input None = input
+replaced_seen sub input (Some s) = take s.0 input ++ expansion_seen sub input s ++ drop s.1 input
+
+expansion_at-seen : (sub input : List ℕ) (m : Match) → expansion_at sub input m ≡ expansion_seen sub input (spans m)
+unfolding expansion_seen
+expansion_at-seen sub input m = refl
+
+expanded-seen : (sub input : List ℕ) (o : Option Match)
+    → option_map (expansion_at sub input) o ≡ option_map (expansion_seen sub input) (option_map spans o)
+expanded-seen sub input None = refl
+expanded-seen sub input (Some m) = ap Some (expansion_at-seen sub input m)
+
+replaced-seen : (sub input : List ℕ) (o : Option Match)
+    → with_replaced (expansion_at sub input) input o ≡ replaced_seen sub input (option_map spans o)
+unfolding replaced_seen
+replaced-seen sub input None = refl
+replaced-seen sub input (Some m) =
+    ap (λ written. take m.start input ++ written ++ drop m.trace.end input) (expansion_at-seen sub input m)
+
+all_alike : (sub input : List ℕ) (at : ℕ) (xs ys : List Match) → map spans xs ≡ map spans ys
+    → replaced_by (expansion_at sub input) input at xs ≡ replaced_by (expansion_at sub input) input at ys
+unfolding replaced_by
+all_alike sub input at [] [] e = refl
+all_alike sub input at [] (y ∷ ys) e = absurd cc
+all_alike sub input at (x ∷ xs) [] e = absurd cc
+all_alike sub input at (x ∷ xs) (y ∷ ys) e =
+    let head : spans x ≡ spans y = cc in
+    let tail : map spans xs ≡ map spans ys = cc in
+    let written : expansion_at sub input x ≡ expansion_at sub input y =
+    expansion_at-seen sub input x ∙ ap (expansion_seen sub input) head ∙ sym (expansion_at-seen sub input y) in
+    ap₂ ◌++◌ (ap₂ (λ start w. slice_range input at start ++ w) (ap (λ (s : Seen). s.0) head) written)
+    (all_alike sub input x.trace.end xs ys tail
+    ∙ ap (λ (s : Seen). replaced_by (expansion_at sub input) input s.1 ys) head)
+
+module _ {a b : Re} (same : SameCaptures a b) (input : List ℕ) (bytes : (k : ℕ) → get_or input k 0 < 256) where
+  leftmost : option_map spans (find a input 0) ≡ option_map spans (find b input 0)
+  leftmost = find_alike a b same input (λ k d h. rw (get_or_default input k d 0 h) (bytes k)) 0
+
+  pub expanded_alike : (sub : List ℕ)
+      → option_map (expansion_at sub input) (find a input 0) ≡ option_map (expansion_at sub input) (find b input 0)
+  expanded_alike sub =
+      expanded-seen sub input (find a input 0) ∙ ap (option_map (expansion_seen sub input)) leftmost
+      ∙ sym (expanded-seen sub input (find b input 0))
+
+  pub substituted_alike : (sub : List ℕ) (each : Bool) → substituted_text a sub each input ≡ substituted_text b sub each input
+  substituted_alike sub true = all_alike sub input 0 (find_all a input) (find_all b input) (find_all_alike same input bytes false)
+  substituted_alike sub false =
+      replaced-seen sub input (find a input 0) ∙ ap (replaced_seen sub input) leftmost
+      ∙ sym (replaced-seen sub input (find b input 0))
+
+-- an expression that was made of a text replaces as that of the text
+pub expanded_is : (ci : Bool) (text sub input : List ℕ) (re : Regex) → ((k : ℕ) → get_or input k 0 < 256)
+    → IsExpression ci text re
+    → option_map (expansion_at sub input) (find (regex_pattern re) input 0) ≡ expanded_of ci text sub input
+expanded_is ci text sub input re bytes is = rw is.is (expanded_alike is.same input bytes sub)
+
+pub substituted_is : (ci : Bool) (text sub : List ℕ) (each : Bool) (input : List ℕ) (re : Regex)
+    → ((k : ℕ) → get_or input k 0 < 256) → IsExpression ci text re
+    → Some (substituted_text (regex_pattern re) sub each input) ≡ regsub_of ci text sub each input
+substituted_is ci text sub each input re bytes is =
+    rw is.is (ap Some (substituted_alike is.same input bytes sub each))
+
+-- what is written in the place of each match
+pub replaced_as : (f : Match → List ℕ) (Writes : Match → List ℕ → Type 0) → ((m : Match) (w : List ℕ) → Writes m w → w ≡ f m)
+    → (hay : List ℕ) (at : ℕ) (ms : List Match) (out : List ℕ) → IsReplacedBy Writes hay at ms out → out ≡ replaced_by f hay at ms
+unfolding replaced_by
+replaced_as f Writes same hay at [] out h = h
+replaced_as f Writes same hay at (m ∷ ms) out h =
+    h.4 ∙ ap₂ (λ w r. (slice_range hay at m.start ++ w) ++ r) (same m h.0 h.2) (replaced_as f Writes same hay m.trace.end ms h.1 h.3)
+
+-- the span of the match as its captures have it
+pub whole_span : (input : List ℕ) (m : Match) (c : Captures) (s : ℕ × ℕ) → IsCapturesOf input m c → Some s ≡ captures_span c 0 → s ≡ span m
+unfolding group_span
+whole_span input m c s h e = same_Some _ _ e ∙ h.1.whole_is
+
+pub first_made : (sub input replacement : List ℕ) (m : Match) (s : ℕ × ℕ) → s ≡ span m → replacement ≡ expansion_at sub input m
+    → take s.0 input ++ replacement ++ drop s.1 input ≡ with_replaced (expansion_at sub input) input (Some m)
+first_made sub input replacement m s e f =
+    ap₂ (λ (w : List ℕ) (t : ℕ × ℕ). take t.0 input ++ w ++ drop t.1 input) f e

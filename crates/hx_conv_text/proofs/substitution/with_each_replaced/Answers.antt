@@ -1,0 +1,17 @@
+use Rattle.std.proofs.Common.{◌≡◌, ◌∙◌}
+use Rattle.hx_conv_text.specs.Captured.{captured}
+use Rattle.hx_conv_text.specs.Substitution.{expansion, expansion_at}
+use Rattle.hx_conv_text.proofs.SubstitutionLemmas.{expansion-captured, replaced_as}
+use Rattle.hx_conv_text.proofs.substitution.with_each_replaced.Goals as goal
+
+pub returns : goal.returns
+returns c =
+    let sub = c.args.sub.now in
+    let input = c.args.input.now in
+    let value = rw c.in_ok-matcher.ensures.pattern at c.in_ok-made.ensures.value in
+    c.from_vec.ensures
+    ∙ replaced_as (expansion_at sub input) _
+    (λ m w h.
+    let post : h.1.items ≡ expansion (captured h.0.now) sub = h.3 in
+    h.4 ∙ post ∙ expansion-captured sub input m h.0.now h.2)
+    input 0 _ _ value

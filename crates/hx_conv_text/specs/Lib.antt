@@ -1,0 +1,11 @@
+-- what callers need
+pub mod Pieces
+pub mod Texts
+pub mod UrlDecoding
+pub mod Substitution
+pub mod Converters
+pub mod Building
+-- views of the code, for the contracts of private functions
+pub mod Scanning
+pub mod Built
+pub mod Captured

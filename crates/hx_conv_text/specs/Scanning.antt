@@ -1,0 +1,21 @@
+-- How the code finds pieces: from the left, one after the other.
+use Rattle.std.specs.Prelude.{ℕ, nat_le, Bool, true, false, List, [], drop, length, if◌then◌else◌}
+use Rattle.std.specs.List.{filter, slice_split}
+use Rattle.hx_conv_text.specs.Pieces.{Span, is_filled, is_in, spans_from}
+use Rattle.hx_conv_text.specs.declared.pieces.Pieces.{Pieces}
+
+-- the fields of a text that begin at a position or after it, where one does
+abbrev pub fields_after : List ℕ → List ℕ → ℕ → List Span
+fields_after delims text at =
+    if nat_le at (length text)
+    then spans_from at (slice_split (is_in delims) (drop at text))
+    else []
+
+-- those fields, or the words among them
+abbrev pub pieces_after : Bool → List ℕ → List ℕ → ℕ → List Span
+pieces_after false delims text at = fields_after delims text at
+pieces_after true delims text at = filter is_filled (fields_after delims text at)
+
+-- what is left of a text that is cut
+abbrev pub pieces_left : Pieces → ℕ → List Span
+pieces_left pieces at = pieces_after pieces.words pieces.delims.now pieces.text.now at
