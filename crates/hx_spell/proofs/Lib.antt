@@ -1,0 +1,10 @@
+pub mod ResultLemmas
+pub mod FormLemmas
+pub mod TableFormLemmas
+pub mod ValueLemmas
+pub mod TableLemmas
+pub mod ExpressionLemmas
+pub mod StatementLemmas
+pub mod OneStatementLemmas
+pub mod CodeLemmas
+pub mod StatementFormLemmas

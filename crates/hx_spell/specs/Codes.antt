@@ -1,0 +1,32 @@
+-- The codes of what words are refused for, as a refused configuration is reported by them.
+use Rattle.std.specs.Prelude.{◌≡◌, ◌≢◌, Result, Ok, Err}
+use Rattle.hx_words.specs.declared.ArgFault.{ArgFault}
+use Rattle.hx_words.specs.declared.ArgFault.TheVariants.{Unclosed, AfterClose, BadEscape, OpenQuote, NoMemory}
+use Rattle.hx_spell.specs.declared.fault.SpellFault.{SpellFault}
+use Rattle.hx_spell.specs.declared.fault.SpellFault.TheVariants as spell
+
+-- a statement, a fetch, a converter or a flag that isn't supported
+abbrev pub unsupported : SpellFault
+unsupported = spell.Code 9
+
+-- a number of arguments or an argument that isn't allowed
+abbrev pub bad_argument : SpellFault
+bad_argument = spell.Code 10
+
+-- the name of a header or of a variable that isn't of its form
+abbrev pub bad_name : SpellFault
+bad_name = spell.Code 12
+
+-- what is wrong with the form of a call
+abbrev pub form_fault : ArgFault → SpellFault
+form_fault Unclosed = spell.Code 5
+form_fault AfterClose = spell.Code 6
+form_fault BadEscape = spell.Code 7
+form_fault OpenQuote = spell.Code 8
+form_fault NoMemory = spell.NoMemory
+
+-- A call answers what is expected: the same value, or the same code. Where memory runs out, nothing
+-- is said.
+abbrev pub AnswersAs : {A : Type 0} → Result A SpellFault → Result A SpellFault → Type 0
+AnswersAs (Ok x) expected = expected ≡ Ok x
+AnswersAs (Err fault) expected = fault ≢ spell.NoMemory → expected ≡ Err fault

@@ -1,0 +1,50 @@
+ghost use Rattle.std.specs.Prelude.{◌≡◌};
+ghost use Rattle.hx_spell.specs.Codes.{form_fault};
+
+use hx_text::NoMemory;
+use hx_words::ArgFault;
+use thiserror::Error;
+
+/// The code of a statement, a fetch, a converter or a flag that isn't supported.
+pub(crate) const UNSUPPORTED: u32 = 9;
+
+/// The code of a number of arguments, or of an argument, that isn't allowed.
+pub(crate) const BAD_ARGUMENT: u32 = 10;
+
+/// The code of the name of a header or of a variable that isn't of its form.
+pub(crate) const BAD_NAME: u32 = 12;
+
+/// Why words spell no statement.
+#[derive(Clone, Copy, Debug, PartialEq, Eq, Error)]
+pub enum SpellFault {
+    /// What is wrong first from the left has this code.
+    #[error("the statement is refused with code {0}")]
+    Code(u32),
+    /// Memory ran out, which says nothing of the words.
+    #[error("out of memory")]
+    NoMemory,
+}
+
+impl From<NoMemory> for SpellFault {
+    ghost use Rattle.std.specs.Prelude.{◌≡◌};
+    ghost use Rattle.hx_spell.specs.declared.fault.SpellFault.TheVariants as spell;
+
+    ghost from_gives = { λ _ fault. fault ≡ spell.NoMemory };
+
+    fn from(_: NoMemory) -> SpellFault {
+        SpellFault::NoMemory
+    }
+}
+
+/// The fault of a call whose form is wrong.
+pub(crate) fn form_fault(fault: ArgFault) -> SpellFault
+    ensures { result ≡ form_fault fault }
+{
+    match fault {
+        ArgFault::Unclosed => SpellFault::Code(5),
+        ArgFault::AfterClose => SpellFault::Code(6),
+        ArgFault::BadEscape => SpellFault::Code(7),
+        ArgFault::OpenQuote => SpellFault::Code(8),
+        ArgFault::NoMemory => SpellFault::NoMemory,
+    }
+}
