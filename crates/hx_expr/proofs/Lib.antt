@@ -1,0 +1,4 @@
+pub mod ValueLemmas
+pub mod ExpressionLemmas
+pub mod HeadLemmas
+pub mod ExpressionTextLemmas

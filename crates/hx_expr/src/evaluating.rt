@@ -1,0 +1,163 @@
+ghost use Rattle.std.specs.Prelude.{◌≡◌, IfOk, None};
+ghost use Rattle.std.specs.Option.{option_copied};
+ghost use Rattle.hx_fetch.specs.World.{context_of};
+ghost use Rattle.hx_sample.specs.Seen.{occurrence_value, value_of};
+ghost use Rattle.hx_expr.specs.Values.{HasTableHead, HasTableHeads, IsHeadBy, converted_value, expr_value, expr_values, map_value, mapped_value, value_after};
+
+use crate::plan::{Built, Plan, PlanConv};
+use crate::typing::{kind_by, kind_out};
+use hx_ast::Conv;
+use hx_conv_text::apply as apply_text;
+use hx_conv_val::apply as apply_val;
+use hx_fetch::{World, chosen, occurrences};
+use hx_pool::Steps;
+use hx_sample::{Bytes, Sample, Samples, Tables, cast};
+use hx_text::{By, NoMemory, Octets, Out};
+use std::alloc::Global;
+use std::sync::ledger::Ledger;
+
+/// A map's text as the type of its values.
+fn read_value<'w>(
+    alloc: Global,
+    text: Option<&[u8]>,
+    out: Out,
+) -> Result<Option<Sample<'w>>, NoMemory>
+    ensures { IfOk result (λ value. occurrence_value value
+        ≡ mapped_value out (option_copied text.entry) None) }
+{
+    match text {
+        Some(text) => {
+            let text = Octets::copy(alloc, text)?;
+            cast(alloc, Sample::Str(Bytes::Own(text)), kind_out(out))
+        }
+        None => Ok(None),
+    }
+}
+
+/// What the map of the head gives for a sample.
+fn look_up<'w, T: Tables, L: Ledger>(
+    alloc: Global,
+    head: u32,
+    by: By,
+    out: Out,
+    default: &Option<Octets>,
+    sample: Sample<'w>,
+    tables: &'w T,
+    steps: &mut Steps<L>,
+) -> Result<Option<Sample<'w>>, NoMemory>
+    requires { IsHeadBy (T.heads tables.now) head by }
+    ensures { IfOk result (λ value. occurrence_value value
+        ≡ map_value (T.heads tables.now) (T.lists tables.now)
+        (Conv.Map head by out default.now) (value_of sample.entry)) }
+{
+    let Some(input) = cast(alloc, sample, kind_by(by))? else {
+        return Ok(None);
+    };
+    match tables.find(alloc, head, &input, steps)? {
+        Some(hit) => cast(alloc, Sample::Str(Bytes::Lent(hit.value)), kind_out(out)),
+        None => match default {
+            Some(text) => read_value(alloc, Some(text.as_slice()), out),
+            None => Ok(None),
+        },
+    }
+}
+
+/// What a converter makes of a sample.
+fn apply<'w, T: Tables, L: Ledger>(
+    alloc: Global,
+    conv: &PlanConv,
+    sample: Sample<'w>,
+    world: &World<'w>,
+    tables: &'w T,
+    steps: &mut Steps<L>,
+) -> Result<Option<Sample<'w>>, NoMemory>
+    requires { HasTableHead (T.heads tables.now) conv.now }
+    ensures { IfOk result (λ value. occurrence_value value
+        ≡ converted_value (context_of world.now) (T.heads tables.now) (T.lists tables.now)
+        conv.now (value_of sample.entry)) }
+{
+    match &conv.built {
+        Built::Text(conv) => apply_text(alloc, conv, sample, world.conn.id, world.vars),
+        Built::Val(conv) => apply_val(alloc, conv, sample, world.conn.id, world.vars),
+        Built::Map(head, by, out, default) => {
+            look_up(alloc, *head, *by, *out, default, sample, tables, steps)
+        }
+    }
+}
+
+/// What the converters make of an occurrence, one after the other. None stays none.
+fn convert<'w, T: Tables, L: Ledger>(
+    alloc: Global,
+    convs: &[PlanConv],
+    occurrence: Option<Sample<'w>>,
+    world: &World<'w>,
+    tables: &'w T,
+    steps: &mut Steps<L>,
+) -> Result<Option<Sample<'w>>, NoMemory>
+    requires { HasTableHeads (T.heads tables.now) convs.now }
+    ensures { IfOk result (λ value. occurrence_value value
+        ≡ value_after (context_of world.now) (T.heads tables.now) (T.lists tables.now)
+        convs.now (occurrence_value occurrence.entry)) }
+{
+    let mut value = occurrence;
+    for conv in convs {
+        value = match value {
+            Some(sample) => apply(alloc, conv, sample, world, tables, steps)?,
+            None => None,
+        };
+    }
+    Ok(value)
+}
+
+/// The value of the expression in `world` (HAProxy configuration manual 2.4, section 7.3): the
+/// occurrence of its fetch that expressions take, as its converters make it, one after the other.
+/// None where the fetch finds none, or a converter fails. Maps are looked up in `tables`, whose
+/// steps are counted in `steps`. Bytes that no converter makes anew are lent from the request, the
+/// variables and the tables. It fails only where memory runs out.
+///
+/// The heads that the expression names are heads of these tables, with the match methods that it
+/// names there.
+pub fn eval<'w, T: Tables, L: Ledger>(
+    alloc: Global,
+    plan: &Plan,
+    world: &World<'w>,
+    tables: &'w T,
+    steps: &mut Steps<L>,
+) -> Result<Option<Sample<'w>>, NoMemory>
+    requires heads { HasTableHeads (T.heads tables.now) plan.now.convs }
+    ensures { IfOk result (λ value. occurrence_value value
+        ≡ expr_value (context_of world.now) (T.heads tables.now) (T.lists tables.now) plan.now) }
+{
+    let occurrence = chosen(alloc, &plan.fetch, world)?;
+    convert(
+        alloc,
+        plan.convs.as_slice(),
+        occurrence,
+        world,
+        tables,
+        steps,
+    )
+}
+
+/// The values of the expression in `world`, one for each occurrence of its fetch, in their order,
+/// as an ACL tries them (HAProxy configuration manual 2.4, section 7.1). An occurrence that is
+/// none, or for which a converter fails, keeps its position, as none. Otherwise as `eval`.
+pub fn eval_all<'w, T: Tables, L: Ledger>(
+    alloc: Global,
+    plan: &Plan,
+    world: &World<'w>,
+    tables: &'w T,
+    steps: &mut Steps<L>,
+) -> Result<Samples<'w>, NoMemory>
+    requires heads { HasTableHeads (T.heads tables.now) plan.now.convs }
+    ensures { IfOk result (λ values. values
+        ≡ expr_values (context_of world.now) (T.heads tables.now) (T.lists tables.now) plan.now) }
+{
+    let mut found = occurrences(alloc, &plan.fetch, world)?;
+    let mut values = Samples::new(alloc);
+    while let Some(occurrence) = found.take() {
+        let convs = plan.convs.as_slice();
+        values.push(convert(alloc, convs, occurrence, world, tables, steps)?)?;
+    }
+    Ok(values)
+}
