@@ -1,5 +1,6 @@
 pub mod FindLemmas
 pub mod WordLemmas
+pub mod DigitLemmas
 pub mod PieceLemmas
 pub mod ItemLemmas
 pub mod WindowLemmas

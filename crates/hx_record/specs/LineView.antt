@@ -16,6 +16,11 @@ abbrev pub result_meaning : Result Line RecordRefusal → Result LineMeaning Rec
 result_meaning (Ok line) = Ok (meaning_read line)
 result_meaning (Err refusal) = Err refusal
 
+-- what a line says that announces a request, of this connection and of so many bytes
+abbrev pub request_meaning : Result (ℕ × ℕ) RecordRefusal → Result LineMeaning RecordRefusal
+request_meaning (Ok (id, len)) = Ok (Announces id len)
+request_meaning (Err refusal) = Err refusal
+
 -- a line that says an event
 abbrev pub SaysEvent : Result LineMeaning RecordRefusal → Type 0
 SaysEvent (Ok (Says event)) = Unit {0}

@@ -1,12 +1,13 @@
-ghost use Rattle.std.specs.Prelude.{◌≡◌, [], ◌∷◌, Ok, Err, MatchResult, IfOk, OnErr, ◌≤◌, ◌-◌, ◌^◌};
+ghost use Rattle.std.specs.Prelude.{◌≡◌, [], ◌∷◌, Ok, Err, MatchResult, IfOk, IfSome, OnErr, ◌≤◌, ◌-◌, ◌^◌};
 ghost use Rattle.std.specs.Option.{option_copied};
+ghost use Rattle.hx_text.specs.Number.{number_up_to};
 ghost use Rattle.hx_record.specs.Line.{Says, line_words, number_of_word, address_of_word, line_meaning, conn_meaning, req_meaning, close_meaning, cli_meaning};
 ghost use Rattle.hx_record.specs.declared.events.Event.TheVariants.{Cli};
-ghost use Rattle.hx_record.specs.LineView.{result_meaning, words_after, IsSomeWords, SaysEvent};
+ghost use Rattle.hx_record.specs.LineView.{result_meaning, request_meaning, words_after, IsSomeWords, SaysEvent};
 
 use crate::events::Event;
 use crate::refusal::RecordRefusal;
-use hx_text::{Ip, NoMemory, Octets, cut_at, read_ip, read_number};
+use hx_text::{Ip, NoMemory, Octets, cut_at, read_ip};
 use std::alloc::Global;
 
 /// How many bytes a request has at most.
@@ -27,8 +28,32 @@ fn number(word: &[u8], most: u32) -> Result<u32, RecordRefusal>
     ensures value { result ≡ number_of_word most word.now }
     ensures within { IfOk result (λ n. n ≤ most) }
 {
-    let n = read_number(word, u64::from(most)).ok_or(RecordRefusal::BadNumber)?;
+    let n = digits(word, most).ok_or(RecordRefusal::BadNumber)?;
     Ok(n as u32)
+}
+
+/// The number of a word, as `read_number` reads it, in one pass: numbers of requests are short, and
+/// stand in each of them.
+#[tactic(auto, using(crate::proofs::DigitLemmas::next_digit))]
+#[inline(always)]
+fn digits(word: &[u8], most: u32) -> Option<u64>
+    ensures value { result ≡ number_up_to most word.now }
+    ensures within { IfSome result (λ n. n ≤ most) }
+{
+    if word.is_empty() {
+        return None;
+    }
+    let mut n = 0;
+    for byte in word {
+        if !byte.is_ascii_digit() {
+            return None;
+        }
+        n = n * 10 + u64::from(*byte - b'0');
+        if n > u64::from(most) {
+            return None;
+        }
+    }
+    Some(n)
 }
 
 fn port(word: &[u8]) -> Result<u16, RecordRefusal>
@@ -105,16 +130,18 @@ fn read_conn(rest: Option<&[u8]>) -> Result<Line, RecordRefusal>
     }))
 }
 
+/// The connection of a request and how many bytes it has.
 #[tactic(auto, unfolding(crate::specs::Line::req_meaning))]
-fn read_req(rest: Option<&[u8]>) -> Result<Line, RecordRefusal>
-    ensures { result_meaning result ≡ req_meaning (words_after (option_copied rest.entry)) }
+#[inline(always)]
+fn read_req(rest: Option<&[u8]>) -> Result<(u32, u32), RecordRefusal>
+    ensures { request_meaning result ≡ req_meaning (words_after (option_copied rest.entry)) }
 {
     let (id, rest) = word(rest)?;
     let (len, rest) = word(rest)?;
     no_word(rest)?;
     let id = number(id, u32::MAX)?;
     let len = number(len, REQUEST_MAX)?;
-    Ok(Line::Request { id, len })
+    Ok((id, len))
 }
 
 #[tactic(auto, unfolding(crate::specs::Line::close_meaning))]
@@ -154,6 +181,20 @@ fn read_cli(alloc: Global, rest: Option<&[u8]>) -> Result<Result<Line, RecordRef
     }
 }
 
+/// The request that a line announces, which is given without its ending: its connection and how
+/// many bytes it has. None of a line that doesn't begin with `req` and a space. Most lines of a
+/// record do, and this reads them without a place for an event.
+#[tactic(auto, using(crate::proofs::WordLemmas::req_words))]
+#[inline(always)]
+pub(crate) fn read_request_line(line: &[u8]) -> Option<Result<(u32, u32), RecordRefusal>>
+    ensures { IfSome result (λ read. request_meaning read ≡ line_meaning line.now) }
+{
+    match line.strip_prefix(b"req ") {
+        Some(words) => Some(read_req(Some(words))),
+        None => None,
+    }
+}
+
 /// What a line says, which is given without its ending. Memory is taken for an event alone.
 #[tactic(auto, unfolding(crate::specs::Line::line_meaning, crate::specs::Line::words_meaning))]
 pub(crate) fn read_line(alloc: Global, line: &[u8]) -> Result<Result<Line, RecordRefusal>, NoMemory>
@@ -167,7 +208,10 @@ pub(crate) fn read_line(alloc: Global, line: &[u8]) -> Result<Result<Line, Recor
     if name == b"conn".as_slice() {
         Ok(read_conn(rest))
     } else if name == b"req".as_slice() {
-        Ok(read_req(rest))
+        match read_req(rest) {
+            Ok((id, len)) => Ok(Ok(Line::Request { id, len })),
+            Err(refusal) => Ok(Err(refusal)),
+        }
     } else if name == b"close".as_slice() {
         Ok(read_close(rest))
     } else if name == b"cli".as_slice() {

@@ -1,13 +1,13 @@
 ghost use Rattle.std.specs.Prelude.{◌≡◌, ℕ, ◌+◌, ◌^◌, ◌<◌, ◌≤◌, List, length, take, IfOk, OnErr, Ok};
 ghost use Rattle.hx_record.specs.Beginning.{beginning_at, request_beginning, line_beginning, last_line_beginning, meaning_without_cr, line_length, beginning_of, Open};
 ghost use Rattle.hx_record.specs.Record.{continuation_of};
-ghost use Rattle.hx_record.specs.Line.{Announces};
+ghost use Rattle.hx_record.specs.Line.{Announces, line_meaning};
 ghost use Rattle.hx_record.specs.PieceView.{continuation, piece_beginning, IsWait, KnowsWait, WantsRequest};
 ghost use Rattle.hx_record.specs.Parts.{IsFound};
 
 use crate::events::Event;
 use crate::find::first_at;
-use crate::line::{Line, read_line};
+use crate::line::{Line, read_line, read_request_line};
 use crate::refusal::RecordRefusal;
 use hx_text::{NoMemory, Octets, without_cr};
 use std::alloc::Global;
@@ -53,6 +53,7 @@ pub(crate) enum Piece {
 }
 
 /// A request of `bytes`, which takes `used` bytes of the record with its line.
+#[inline(always)]
 fn request(alloc: Global, used: usize, id: u32, bytes: &[u8]) -> Result<Piece, NoMemory>
     ensures { IfOk result (λ p. p ≡ Piece.Found used (Event.Req id bytes.now)) }
 {
@@ -65,6 +66,7 @@ fn request(alloc: Global, used: usize, id: u32, bytes: &[u8]) -> Result<Piece, N
 
 /// The request of `len` bytes that a line of `used` bytes announces, which `rest` follows.
 #[tactic(auto, unfolding(crate::specs::Beginning::request_beginning))]
+#[inline(always)]
 fn read_request(
     alloc: Global,
     tail: Tail,
@@ -103,7 +105,7 @@ fn read_request(
 }
 
 /// What a line gives that takes `used` bytes with its ending, where `rest` follows it.
-#[tactic(auto, using(crate::proofs::WaitLemmas::says_found))]
+#[inline(always)]
 fn line_piece(
     alloc: Global,
     tail: Tail,
@@ -118,7 +120,32 @@ fn line_piece(
     ensures err { OnErr result (IsFound
         (line_beginning (continuation tail) (meaning_without_cr line.now) used rest.now)) }
 {
-    match read_line(alloc, without_cr(line))? {
+    let line = without_cr(line);
+    match read_request_line(line) {
+        Some(Ok((id, len))) => read_request(alloc, tail, id, len, used, rest),
+        Some(Err(refusal)) => Ok(Piece::Fault { skip: 0, refusal }),
+        None => any_line_piece(alloc, tail, line, used, rest),
+    }
+}
+
+/// The same for any line, which is given without a CR.
+#[tactic(auto, using(crate::proofs::WaitLemmas::says_found))]
+#[inline(never)]
+fn any_line_piece(
+    alloc: Global,
+    tail: Tail,
+    line: &[u8],
+    used: usize,
+    rest: &[u8],
+) -> Result<Piece, NoMemory>
+    requires { used + length rest.now < 2 ^ 64 }
+    ensures ok { IfOk result (λ p. piece_beginning p
+        ≡ line_beginning (continuation tail) (line_meaning line.now) used rest.now) }
+    ensures wait { IfOk result (λ p. WantsRequest p (line_meaning line.now) used) }
+    ensures err { OnErr result (IsFound
+        (line_beginning (continuation tail) (line_meaning line.now) used rest.now)) }
+{
+    match read_line(alloc, line)? {
         Err(refusal) => Ok(Piece::Fault { skip: 0, refusal }),
         Ok(Line::Nothing) => Ok(Piece::Skip { used }),
         Ok(Line::Event(event)) => Ok(Piece::Found { used, event }),
@@ -147,6 +174,7 @@ fn read_last(alloc: Global, tail: Tail, bytes: &[u8]) -> Result<Piece, NoMemory>
 
 /// What the bytes begin with. No LF may stand before `from`.
 #[tactic(auto, unfolding(crate::specs::Beginning::beginning_of))]
+#[inline(always)]
 fn read_first(alloc: Global, tail: Tail, bytes: &[u8], from: usize) -> Result<Piece, NoMemory>
     requires { from ≤ line_length bytes.now }
     ensures ok { IfOk result (λ p. piece_beginning p ≡ beginning_of (continuation tail) bytes.now) }
@@ -169,6 +197,7 @@ fn read_first(alloc: Global, tail: Tail, bytes: &[u8], from: usize) -> Result<Pi
 }
 
 /// What the bytes begin with, where `wait` is known of them. Memory is taken for an event alone.
+#[inline(always)]
 pub(crate) fn read_piece(
     alloc: Global,
     tail: Tail,
