@@ -1,9 +1,9 @@
 -- Lemmas on the beginning of a line that is held in an array.
-use Rattle.std.proofs.Common.{◌≡◌, ℕ, ◌+◌, ◌<◌, ◌≤◌, ◌==◌, ◌&&◌, Bool, true, false, not, cond, List, [], ◌∷◌, ◌++◌, length, take, arith, add-one, refl, sym, ap, ◌∙◌, inl, inr, ◌⊎◌, append_assoc, append-nil, take-append-drop, length-append}
+use Rattle.std.proofs.Common.{◌≡◌, ℕ, ◌+◌, ◌-◌, ◌<◌, ◌≤◌, ◌==◌, ◌&&◌, Bool, true, false, not, cond, List, [], ◌∷◌, ◌++◌, length, take, drop, get_or, arith, add-one, refl, sym, ap, ◌∙◌, inl, inr, ◌⊎◌, append_assoc, append-nil, take-append-drop, length-append, length-drop}
 use Rattle.std.proofs.Math.ListN.{set, drop_of_length-le}
 use Rattle.std.proofs.Math.Seq.{take-suc-set}
 use Rattle.std.proofs.lemmas.Bool.{cases_lt}
-use Rattle.std.proofs.lemmas.List.{length-take-le, take-append-le}
+use Rattle.std.proofs.lemmas.List.{length-take-le, take-append-le, take_more}
 use Rattle.hxeval.specs.LastLine.{LineStart, is_inside, start_after, start_after_all}
 
 take_all : (n : ℕ) (xs : List ℕ) → length xs ≤ n → take n xs ≡ xs
@@ -31,6 +31,32 @@ full line len byte none most size =
 pub from_start : (ended : Bool) (len : ℕ) (line : List ℕ) → take (cond ended 0 len) line ≡ cond ended [] (take len line)
 from_start true len line = refl
 from_start false len line = refl
+
+-- ---- what stands before the last line
+
+start_after_all-append : (s : LineStart) (xs ys : List ℕ) → start_after_all s (xs ++ ys) ≡ start_after_all (start_after_all s xs) ys
+start_after_all-append s [] ys = refl
+start_after_all-append s (x ∷ xs) ys = start_after_all-append (start_after s x) xs ys
+
+-- where a line ended, what it was can't show after a further byte
+ended_alike : (a b : LineStart) (bytes : List ℕ) → a.ended ≡ true → b.ended ≡ true → 0 < length bytes → start_after_all a bytes ≡ start_after_all b bytes
+ended_alike a b [] a_ends b_ends some = absurd (omega (arith, some))
+ended_alike a b (byte ∷ bytes) a_ends b_ends some = rw (a_ends, b_ends) refl
+
+-- so a line that ends is passed over
+pub passed_line : (s : LineStart) (bytes : List ℕ) (start : ℕ) → 0 < start → start < length bytes → get_or bytes (start - 1) 0 ≡ 10
+    → start_after_all (record { bytes = s.bytes; ended = true }) (drop start bytes) ≡ start_after_all s bytes
+passed_line s bytes start some within feed =
+    let last = start - 1 in
+    let inside : last < length bytes = omega (arith, some, within) in
+    let ends : take (last + 1) bytes ≡ take last bytes ++ 10 ∷ [] = take_more bytes last 0 inside ∙ ap (λ b. take last bytes ++ b ∷ []) feed in
+    let passed : take start bytes ≡ take last bytes ++ 10 ∷ [] = ap (λ n. take n bytes) (omega (arith, some)) ∙ ends in
+    let before = start_after_all s (take last bytes) in
+    let whole : start_after_all s bytes ≡ start_after_all (start_after before 10) (drop start bytes) =
+    ap (λ (b : List ℕ). start_after_all s b) (sym (take-append-drop start bytes) ∙ ap (λ (b : List ℕ). b ++ drop start bytes) passed)
+    ∙ start_after_all-append s (take last bytes ++ 10 ∷ []) (drop start bytes)
+    ∙ ap (λ t. start_after_all t (drop start bytes)) (start_after_all-append s (take last bytes) (10 ∷ [])) in
+    ended_alike (record { bytes = s.bytes; ended = true }) (start_after before 10) (drop start bytes) refl refl (omega (arith, length-drop start bytes, within)) ∙ sym whole
 
 -- ---- the beginning is that of the last line
 

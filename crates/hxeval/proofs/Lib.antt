@@ -1,10 +1,9 @@
 pub mod LoadLemmas
 pub mod LoadingLemmas
+pub mod JudgedLemmas
 pub mod ReplayLemmas
 pub mod RunLemmas
 pub mod StatusLemmas
-pub mod StatementLemmas
-pub mod ConnectionsLemmas
 pub mod LastLineLemmas
 pub mod ExplainLemmas
 pub mod MachineLemmas

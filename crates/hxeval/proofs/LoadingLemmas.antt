@@ -1,95 +1,122 @@
 -- The function that loads a configuration is the relation between a configuration and its rules.
-use Rattle.std.proofs.Common.{◌≡◌, ◌≢◌, ℕ, ◌+◌, inl, inr, List, [], ◌∷◌, ◌++◌, length, Option, None, Some, Result, Ok, Err, refl, sym, ap, ◌∙◌, subst, arith}
+use Rattle.std.proofs.Common.{◌≡◌, ℕ, ◌+◌, Bool, true, false, cond, inl, inr, List, [], ◌∷◌, ◌++◌, length, Option, None, Some, Result, Ok, Err, refl, sym, ap, ◌∙◌, subst, arith}
 use Rattle.std.specs.Prelude.{◌↔◌}
-use Rattle.std.proofs.lemmas.Option.{none-some}
+use Rattle.std.specs.List.{list_all}
 use Rattle.hx_words.specs.Variable.{Env}
 use Rattle.hx_words.specs.Words.{words_of}
 use Rattle.hx_words.specs.declared.WordFault.{WordFault}
-use Rattle.hxeval.specs.Configuration.{Refusal, SpellsRule, IsRefused, GiveRules, LoadsLines, Loads, rule_or_unsupported, statement_of, statement_of_words, line_rule, then_rules, lines_of, loaded_from, loaded}
+use Rattle.hx_ast.specs.declared.Statement.{Statement}
+use Rattle.hx_ast.specs.declared.Statement.TheVariants as statement
+use Rattle.hx_spell.specs.Spelling.{Spells}
+use Rattle.hx_spell.specs.Statements.{statement_of, deny_rule, string_decl}
+use Rattle.hx_spell.specs.declared.SpellFault.{SpellFault}
+use Rattle.hx_words.proofs.OneSpellingLemmas.{calls_only}
+use Rattle.hx_words.proofs.SpelledCallLemmas.{calls_spelled}
+use Rattle.hx_spell.proofs.OneStatementLemmas.{AreReadAsSpelled, one_statement}
+use Rattle.hx_expr.specs.Types.{is_typed}
+use Rattle.hx_expr.specs.Expressions.{has_expression}
+use Rattle.hxeval.specs.Configuration.{Refusal, SpellsRule, GivesRule, IsRefused, GiveRules, LoadsLines, Loads, bad_type, bad_pattern, some_rule, rule_of_statement, rule_of_spelled, rule_of_words, line_rule, then_rules, lines_of, loaded_from, loaded}
 use Rattle.hxeval.specs.Rules.{Rule}
-use Rattle.hxeval.specs.Statement.{Spells, rule_of}
 use Rattle.hxeval.proofs.LoadLemmas.{after_no_rules}
-use Rattle.hxeval.proofs.StatementLemmas.{spelled, spells, no_rule}
+
+-- ---- statements
+
+-- any words are read as the statement that they spell
+read_as_spelled : (words : List (List ℕ)) → AreReadAsSpelled words
+read_as_spelled words = one_statement words (λ text at list. (calls_spelled None text list, calls_only None text list))
+
+-- the rule as the syntax has it
+abbrev rule_statement : ℕ → Rule → Statement
+rule_statement number rule = deny_rule number rule.unless (string_decl rule.expr rule.values)
+
+-- what is said of a rule whose expression has right types or not, and regular expressions or not
+abbrev judged : Rule → (typed read : Bool) → Result (Option Rule) ℕ
+judged rule true true = Ok (Some rule)
+judged rule true false = Err bad_pattern
+judged rule false read = Err bad_type
+
+judged_by : (rule : Rule) (typed read : Bool)
+    → some_rule (cond typed (cond read (Ok rule) (Err bad_pattern)) (Err bad_type)) ≡ judged rule typed read
+judged_by rule true true = refl
+judged_by rule true false = refl
+judged_by rule false read = refl
+
+statement_judged : (number : ℕ) (rule : Rule) → rule_of_statement (rule_statement number rule) ≡ judged rule (is_typed rule.expr) (list_all has_expression rule.expr.convs)
+statement_judged number rule = judged_by rule (is_typed rule.expr) (list_all has_expression rule.expr.convs)
 
 -- ---- what a line says, from the function to the relation
 
-refused_by_rule : (env : Env) (line : List ℕ) (words : List (List ℕ)) (code : ℕ) (found : Option Rule) → words_of env line ≡ Ok words → words ≢ []
-    → rule_of words ≡ found → rule_or_unsupported found ≡ Err code → IsRefused env line code
-refused_by_rule env line words code (Some rule) read some is e = cc
-refused_by_rule env line words code None read some is e = inr (
-  record { words = words; read = read; some = some; unspelled = λ rule s. none-some rule (sym is ∙ spelled words rule s) },
-  cc,
-)
+abbrev LineSays : Env → ℕ → List ℕ → Result (Option Rule) ℕ → Type 0
+LineSays env number line (Ok None) = words_of env line ≡ Ok []
+LineSays env number line (Ok (Some rule)) = GivesRule env number line rule
+LineSays env number line (Err code) = IsRefused env number line code
 
-refused_by_words : (env : Env) (line : List ℕ) (code : ℕ) (words : Result (List (List ℕ)) WordFault) → words_of env line ≡ words
-    → statement_of_words words ≡ Err code → IsRefused env line code
-refused_by_words env line code (Err fault) read e = inl (record { fault = fault; read = read; coded = cc })
-refused_by_words env line code (Ok []) read e = cc
-refused_by_words env line code (Ok (word ∷ rest)) read e = refused_by_rule env line (word ∷ rest) code (rule_of (word ∷ rest)) read (λ none. cc) refl e
+says_rule : (env : Env) (number : ℕ) (line : List ℕ) (rule : Rule) (typed read : Bool) → SpellsRule env number line rule
+    → is_typed rule.expr ≡ typed → list_all has_expression rule.expr.convs ≡ read → LineSays env number line (judged rule typed read)
+says_rule env number line rule true true spelled typed read = record { spelled = spelled; typed = typed; expressions = read }
+says_rule env number line rule true false spelled typed read =
+    inr (inr (inr (record { rule = rule; spelled = spelled; typed = typed; unread = read; coded = refl })))
+says_rule env number line rule false read spelled typed is =
+    inr (inr (inl (record { rule = rule; spelled = spelled; untyped = typed; coded = refl })))
 
-line_refused : (env : Env) (line : List ℕ) (code : ℕ) → line_rule env line ≡ Err code → IsRefused env line code
+says_statement : (env : Env) (number : ℕ) (line : List ℕ) (words : List (List ℕ)) (spelled : Statement) → words_of env line ≡ Ok words
+    → Spells number words spelled → LineSays env number line (rule_of_statement spelled)
+says_statement env number line [] spelled read is = rw is read
+says_statement env number line (word ∷ words) spelled read s =
+    let rule : Rule = record { unless = s.unless; expr = s.expr; values = s.values } in
+    let here : SpellsRule env number line rule = record { words = word ∷ words; read = read; spelled = subst (λ (t : Statement). Spells number (word ∷ words) t) s.is s } in
+    rw (s.is, statement_judged number rule) (says_rule env number line rule (is_typed s.expr) (list_all has_expression s.expr.convs) here refl refl)
+
+says_spelled : (env : Env) (number : ℕ) (line : List ℕ) (words : List (List ℕ)) (spelled : Result Statement SpellFault) → words_of env line ≡ Ok words
+    → statement_of number words ≡ spelled → LineSays env number line (rule_of_spelled spelled)
+says_spelled env number line words (Ok spelled) read is = says_statement env number line words spelled read ((read_as_spelled words number spelled).0 is)
+says_spelled env number line words (Err fault) read is =
+    inr (inl (record { words = words; read = read; fault = fault; unspelled = is; coded = refl }))
+
+says_words : (env : Env) (number : ℕ) (line : List ℕ) (words : Result (List (List ℕ)) WordFault) → words_of env line ≡ words
+    → LineSays env number line (rule_of_words number words)
+says_words env number line (Ok words) read = says_spelled env number line words (statement_of number words) read refl
+says_words env number line (Err fault) read = inl (record { fault = fault; read = read; coded = refl })
+
+line_says : (env : Env) (number : ℕ) (line : List ℕ) → LineSays env number line (line_rule env number line)
 unfolding line_rule
-line_refused env line code is = refused_by_words env line code (words_of env line) refl is
+line_says env number line = says_words env number line (words_of env line) refl
 
-blank_by_rule : (found : Option Rule) → rule_or_unsupported found ≡ Ok None → ⊥
-blank_by_rule (Some rule) e = cc
-blank_by_rule None e = cc
-
-blank_by_words : (env : Env) (line : List ℕ) (words : Result (List (List ℕ)) WordFault) → words_of env line ≡ words
-    → statement_of_words words ≡ Ok None → words_of env line ≡ Ok []
-blank_by_words env line (Err fault) read e = cc
-blank_by_words env line (Ok []) read e = read
-blank_by_words env line (Ok (word ∷ rest)) read e = absurd (blank_by_rule (rule_of (word ∷ rest)) e)
-
-line_blank : (env : Env) (line : List ℕ) → line_rule env line ≡ Ok None → words_of env line ≡ Ok []
-unfolding line_rule
-line_blank env line is = blank_by_words env line (words_of env line) refl is
-
-spelled_by_rule : (env : Env) (line : List ℕ) (words : List (List ℕ)) (rule : Rule) (found : Option Rule) → words_of env line ≡ Ok words
-    → rule_of words ≡ found → rule_or_unsupported found ≡ Ok (Some rule) → SpellsRule env line rule
-spelled_by_rule env line words rule None read is e = cc
-spelled_by_rule env line words rule (Some other) read is e =
-    let same : rule_of words ≡ Some rule = cc in record { words = words; read = read; spelled = spells words rule same }
-
-spelled_by_words : (env : Env) (line : List ℕ) (rule : Rule) (words : Result (List (List ℕ)) WordFault) → words_of env line ≡ words
-    → statement_of_words words ≡ Ok (Some rule) → SpellsRule env line rule
-spelled_by_words env line rule (Err fault) read e = cc
-spelled_by_words env line rule (Ok []) read e = cc
-spelled_by_words env line rule (Ok (word ∷ rest)) read e = spelled_by_rule env line (word ∷ rest) rule (rule_of (word ∷ rest)) read refl e
-
-line_spelled : (env : Env) (line : List ℕ) (rule : Rule) → line_rule env line ≡ Ok (Some rule) → SpellsRule env line rule
-unfolding line_rule
-line_spelled env line rule is = spelled_by_words env line rule (words_of env line) refl is
+-- what a line says, by what the function says of it
+pub line_is : (env : Env) (number : ℕ) (line : List ℕ) (found : Result (Option Rule) ℕ) → line_rule env number line ≡ found → LineSays env number line found
+line_is env number line found is = subst (λ (f : Result (Option Rule) ℕ). LineSays env number line f) is (line_says env number line)
 
 -- ---- what a line says, from the relation to the function
 
-is_blank : (env : Env) (line : List ℕ) → words_of env line ≡ Ok [] → line_rule env line ≡ Ok None
+by_statement : (env : Env) (number : ℕ) (line : List ℕ) (words : List (List ℕ)) (spelled : Statement) → words_of env line ≡ Ok words
+    → Spells number words spelled → line_rule env number line ≡ rule_of_statement spelled
 unfolding line_rule
-is_blank env line blank = ap statement_of_words blank
+by_statement env number line words spelled read s =
+    ap (rule_of_words number) read ∙ ap rule_of_spelled ((read_as_spelled words number spelled).1 s)
 
-statement_some : (words : List (List ℕ)) (rule : Rule) → rule_of words ≡ Some rule → statement_of words ≡ Ok (Some rule)
-statement_some [] rule is = absurd (none-some rule (sym no_rule ∙ is))
-statement_some (word ∷ rest) rule is = ap rule_or_unsupported is
+by_rule : (env : Env) (number : ℕ) (line : List ℕ) (rule : Rule) (typed read : Bool) → SpellsRule env number line rule
+    → is_typed rule.expr ≡ typed → list_all has_expression rule.expr.convs ≡ read → line_rule env number line ≡ judged rule typed read
+by_rule env number line rule typed read s is_type is_read =
+    by_statement env number line s.words (rule_statement number rule) s.read s.spelled ∙ statement_judged number rule
+    ∙ ap (λ (t : Bool). judged rule t (list_all has_expression rule.expr.convs)) is_type ∙ ap (judged rule typed) is_read
 
-is_spelled : (env : Env) (line : List ℕ) (rule : Rule) → SpellsRule env line rule → line_rule env line ≡ Ok (Some rule)
+is_blank : (env : Env) (number : ℕ) (line : List ℕ) → words_of env line ≡ Ok [] → line_rule env number line ≡ Ok None
+is_blank env number line blank = by_statement env number line [] statement.Plain blank refl
+
+is_given : (env : Env) (number : ℕ) (line : List ℕ) (rule : Rule) → GivesRule env number line rule → line_rule env number line ≡ Ok (Some rule)
+is_given env number line rule g = by_rule env number line rule true true g.spelled g.typed g.expressions
+
+is_refused : (env : Env) (number : ℕ) (line : List ℕ) (code : ℕ) → IsRefused env number line code → line_rule env number line ≡ Err code
 unfolding line_rule
-is_spelled env line rule s = ap statement_of_words s.read ∙ statement_some s.words rule (spelled s.words rule s.spelled)
-
-statement_none : (words : List (List ℕ)) → words ≢ [] → (found : Option Rule) → rule_of words ≡ found → ((rule : Rule) → Spells words rule → ⊥)
-    → statement_of words ≡ Err 9
-statement_none [] some found is none = absurd (some refl)
-statement_none (word ∷ rest) some (Some rule) is none = absurd (none rule (spells (word ∷ rest) rule is))
-statement_none (word ∷ rest) some None is none = ap rule_or_unsupported is
-
-is_refused : (env : Env) (line : List ℕ) (code : ℕ) → IsRefused env line code → line_rule env line ≡ Err code
-unfolding line_rule
-is_refused env line code (inl fault) = ap statement_of_words fault.read ∙ ap Err (sym fault.coded)
-is_refused env line code (inr (none, is)) =
-    ap statement_of_words none.read ∙ statement_none none.words none.some (rule_of none.words) refl none.unspelled ∙ ap Err (sym is)
+is_refused env number line code (inl f) = ap (rule_of_words number) f.read ∙ ap Err (sym f.coded)
+is_refused env number line code (inr (inl f)) = ap (rule_of_words number) f.read ∙ ap rule_of_spelled f.unspelled ∙ ap Err (sym f.coded)
+is_refused env number line code (inr (inr (inl f))) =
+    by_rule env number line f.rule false (list_all has_expression f.rule.expr.convs) f.spelled f.untyped refl ∙ ap Err (sym f.coded)
+is_refused env number line code (inr (inr (inr f))) = by_rule env number line f.rule true false f.spelled f.typed f.unread ∙ ap Err (sym f.coded)
 
 -- ---- the lines
 
-loads_step : (env : Env) (n : ℕ) (line : List ℕ) (lines : List (List ℕ)) (said : Result (Option Rule) ℕ) → line_rule env line ≡ said
+loads_step : (env : Env) (n : ℕ) (line : List ℕ) (lines : List (List ℕ)) (said : Result (Option Rule) ℕ) → LineSays env n line said
     → (rest : Result (List Rule) Refusal) → LoadsLines env (n + 1) lines rest → LoadsLines env n (line ∷ lines) (then_rules said n rest)
 loads_step env n line lines (Err code) is rest loads = record {
   before = [];
@@ -99,34 +126,34 @@ loads_step env n line lines (Err code) is rest loads = record {
   rules = [];
   accepted = refl;
   number = omega arith;
-  refused = line_refused env line code is;
+  refused = is;
 }
-loads_step env n line lines (Ok None) is (Ok more) loads = inl (line_blank env line is, loads)
+loads_step env n line lines (Ok None) is (Ok more) loads = inl (is, loads)
 loads_step env n line lines (Ok None) is (Err refusal) loads = record {
   before = line ∷ loads.before;
   line = loads.line;
   after = loads.after;
   lines_are = ap (λ (l : List (List ℕ)). line ∷ l) loads.lines_are;
   rules = loads.rules;
-  accepted = inl (line_blank env line is, loads.accepted);
+  accepted = inl (is, loads.accepted);
   number = let e = loads.number in omega (arith, e);
   refused = loads.refused;
 }
-loads_step env n line lines (Ok (Some rule)) is (Ok more) loads = inr (rule, more, refl, line_spelled env line rule is, loads)
+loads_step env n line lines (Ok (Some rule)) is (Ok more) loads = inr (rule, more, refl, is, loads)
 loads_step env n line lines (Ok (Some rule)) is (Err refusal) loads = record {
   before = line ∷ loads.before;
   line = loads.line;
   after = loads.after;
   lines_are = ap (λ (l : List (List ℕ)). line ∷ l) loads.lines_are;
   rules = rule ∷ loads.rules;
-  accepted = inr (rule, loads.rules, refl, line_spelled env line rule is, loads.accepted);
+  accepted = inr (rule, loads.rules, refl, is, loads.accepted);
   number = let e = loads.number in omega (arith, e);
   refused = loads.refused;
 }
 
 loads_lines : (env : Env) (n : ℕ) (lines : List (List ℕ)) → LoadsLines env n lines (loaded_from env n lines)
 loads_lines env n [] = refl
-loads_lines env n (line ∷ lines) = loads_step env n line lines (line_rule env line) refl (loaded_from env (n + 1) lines) (loads_lines env (n + 1) lines)
+loads_lines env n (line ∷ lines) = loads_step env n line lines (line_rule env n line) (line_says env n line) (loaded_from env (n + 1) lines) (loads_lines env (n + 1) lines)
 
 -- a configuration loads as the function says
 pub loads : (env : Env) (config : List ℕ) → Loads env config (loaded env config)
@@ -134,22 +161,24 @@ unfolding loaded
 loads env config = loads_lines env 1 (lines_of config)
 
 -- lines that give rules are loaded as these
-gives : (env : Env) (n : ℕ) (lines : List (List ℕ)) (rules : List Rule) → GiveRules env lines rules → loaded_from env n lines ≡ Ok rules
+gives : (env : Env) (n : ℕ) (lines : List (List ℕ)) (rules : List Rule) → GiveRules env n lines rules → loaded_from env n lines ≡ Ok rules
 gives env n [] rules none = ap Ok (sym none)
-gives env n (line ∷ lines) rules (inl (blank, more)) = rw (is_blank env line blank, gives env (n + 1) lines rules more) refl
-gives env n (line ∷ lines) rules (inr (rule, rest, are, spelled_rule, more)) =
-    rw (is_spelled env line rule spelled_rule, gives env (n + 1) lines rest more, are) refl
+gives env n (line ∷ lines) rules (inl (blank, more)) = rw (is_blank env n line blank, gives env (n + 1) lines rules more) refl
+gives env n (line ∷ lines) rules (inr (rule, rest, are, given, more)) =
+    rw (is_given env n line rule given, gives env (n + 1) lines rest more, are) refl
 
 -- lines of which those before one give rules, and that one is refused
 refuses : (env : Env) (n : ℕ) (before : List (List ℕ)) (line : List ℕ) (after : List (List ℕ)) (rules : List Rule) (code number : ℕ)
-    → GiveRules env before rules → number ≡ n + length before → IsRefused env line code
+    → GiveRules env n before rules → number ≡ n + length before → IsRefused env number line code
     → loaded_from env n (before ++ line ∷ after) ≡ Err (record { line = number; code = code })
 refuses env n [] line after rules code number given is refused =
-    let here : number ≡ n = omega (arith, is) in rw (is_refused env line code refused, here) refl
+    let here : number ≡ n = omega (arith, is) in
+    let at_n : IsRefused env n line code = subst (λ (k : ℕ). IsRefused env k line code) here refused in
+    rw (is_refused env n line code at_n, here) refl
 refuses env n (first ∷ before) line after rules code number (inl (blank, more)) is refused =
-    rw (is_blank env first blank, refuses env (n + 1) before line after rules code number more (omega (arith, is)) refused) refl
-refuses env n (first ∷ before) line after rules code number (inr (rule, rest, are, spelled_rule, more)) is refused =
-    rw (is_spelled env first rule spelled_rule, refuses env (n + 1) before line after rest code number more (omega (arith, is)) refused) refl
+    rw (is_blank env n first blank, refuses env (n + 1) before line after rules code number more (omega (arith, is)) refused) refl
+refuses env n (first ∷ before) line after rules code number (inr (rule, rest, are, given, more)) is refused =
+    rw (is_given env n first rule given, refuses env (n + 1) before line after rest code number more (omega (arith, is)) refused) refl
 
 only_lines : (env : Env) (n : ℕ) (lines : List (List ℕ)) (found : Result (List Rule) Refusal) → LoadsLines env n lines found → loaded_from env n lines ≡ found
 only_lines env n lines (Ok rules) given = gives env n lines rules given

@@ -238,6 +238,7 @@ failure_end (run.RecordRefused offset code) is = absurd is
 failure_end run.Files is = absurd is
 failure_end run.Source is = refl
 failure_end run.Sink is = refl
+failure_end run.TooLarge is = absurd is
 failure_end run.NoMemory is = refl
 
 pub sink_failure : (fault : SinkFault) → IsFailure (sink_fault fault)
@@ -250,6 +251,7 @@ failure_kind (run.RecordRefused offset code) is = absurd is
 failure_kind run.Files is = absurd is
 failure_kind run.Source is = tt
 failure_kind run.Sink is = tt
+failure_kind run.TooLarge is = absurd is
 failure_kind run.NoMemory is = tt
 
 pub reader_kind : (fault : RecordFault) → IsReplayFault (reader_fault fault)
@@ -353,6 +355,7 @@ pub replays_event : (rules : List Rule) (state after : ReplayState) (s : State) 
 unfolding replay_outcome
 replays_event rules state after s left left' old new new' placed gathered gathered' (run.ConfigRefused line code) p at_end kind event = absurd kind
 replays_event rules state after s left left' old new new' placed gathered gathered' run.Files p at_end kind event = absurd kind
+replays_event rules state after s left left' old new new' placed gathered gathered' run.TooLarge p at_end kind event = absurd kind
 replays_event rules state after s left left' old new new' placed gathered gathered' (run.RecordRefused offset code) p at_end kind (refused, here, nothing, stays) =
     let v = seen (Answer (Ok (next.Event placed))) rules state s left left' old new gathered p at_end in
     let done : record_outcome rules v.bytes ≡ after_answers (v.wrote ++ gathered) (ends_with (RecordRefused placed.offset code)) =

@@ -77,6 +77,7 @@ unloaded s items old (load.Refused line code) config refused = record {
   appended = Appends-nil old;
   answers = (refl, refl);
 }
+unloaded s items old load.TooLarge config refused = unknown s old run.TooLarge refl
 unloaded s items old load.NoMemory config refused = unknown s old run.NoMemory refl
 
 -- a record that was replayed
@@ -126,6 +127,7 @@ no_config (run.RecordRefused _ _) line code kind is = cc
 no_config run.Files line code kind is = kind
 no_config run.Source line code kind is = cc
 no_config run.Sink line code kind is = cc
+no_config run.TooLarge line code kind is = cc
 no_config run.NoMemory line code kind is = cc
 
 pub no_files : (fault : RunFault) → IsReplayFault fault → fault ≡ run.Files → ⊥
@@ -134,4 +136,14 @@ no_files (run.RecordRefused _ _) kind is = cc
 no_files run.Files kind is = kind
 no_files run.Source kind is = cc
 no_files run.Sink kind is = cc
+no_files run.TooLarge kind is = cc
 no_files run.NoMemory kind is = cc
+
+pub no_large : (fault : RunFault) → IsReplayFault fault → fault ≡ run.TooLarge → ⊥
+no_large (run.ConfigRefused _ _) kind is = cc
+no_large (run.RecordRefused _ _) kind is = cc
+no_large run.Files kind is = cc
+no_large run.Source kind is = cc
+no_large run.Sink kind is = cc
+no_large run.TooLarge kind is = kind
+no_large run.NoMemory kind is = cc

@@ -201,19 +201,21 @@ ran_finished s old mid new (run.RecordRefused offset code) status a f =
 ran_finished s old mid new run.Files status a f = ran_failed s old mid new run.Files status a refl (omega arith) f
 ran_finished s old mid new run.Source status a f = ran_failed s old mid new run.Source status a refl (omega arith) f
 ran_finished s old mid new run.Sink status a f = ran_failed s old mid new run.Sink status a refl (omega arith) f
+ran_finished s old mid new run.TooLarge status a f = ran_failed s old mid new run.TooLarge status a refl (omega arith) f
 ran_finished s old mid new run.NoMemory status a f = ran_failed s old mid new run.NoMemory status a refl (omega arith) f
 
 -- the statuses of faults
-fault_statuses : (fault : RunFault) → Contains (0 ∷ 2 ∷ 3 ∷ 4 ∷ 5 ∷ 6 ∷ 7 ∷ []) (fault_status fault)
+fault_statuses : (fault : RunFault) → Contains (0 ∷ 2 ∷ 3 ∷ 4 ∷ 5 ∷ 6 ∷ 7 ∷ 8 ∷ []) (fault_status fault)
 fault_statuses (run.ConfigRefused line code) = (2, omega arith, refl)
 fault_statuses (run.RecordRefused offset code) = (3, omega arith, refl)
 fault_statuses run.Files = (4, omega arith, refl)
 fault_statuses run.Source = (4, omega arith, refl)
 fault_statuses run.Sink = (5, omega arith, refl)
+fault_statuses run.TooLarge = (7, omega arith, refl)
 fault_statuses run.NoMemory = (6, omega arith, refl)
 
 pub finished_status : (fault : RunFault) (old new : Option (List ℕ)) (status : ℕ) → Finishes fault old new status
-    → Contains (0 ∷ 2 ∷ 3 ∷ 4 ∷ 5 ∷ 6 ∷ 7 ∷ []) status
+    → Contains (0 ∷ 2 ∷ 3 ∷ 4 ∷ 5 ∷ 6 ∷ 7 ∷ 8 ∷ []) status
 finished_status fault old new status (inl (same, line)) = rw same (fault_statuses fault)
 finished_status fault old new status (inr ((zero, within, is), part)) = (5, omega arith, is)
 finished_status fault old new status (inr ((suc zero, within, is), part)) = (6, omega arith, is)
@@ -226,6 +228,7 @@ fault_large (run.RecordRefused offset code) = omega arith
 fault_large run.Files = omega arith
 fault_large run.Source = omega arith
 fault_large run.Sink = omega arith
+fault_large run.TooLarge = omega arith
 fault_large run.NoMemory = omega arith
 
 -- a status that is the fault's own
@@ -244,6 +247,7 @@ is_config_refused (run.RecordRefused offset code) is = absurd (omega (arith, is)
 is_config_refused run.Files is = absurd (omega (arith, is))
 is_config_refused run.Source is = absurd (omega (arith, is))
 is_config_refused run.Sink is = absurd (omega (arith, is))
+is_config_refused run.TooLarge is = absurd (omega (arith, is))
 is_config_refused run.NoMemory is = absurd (omega (arith, is))
 
 pub is_outside : (fault : RunFault) → fault_status fault ≡ 5 → (fault ≡ run.Files) ⊎ (fault ≡ run.Source)
@@ -252,22 +256,33 @@ is_outside (run.RecordRefused offset code) is = absurd (omega (arith, is))
 is_outside run.Files is = inl refl
 is_outside run.Source is = inr refl
 is_outside run.Sink is = absurd (omega (arith, is))
+is_outside run.TooLarge is = absurd (omega (arith, is))
 is_outside run.NoMemory is = absurd (omega (arith, is))
 
 has_status : (s : Setting) (old new : Option (List ℕ)) (status : ℕ) → Ran s old new status → Contains (0 ∷ 3 ∷ 4 ∷ []) status → HasStatus s status
 has_status s old new status r exact = record { outcome = r.outcome; of_setting = r.of_setting; is = (r.whole exact).0 }
 
 -- where the status is none of a failure, it is the outcome's, or memory ran out
-pub complete : (s : Setting) (old new : Option (List ℕ)) (status : ℕ) → Contains (0 ∷ 2 ∷ 3 ∷ 4 ∷ 5 ∷ 6 ∷ 7 ∷ []) status
-    → status ≢ 2 → status ≢ 5 → status ≢ 6 → Ran s old new status → (status ≡ 7) ⊎ HasStatus s status
-complete s old new status (zero, within, is) no_two no_five no_six r = inr (has_status s old new status r (0, omega arith, is))
-complete s old new status (suc zero, within, is) no_two no_five no_six r = absurd (no_two (sym is))
-complete s old new status (suc (suc zero), within, is) no_two no_five no_six r = inr (has_status s old new status r (1, omega arith, is))
-complete s old new status (suc (suc (suc zero)), within, is) no_two no_five no_six r = inr (has_status s old new status r (2, omega arith, is))
-complete s old new status (suc (suc (suc (suc zero))), within, is) no_two no_five no_six r = absurd (no_five (sym is))
-complete s old new status (suc (suc (suc (suc (suc zero)))), within, is) no_two no_five no_six r = absurd (no_six (sym is))
-complete s old new status (suc (suc (suc (suc (suc (suc zero))))), within, is) no_two no_five no_six r = inl (sym is)
-complete s old new status (suc (suc (suc (suc (suc (suc (suc k)))))), within, is) no_two no_five no_six r = absurd (omega (arith, within))
+pub complete : (s : Setting) (old new : Option (List ℕ)) (status : ℕ) → Contains (0 ∷ 2 ∷ 3 ∷ 4 ∷ 5 ∷ 6 ∷ 7 ∷ 8 ∷ []) status
+    → status ≢ 2 → status ≢ 5 → status ≢ 6 → status ≢ 8 → Ran s old new status → (status ≡ 7) ⊎ HasStatus s status
+complete s old new status (zero, within, is) no_two no_five no_six no_eight r = inr (has_status s old new status r (0, omega arith, is))
+complete s old new status (suc zero, within, is) no_two no_five no_six no_eight r = absurd (no_two (sym is))
+complete s old new status (suc (suc zero), within, is) no_two no_five no_six no_eight r = inr (has_status s old new status r (1, omega arith, is))
+complete s old new status (suc (suc (suc zero)), within, is) no_two no_five no_six no_eight r = inr (has_status s old new status r (2, omega arith, is))
+complete s old new status (suc (suc (suc (suc zero))), within, is) no_two no_five no_six no_eight r = absurd (no_five (sym is))
+complete s old new status (suc (suc (suc (suc (suc zero)))), within, is) no_two no_five no_six no_eight r = absurd (no_six (sym is))
+complete s old new status (suc (suc (suc (suc (suc (suc zero))))), within, is) no_two no_five no_six no_eight r = inl (sym is)
+complete s old new status (suc (suc (suc (suc (suc (suc (suc zero)))))), within, is) no_two no_five no_six no_eight r = absurd (no_eight (sym is))
+complete s old new status (suc (suc (suc (suc (suc (suc (suc (suc k))))))), within, is) no_two no_five no_six no_eight r = absurd (omega (arith, within))
+
+only_large : (fault : RunFault) → fault_status fault ≡ 8 → fault ≡ run.TooLarge
+only_large (run.ConfigRefused line code) is = absurd (omega (arith, is))
+only_large (run.RecordRefused offset code) is = absurd (omega (arith, is))
+only_large run.Files is = absurd (omega (arith, is))
+only_large run.Source is = absurd (omega (arith, is))
+only_large run.Sink is = absurd (omega (arith, is))
+only_large run.TooLarge is = refl
+only_large run.NoMemory is = absurd (omega (arith, is))
 
 -- at status 6 the sink failed, before the last line or at it
 pub sink_rose : (fault : RunFault) (status before mid after : ℕ) → status ≡ 6 → (fault ≡ run.Sink → Rose before mid)
@@ -277,4 +292,19 @@ sink_rose (run.ConfigRefused line code) status before mid after six failed last 
 sink_rose (run.RecordRefused offset code) status before mid after six failed last first second = omega (arith, last six (λ is. cc), first)
 sink_rose run.Files status before mid after six failed last first second = omega (arith, last six (λ is. cc), first)
 sink_rose run.Source status before mid after six failed last first second = omega (arith, last six (λ is. cc), first)
+sink_rose run.TooLarge status before mid after six failed last first second = omega (arith, last six (λ is. cc), first)
 sink_rose run.NoMemory status before mid after six failed last first second = omega (arith, last six (λ is. cc), first)
+
+-- at status 8 the fault is that of a regular expression
+pub is_large : (fault : RunFault) (old new : Option (List ℕ)) (status : ℕ) → Finishes fault old new status → status ≡ 8 → fault ≡ run.TooLarge
+is_large fault old new status (inl (same, line)) eight = only_large fault (sym same ∙ eight)
+is_large fault old new status (inr ((zero, within, is), part)) eight = absurd (omega (arith, is, eight))
+is_large fault old new status (inr ((suc zero, within, is), part)) eight = absurd (omega (arith, is, eight))
+is_large fault old new status (inr ((suc (suc k), within, is), part)) eight = absurd (omega (arith, within))
+
+-- and nothing is written of it
+pub large_line : (fault : RunFault) (old new : Option (List ℕ)) (status : ℕ) → Finishes fault old new status → status ≡ 8 → Appends old new []
+large_line fault old new status (inl (same, line)) eight = rw (only_large fault (sym same ∙ eight)) at line
+large_line fault old new status (inr ((zero, within, is), part)) eight = absurd (omega (arith, is, eight))
+large_line fault old new status (inr ((suc zero, within, is), part)) eight = absurd (omega (arith, is, eight))
+large_line fault old new status (inr ((suc (suc k), within, is), part)) eight = absurd (omega (arith, within))

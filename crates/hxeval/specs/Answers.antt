@@ -3,18 +3,25 @@ use Rattle.std.specs.Prelude.{ℕ, List, ◌++◌, codes, if◌then◌else◌}
 use Rattle.std.specs.Fmt.{decimal}
 use Rattle.std.specs.List.{list_any}
 use Rattle.hx_http.specs.Head.{Head, message, many, none}
-use Rattle.hx_http.specs.Target.{path_of}
+use Rattle.hx_http.specs.Parts.{Parts}
+use Rattle.hx_sample.specs.Vars.{no_vars}
+use Rattle.hx_fetch.specs.World.{Context}
+use Rattle.hx_fetch.specs.declared.Conn.{Conn}
 use Rattle.hxeval.specs.Rules.{Rule, denies}
 use Rattle.hxeval.specs.declared.answer.Verdict.{Verdict}
 use Rattle.hxeval.specs.declared.answer.Verdict.TheVariants.{Bad, Deny, Pass}
 
+-- what rules look at: a request and its connection; no statement sets a variable
+abbrev pub request_context : Conn → Parts → Context
+request_context conn parts = record { message = parts; conn = conn; vars = no_vars }
+
 -- A request whose bytes begin with no head of at most 101 header lines is bad. Of the others, one
 -- that some rule denies is denied, and any other passes.
-abbrev pub verdict_of : List Rule → Head → Verdict
-verdict_of rules (message parts len) =
-    if list_any (denies (path_of parts.target)) rules then Deny else Pass
-verdict_of rules many = Bad
-verdict_of rules none = Bad
+abbrev pub verdict_of : List Rule → Conn → Head → Verdict
+verdict_of rules conn (message parts len) =
+    if list_any (denies (request_context conn parts)) rules then Deny else Pass
+verdict_of rules conn many = Bad
+verdict_of rules conn none = Bad
 
 abbrev pub verdict_text : Verdict → List ℕ
 verdict_text Bad = codes " bad 400\n"

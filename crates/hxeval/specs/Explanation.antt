@@ -61,11 +61,14 @@ status_text other (row ∷ rows) status =
     if row.0 == status then row.1 else status_text other rows status
 
 -- what is said of a run with this status, where its configuration has this name, the reading of
--- which may have failed, and this was the last line that it wrote
+-- which may have failed, this was the last line that it wrote, and this the last regular expression
+-- that was too large
 unfoldable pub explanation
-    : ℕ → (name : List ℕ) → (file_failed : Bool) → (last_line : List ℕ) → List ℕ
-explanation status name file_failed last_line =
+    : ℕ → (name : List ℕ) → (file_failed : Bool) → (last_line large : List ℕ) → List ℕ
+explanation status name file_failed last_line large =
     if status == 3 then config_refused name (location_of last_line) (code_in last_line) else
     (if status == 4 then record_refused (location_of last_line) (code_in last_line) else
     (if status == 5 && file_failed then codes "hxeval: " ++ (name ++ codes " can't be read\n") else
-    status_text UNKNOWN_STATUS.now (map (λ row. (row.0, row.1.now)) STATUS_TEXTS) status))
+    (if status == 8
+    then codes "hxeval: this regular expression is too large: " ++ (large ++ codes "\n") else
+    status_text UNKNOWN_STATUS.now (map (λ row. (row.0, row.1.now)) STATUS_TEXTS) status)))

@@ -8,7 +8,7 @@ use Rattle.hxeval.specs.Step.{refusal_of, state_after, answer_of}
 use Rattle.hxeval.specs.RunFault.{AreAnswersTo, result_end}
 use Rattle.hxeval.specs.declared.replay_state.ReplayState.{ReplayState}
 use Rattle.hxeval.specs.declared.run_fault.RunFault.{RunFault}
-use Rattle.hxeval.specs.declared.run_fault.RunFault.TheVariants.{ConfigRefused, RecordRefused, Files}
+use Rattle.hxeval.specs.declared.run_fault.RunFault.TheVariants.{ConfigRefused, RecordRefused, Files, TooLarge}
 
 -- A replay of the record that a source has left: the answers were written, but for the last ones,
 -- which are gathered.
@@ -49,4 +49,5 @@ abbrev pub IsFailure : RunFault → Type 0
 IsFailure (ConfigRefused line code) = ⊥
 IsFailure (RecordRefused offset code) = ⊥
 IsFailure Files = ⊥
+IsFailure TooLarge = ⊥
 IsFailure _ = ⊤

@@ -2,8 +2,8 @@
 -- them, the configuration, the answers to events, outcomes, and the headline.
 pub mod Outcome
 pub mod Rules
-pub mod Statement
 pub mod Configuration
+pub mod Judged
 pub mod Answers
 pub mod Step
 pub mod Replay
@@ -14,5 +14,6 @@ pub mod Machine
 pub mod LastLine
 pub mod Explanation
 -- Views of the code, for private contracts.
+pub mod Loading
 pub mod RunFault
 pub mod Gathering

@@ -1,10 +1,11 @@
 -- What a run writes, and its status.
-use Rattle.std.specs.Prelude.{◌≡◌, ℕ, true, List, [], ◌∷◌, map, codes, Contains, Option, None, Some, Result, Ok, Err, ⊤, if◌then◌else◌}
+use Rattle.std.specs.Prelude.{◌≡◌, ℕ, true, List, [], ◌∷◌, map, codes, Contains, IsSomeAnd, Option, None, Some, Result, Ok, Err, ⊤, if◌then◌else◌}
 use Rattle.std.specs.Io.KnownBytes.{Appends}
 use Rattle.std.specs.Str.{bytes_eq}
 use Rattle.std.specs.declared.alloc.Global.{Global}
 use Rattle.std.specs.declared.vec.Vec.{Vec}
 use Rattle.hx_base.specs.Pairs.{pairs_of, value_at}
+use Rattle.hx_outside.specs.Makers.{ExpressionText}
 use Rattle.hx_outside.specs.Prefixes.{AppendsPrefix}
 use Rattle.hx_record.specs.Record.{record_items}
 use Rattle.hx_words.specs.Variable.{Env}
@@ -12,6 +13,7 @@ use Rattle.hxeval.specs.Configuration.{Refusal, Loads, loaded}
 use Rattle.hxeval.specs.Outcome.{Outcome, ConfigRefused, Undecided, status_of, text_of}
 pub use Rattle.hxeval.specs.Outcome.{config_line}
 use Rattle.hxeval.specs.Replay.{IsRecord, WritesDecided, record_limit, ends_with, record_outcome, events_of, is_whole, AreAllowed, answers_to}
+use Rattle.hxeval.specs.Judged.{Judges}
 use Rattle.hxeval.specs.Rules.{Rule}
 use Rattle.hxeval.specs.Step.{initial_state}
 
@@ -96,3 +98,10 @@ pub record SourceFails (s : Setting) (left' old new : Option (List ℕ)) : Type 
   pub of_files : HasConfig s.held s.name (Some config)
   pub accepted : Loads s.env config (Ok rules)
   pub written : WritesDecided rules s.left left' old new
+
+-- The last text that was too large for the maker is one that is read as a regular expression when
+-- the configuration is loaded.
+pub record RunJudgesLast (s : Setting) (large : Option ExpressionText) : Type 0 where
+  pub config : List ℕ
+  pub of_files : HasConfig s.held s.name (Some config)
+  pub judged : IsSomeAnd large (Judges s.env config)

@@ -14,7 +14,7 @@ use Rattle.hxeval.specs.Run.{Setting, HasOutcome}
 use Rattle.hxeval.specs.declared.load.LoadFault.{LoadFault}
 use Rattle.hxeval.specs.declared.load.LoadFault.TheVariants as load
 use Rattle.hxeval.specs.declared.run_fault.RunFault.{RunFault}
-use Rattle.hxeval.specs.declared.run_fault.RunFault.TheVariants.{ConfigRefused, RecordRefused, Files, Source, Sink, NoMemory}
+use Rattle.hxeval.specs.declared.run_fault.RunFault.TheVariants.{ConfigRefused, RecordRefused, Files, Source, Sink, TooLarge, NoMemory}
 
 abbrev pub fault_of_file : FileFault → RunFault
 fault_of_file file.Failed = Files
@@ -22,6 +22,7 @@ fault_of_file file.NoMemory = NoMemory
 
 abbrev pub load_fault : LoadFault → RunFault
 load_fault (load.Refused line code) = ConfigRefused line code
+load_fault load.TooLarge = TooLarge
 load_fault load.NoMemory = NoMemory
 
 abbrev pub sink_fault : SinkFault → RunFault
@@ -40,6 +41,7 @@ fault_status (RecordRefused offset code) = 4
 fault_status Files = 5
 fault_status Source = 5
 fault_status Sink = 6
+fault_status TooLarge = 8
 fault_status NoMemory = 7
 
 -- the end that a fault shows: a refusal, or none that the configuration and the record decide
@@ -56,6 +58,7 @@ result_end (Err fault) = fault_end fault
 abbrev pub IsReplayFault : RunFault → Type 0
 IsReplayFault (ConfigRefused line code) = ⊥
 IsReplayFault Files = ⊥
+IsReplayFault TooLarge = ⊥
 IsReplayFault _ = ⊤
 
 -- these are the answers of an outcome up to an end: all of them where it ends so, and a prefix of

@@ -1,6 +1,7 @@
 -- One event of a replay: whether it may stand where it stands, its answer, and the state after it.
 use Rattle.std.specs.Prelude.{◌≡◌, ℕ, ◌+◌, List, [], ◌++◌, Option, None, Some, Result, Ok, Err, if◌then◌else◌}
-use Rattle.std.specs.FinSet as set
+use Rattle.std.specs.FinMap as map
+use Rattle.hx_fetch.specs.declared.Conn.{Conn as Connection}
 use Rattle.hx_http.specs.Head.{head_of}
 use Rattle.hx_record.specs.declared.Event.{Event}
 use Rattle.hx_record.specs.declared.Event.TheVariants.{Conn, Req, Close, Cli}
@@ -12,29 +13,44 @@ use Rattle.hxeval.specs.declared.replay_state.StepFault.TheVariants.{Refused, No
 
 -- before the first event: no connection is open, and no request came
 abbrev pub initial_state : ReplayState
-initial_state = record { connections = set.empty; requests = 0 }
+initial_state = record { connections = map.empty; requests = 0 }
 
 -- The code for which an event may not stand here: a management line is not supported (1), a request
 -- or an end of a connection that isn't open (6), the opening of one that is (7).
 abbrev pub refusal_of : ReplayState → Event → Option ℕ
 refusal_of state (Conn id src src_port dst dst_port) =
-    if set.contains state.connections id then Some 7 else None
-refusal_of state (Req id bytes) = if set.contains state.connections id then None else Some 6
-refusal_of state (Close id) = if set.contains state.connections id then None else Some 6
+    if map.contains_key state.connections id then Some 7 else None
+refusal_of state (Req id bytes) =
+    if map.contains_key state.connections id then None else Some 6
+refusal_of state (Close id) = if map.contains_key state.connections id then None else Some 6
 refusal_of state (Cli session text) = Some 1
 
 abbrev pub state_after : ReplayState → Event → ReplayState
 state_after state (Conn id src src_port dst dst_port) =
-    record state { connections = set.insert state.connections id }
+    record state {
+      connections = map.insert state.connections id (record {
+        id = id;
+        src = src;
+        src_port = src_port;
+        dst = dst;
+        dst_port = dst_port;
+      });
+    }
 state_after state (Req id bytes) = record state { requests = state.requests + 1 }
-state_after state (Close id) = record state { connections = set.remove state.connections id }
+state_after state (Close id) = record state { connections = map.remove state.connections id }
 state_after state (Cli session text) = state
+
+-- the line that answers a request with this number, where its connection is open
+abbrev pub request_line : List Rule → ℕ → Option Connection → List ℕ → List ℕ
+request_line rules number None bytes = []
+request_line rules number (Some conn) bytes =
+    answer_line number (verdict_of rules conn (head_of bytes))
 
 -- the answer to an event: to a request its line, to any other nothing
 abbrev pub answer_of : List Rule → ReplayState → Event → List ℕ
 answer_of rules state (Conn id src src_port dst dst_port) = []
 answer_of rules state (Req id bytes) =
-    answer_line (state.requests + 1) (verdict_of rules (head_of bytes))
+    request_line rules (state.requests + 1) (map.get state.connections id) bytes
 answer_of rules state (Close id) = []
 answer_of rules state (Cli session text) = []
 

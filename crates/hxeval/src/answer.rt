@@ -3,7 +3,9 @@ ghost use Rattle.hx_http.specs.Head.{head_of};
 ghost use Rattle.hxeval.specs.Answers.{verdict_of, verdict_text, answer_line};
 
 use crate::rules::Rules;
+use hx_fetch::{Conn, World};
 use hx_http::{HeadFault, read_head_in};
+use hx_sample::Vars;
 use hx_text::{NoMemory, Octets};
 use itoa::Buffer;
 use std::alloc::Global;
@@ -20,13 +22,19 @@ pub enum Verdict {
     Pass,
 }
 
-/// What these rules decide of a request, whose bytes are taken over.
-pub fn decide(alloc: Global, rules: &Rules, bytes: Octets) -> Result<Verdict, NoMemory>
-    ensures { IfOk result (λ verdict. verdict ≡ verdict_of rules.now (head_of bytes)) }
+/// What these rules decide of a request that came by this connection. Its bytes are taken over.
+pub fn decide(alloc: Global, rules: &Rules, conn: &Conn, bytes: Octets) -> Result<Verdict, NoMemory>
+    ensures { IfOk result (λ verdict. verdict ≡ verdict_of rules.now conn.now (head_of bytes)) }
 {
     match read_head_in(alloc, bytes) {
         Ok((message, _)) => {
-            if rules.deny(&message) {
+            let vars = Vars::new(alloc);
+            let world = World {
+                message: &message,
+                conn,
+                vars: &vars,
+            };
+            if rules.deny(alloc, &world)? {
                 Ok(Verdict::Deny)
             } else {
                 Ok(Verdict::Pass)

@@ -17,7 +17,7 @@ use hx_text::cut_at;
 type Row = (&'static [u8], &'static [u8], &'static [u8]);
 
 /// The codes of a configuration that is refused.
-const CONFIG_CODES: [Row; 5] = [
+const CONFIG_CODES: [Row; 13] = [
     (b"1", b"OpenQuote", b"the line ends inside a quote"),
     (
         b"2",
@@ -30,7 +30,47 @@ const CONFIG_CODES: [Row; 5] = [
         b"$ in double quotes needs NAME or {NAME} after it",
     ),
     (b"4", b"TooManyWords", b"the line has more than 256 words"),
-    (b"9", b"Unsupported", b"unknown or unsupported statement"),
+    (
+        b"5",
+        b"ArgUnclosed",
+        b"a call of this line has no closing )",
+    ),
+    (
+        b"6",
+        b"ArgAfterClose",
+        b"after the ) of a call stands something else than a comma",
+    ),
+    (
+        b"7",
+        b"ArgEscape",
+        b"\\x in an argument needs two hexadecimal digits after it",
+    ),
+    (b"8", b"ArgQuote", b"an argument ends inside a quote"),
+    (
+        b"9",
+        b"Unsupported",
+        b"unknown or unsupported statement, flag, fetch or converter",
+    ),
+    (
+        b"10",
+        b"BadArgument",
+        b"a call has a wrong number of arguments, or one that it can't take",
+    ),
+    (
+        b"11",
+        b"BadType",
+        b"a converter can't take the type of what stands before it",
+    ),
+    (
+        b"12",
+        b"BadName",
+        b"the name of a header or of a variable isn't of its form",
+    ),
+    (
+        b"16",
+        b"BadPattern",
+        b"a regular expression is malformed, isn't UTF-8, or is nested too deep",
+    ),
 ];
 
 /// The codes of a record that is refused. The last line doesn't say what is wrong of a bad line, so
@@ -84,7 +124,8 @@ const STATUS_TEXTS: [(u8, &[u8]); 5] = [
           writes one line for each request: whether a rule denies it or it passes.\n\
           \n\
           Exit status: 0 done, 2 wrong words, 3 configuration refused, 4 record refused,\n\
-          5 a file or the record can't be read, 6 an answer can't be written, 7 out of memory.\n",
+          5 a file or the record can't be read, 6 an answer can't be written, 7 out of memory,\n\
+          8 a regular expression is too large.\n",
     ),
     (5, b"hxeval: the record can't be read from standard input\n"),
     (
@@ -104,7 +145,8 @@ type Parts<'t> = [&'t [u8]; 11];
 /// nothing.
 ///
 /// `words` are those of the command line, `file_failed` says that the configuration couldn't be
-/// read, and `last_line` is the last line that was written.
+/// read, `last_line` is the last line that was written, and `large` the text of the last regular
+/// expression that was too large.
 ///
 /// A refused configuration is explained as `hxeval: CONFIG:LINE: REASON (CODE NAME)`, a refused
 /// record as `hxeval: record, byte OFFSET: REASON (CODE NAME)`, by the code's row in its table.
@@ -117,24 +159,29 @@ pub fn explain<K: Sink>(
     words: &[Vec<u8>],
     file_failed: bool,
     last_line: &[u8],
+    large: &[u8],
 ) -> Result<(), SinkFault>
     ensures ok { OnOk result (Appends (K.written err.old) (K.written err.new)
-        (explanation status (given_name (texts_of words.now)) file_failed last_line.now)) }
+        (explanation status (given_name (texts_of words.now)) file_failed last_line.now
+        large.now)) }
     ensures prefix { AppendsPrefix (K.written err.old) (K.written err.new)
-        (explanation status (given_name (texts_of words.now)) file_failed last_line.now) }
+        (explanation status (given_name (texts_of words.now)) file_failed last_line.now large.now) }
     ensures failed { IsErrOf result SinkFault.Failed → Rose (K.faults err.old) (K.faults err.new) }
     // The text of a refusal names the line or the offset, and the code, that the last line has.
     ensures config { (line code : ℕ) → line < 2 ^ 64 → code < 2 ^ 64
         → last_line.now ≡ config_line line code
-        → explanation 3 (given_name (texts_of words.now)) file_failed last_line.now
+        → explanation 3 (given_name (texts_of words.now)) file_failed last_line.now large.now
         ≡ config_refused (given_name (texts_of words.now)) (decimal line) (decimal code) }
     ensures record { (offset code : ℕ) → offset < 2 ^ 64 → code < 2 ^ 64
         → last_line.now ≡ record_line offset code
-        → explanation 4 (given_name (texts_of words.now)) file_failed last_line.now
+        → explanation 4 (given_name (texts_of words.now)) file_failed last_line.now large.now
         ≡ record_refused (decimal offset) (decimal code) }
 {
     let name = config_name(words).unwrap_or(b"the configuration");
-    write_parts(err, &explanation(status, name, file_failed, last_line))
+    write_parts(
+        err,
+        &explanation(status, name, file_failed, last_line, large),
+    )
 }
 
 /// Writes the parts of a text, one after the other.
@@ -152,13 +199,24 @@ fn write_parts<K: Sink>(out: &mut K, parts: &[&[u8]]) -> Result<(), SinkFault>
 
 /// Why a run ended with this status, where its configuration has this name.
 #[tactic(auto, unfolding(crate::specs::Explanation::explanation))]
-fn explanation<'t>(status: u8, name: &'t [u8], file_failed: bool, last_line: &'t [u8]) -> Parts<'t>
-    ensures { all_of result ≡ explanation status name.now file_failed last_line.now }
+fn explanation<'t>(
+    status: u8,
+    name: &'t [u8],
+    file_failed: bool,
+    last_line: &'t [u8],
+    large: &'t [u8],
+) -> Parts<'t>
+    ensures { all_of result ≡ explanation status name.now file_failed last_line.now large.now }
 {
     match status {
         3 => refusal(name, b":", last_line, &CONFIG_CODES),
         4 => refusal(b"record", b", byte ", last_line, &RECORD_CODES),
         5 if file_failed => three_parts(b"hxeval: ", name, b" can't be read\n"),
+        8 => three_parts(
+            b"hxeval: this regular expression is too large: ",
+            large,
+            b"\n",
+        ),
         _ => three_parts(
             text_of_status(&STATUS_TEXTS, status, UNKNOWN_STATUS),
             b"",
@@ -278,7 +336,7 @@ mod tests {
         let alloc = rt.alloc();
         let words = vec![in alloc; b"run".to_vec(alloc)?, b"deny.cfg".to_vec(alloc)?]?;
         let mut err = MemSink::new(alloc, 9, Vec::new(alloc));
-        explain(&mut err, status, &words, file_failed, last_line)?;
+        explain(&mut err, status, &words, file_failed, last_line, b"(a|b)")?;
         Ok(err.bytes() == text)
     }
 
@@ -290,10 +348,12 @@ mod tests {
             writes one line for each request: whether a rule denies it or it passes.\n\
             \n\
             Exit status: 0 done, 2 wrong words, 3 configuration refused, 4 record refused,\n\
-            5 a file or the record can't be read, 6 an answer can't be written, 7 out of memory.\n";
+            5 a file or the record can't be read, 6 an answer can't be written, 7 out of memory,\n\
+            8 a regular expression is too large.\n";
         let file = b"hxeval: deny.cfg can't be read\n";
         let record = b"hxeval: the record can't be read from standard input\n";
         let answers = b"hxeval: the answers can't be written to standard output\n";
+        let large = b"hxeval: this regular expression is too large: (a|b)\n";
         assert!(rt; is_explained(&rt, 0, false, b"9 pass -\n", b"")?);
         assert!(rt;
             is_explained(
@@ -309,6 +369,7 @@ mod tests {
         assert!(rt; is_explained(&rt, 5, false, b"", record)?);
         assert!(rt; is_explained(&rt, 6, false, b"", answers)?);
         assert!(rt; is_explained(&rt, 7, false, b"", b"hxeval: out of memory\n")?);
+        assert!(rt; is_explained(&rt, 8, false, b"", large)?);
         Ok(())
     }
 
@@ -325,13 +386,37 @@ mod tests {
         let name = b"hxeval: deny.cfg:1: $ in double quotes needs NAME or {NAME} after it \
             (3 BadVariable)\n";
         let words = b"hxeval: deny.cfg:1: the line has more than 256 words (4 TooManyWords)\n";
-        let unknown = b"hxeval: deny.cfg:3: unknown or unsupported statement (9 Unsupported)\n";
+        let unclosed =
+            b"hxeval: deny.cfg:1: a call of this line has no closing ) (5 ArgUnclosed)\n";
+        let after = b"hxeval: deny.cfg:1: after the ) of a call stands something else than a comma \
+            (6 ArgAfterClose)\n";
+        let in_argument = b"hxeval: deny.cfg:1: \\x in an argument needs two hexadecimal digits \
+            after it (7 ArgEscape)\n";
+        let in_quote = b"hxeval: deny.cfg:1: an argument ends inside a quote (8 ArgQuote)\n";
+        let unknown = b"hxeval: deny.cfg:3: unknown or unsupported statement, flag, fetch or \
+            converter (9 Unsupported)\n";
+        let argument = b"hxeval: deny.cfg:1: a call has a wrong number of arguments, or one that \
+            it can't take (10 BadArgument)\n";
+        let typed = b"hxeval: deny.cfg:1: a converter can't take the type of what stands before it \
+            (11 BadType)\n";
+        let named = b"hxeval: deny.cfg:1: the name of a header or of a variable isn't of its form \
+            (12 BadName)\n";
+        let pattern = b"hxeval: deny.cfg:1: a regular expression is malformed, isn't UTF-8, or is \
+            nested too deep (16 BadPattern)\n";
         let code = b"hxeval: deny.cfg:3: unknown code (17 Unknown)\n";
         assert!(rt; is_config_explained(&rt, b"config 12 1\n", quote)?);
         assert!(rt; is_config_explained(&rt, b"config 1 2\n", escape)?);
         assert!(rt; is_config_explained(&rt, b"config 1 3\n", name)?);
         assert!(rt; is_config_explained(&rt, b"config 1 4\n", words)?);
+        assert!(rt; is_config_explained(&rt, b"config 1 5\n", unclosed)?);
+        assert!(rt; is_config_explained(&rt, b"config 1 6\n", after)?);
+        assert!(rt; is_config_explained(&rt, b"config 1 7\n", in_argument)?);
+        assert!(rt; is_config_explained(&rt, b"config 1 8\n", in_quote)?);
         assert!(rt; is_config_explained(&rt, b"config 3 9\n", unknown)?);
+        assert!(rt; is_config_explained(&rt, b"config 1 10\n", argument)?);
+        assert!(rt; is_config_explained(&rt, b"config 1 11\n", typed)?);
+        assert!(rt; is_config_explained(&rt, b"config 1 12\n", named)?);
+        assert!(rt; is_config_explained(&rt, b"config 1 16\n", pattern)?);
         assert!(rt; is_config_explained(&rt, b"config 3 17\n", code)?);
         Ok(())
     }

@@ -1,4 +1,4 @@
-ghost use Rattle.std.specs.Prelude.{◌≡◌, ◌<◌, ◌≤◌, [], ◌∷◌, ◌++◌, true, length, take};
+ghost use Rattle.std.specs.Prelude.{◌≡◌, ◌-◌, ◌<◌, ◌≤◌, [], ◌∷◌, ◌++◌, true, length, take, slice_index};
 ghost use Rattle.std.specs.Prelude.{IfOk, OnErr, IsErrOf, if◌then◌else◌};
 ghost use Rattle.std.specs.Io.KnownBytes.{WriteAppends};
 ghost use Rattle.hx_outside.specs.Count.{Rose};
@@ -47,6 +47,13 @@ impl Start {
         &self.line[..self.len]
     }
 
+    /// The line ends here, so that the next byte begins another.
+    fn end(&mut self)
+        ensures { self.new ≡ record { bytes = self.old.bytes; ended = true } }
+    {
+        self.ended = true;
+    }
+
     #[tactic(auto, using(crate::proofs::LastLineLemmas::from_start))]
     fn push(&mut self, byte: u8)
         ensures { self.new ≡ start_after self.old byte }
@@ -56,13 +63,38 @@ impl Start {
         self.ended = byte == b'\n';
     }
 
+    #[tactic(auto, using(crate::proofs::LastLineLemmas::passed_line))]
     fn push_all(&mut self, bytes: &[u8])
+        ensures { self.new ≡ start_after_all self.old bytes.now }
+    {
+        let (passed, last) = bytes.split_at(last_line_start(bytes));
+        if !passed.is_empty() {
+            self.end();
+        }
+        self.push_each(last);
+    }
+
+    fn push_each(&mut self, bytes: &[u8])
         ensures { self.new ≡ start_after_all self.old bytes.now }
     {
         for byte in bytes {
             self.push(*byte);
         }
     }
+}
+
+/// Where the last line begins that has a byte in `bytes`: after a line feed, or at 0 where that
+/// line began before. What stands before it can't show in the beginning of the last line.
+fn last_line_start(bytes: &[u8]) -> usize
+    ensures within { result ≤ length bytes.now }
+    ensures feed { 0 < result → (result < length bytes.now)
+        × (slice_index bytes.now (result - 1) ≡ 10) }
+{
+    let mut start = bytes.len().saturating_sub(1);
+    while start > 0 && bytes[start - 1] != b'\n' {
+        start -= 1;
+    }
+    start
 }
 
 /// How many bytes of its line stand before the next byte: none where a line ended.

@@ -14,6 +14,7 @@ mod connections;
 mod explain;
 mod last_line;
 pub mod laws;
+mod line_fault;
 mod load;
 mod machine;
 mod replay;
@@ -29,7 +30,7 @@ use crate::explain::explain;
 use crate::last_line::LastLine;
 use crate::machine::{MachineArguments, MachineEntries, arguments, environment};
 use crate::run::run;
-use hx_outside::{DirFiles, StdSink, StdSource};
+use hx_outside::{DirFiles, PlainMaker, StdSink, StdSource};
 use std::io::writer;
 use std::process::ExitCode;
 
@@ -45,8 +46,25 @@ fn main(rt: HostRuntime) -> ExitCode {
     let mut files = DirFiles::new(&rt);
     let mut record = StdSource::new(rt.reader());
     let mut out = LastLine::new(StdSink::new(writer(&rt)));
-    let status = run(alloc, &words, &env, &mut files, &mut record, &mut out);
+    let mut maker = PlainMaker::new();
+    let status = run(
+        alloc,
+        &words,
+        &env,
+        &mut files,
+        &mut record,
+        &mut out,
+        &mut maker,
+    );
     let mut err = StdSink::new(rt.stderr());
-    let _ = explain(&mut err, status, &words, files.faults() > 0, out.line());
+    let large = maker.large_text().unwrap_or(b"");
+    let _ = explain(
+        &mut err,
+        status,
+        &words,
+        files.faults() > 0,
+        out.line(),
+        large,
+    );
     ExitCode::from(status)
 }

@@ -5,6 +5,7 @@ ghost use Rattle.hxeval.specs.declared.replay_state.StepFault.{StepFault};
 use crate::answer::{Answers, decide};
 use crate::connections::Connections;
 use crate::rules::Rules;
+use hx_fetch::Conn;
 use hx_record::Event;
 use hx_text::NoMemory;
 use std::alloc::Global;
@@ -74,18 +75,30 @@ impl ReplayState {
         ensures { Steps rules.now self.old self.new event answers.old answers.new result }
     {
         match event {
-            Event::Conn { id, .. } => {
+            Event::Conn {
+                id,
+                src,
+                src_port,
+                dst,
+                dst_port,
+            } => {
                 if self.connections.is_open(id) {
                     return Err(StepFault::Refused { code: CONN_OPEN });
                 }
-                self.connections.open(id)?;
+                self.connections.open(Conn {
+                    id,
+                    src,
+                    src_port,
+                    dst,
+                    dst_port,
+                })?;
                 Ok(())
             }
             Event::Req { id, bytes } => {
-                if !self.connections.is_open(id) {
+                let Some(conn) = self.connections.get(id) else {
                     return Err(StepFault::Refused { code: UNKNOWN_CONN });
-                }
-                let verdict = decide(alloc, rules, bytes)?;
+                };
+                let verdict = decide(alloc, rules, conn, bytes)?;
                 answers.append(self.requests + 1, verdict)?;
                 self.requests += 1;
                 Ok(())

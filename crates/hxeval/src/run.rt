@@ -2,20 +2,22 @@ ghost use Rattle.std.specs.Prelude.{◌≡◌, ◌≢◌, ◌≤◌, ◌↔◌, 
 ghost use Rattle.std.specs.Option.{option_copied};
 ghost use Rattle.std.specs.Io.KnownBytes.{Appends, IsAtEnd};
 ghost use Rattle.hx_outside.specs.Count.{Rose};
-ghost use Rattle.hxeval.specs.Run.{config_name, texts_of, setting, Ran, HasStatus, Headline, SourceFails};
+ghost use Rattle.hxeval.specs.Run.{config_name, texts_of, setting, Ran, HasStatus, Headline};
+ghost use Rattle.hxeval.specs.Run.{SourceFails, RunJudgesLast};
 ghost use Rattle.hxeval.specs.RunFault.{Attempted, Finishes};
 
 use crate::load::load;
 use crate::replay::replay;
 use crate::run_fault::RunFault;
-use hx_outside::{Files, Sink, SinkFault, Source, write_all};
+use hx_outside::{Files, ReMaker, Sink, SinkFault, Source, write_all};
 use std::alloc::Global;
 
 /// Runs the command that `words` are, the words of a command line without the program's name, under
 /// the environment `env`, and answers the exit status.
 ///
 /// `run CONFIG` reads the file CONFIG as a configuration, and answers the events of the record in
-/// order. All answers that the bytes read so far decide are written before more is read.
+/// order. All answers that the bytes read so far decide are written before more is read. Regular
+/// expressions of the configuration are made by `maker`.
 ///
 /// | Status | Comes |
 /// |---|---|
@@ -26,18 +28,21 @@ use std::alloc::Global;
 /// | 5 | the files or the source failed |
 /// | 6 | the sink failed |
 /// | 7 | memory ran out |
-pub fn run<F: Files, S: Source, K: Sink>(
+/// | 8 | a regular expression of the configuration is too large for the maker |
+pub fn run<F: Files, S: Source, K: Sink, M: ReMaker>(
     alloc: Global,
     words: &[Vec<u8>],
     env: &[(Vec<u8>, Vec<u8>)],
     files: &mut F,
     record_in: &mut S,
     out: &mut K,
+    maker: &mut M,
 ) -> u8
-    ensures status { Contains (0 ∷ 2 ∷ 3 ∷ 4 ∷ 5 ∷ 6 ∷ 7 ∷ []) result }
+    ensures status { Contains (0 ∷ 2 ∷ 3 ∷ 4 ∷ 5 ∷ 6 ∷ 7 ∷ 8 ∷ []) result }
     ensures usage { (result ≡ 2) ↔ (config_name (texts_of words.now) ≡ None) }
     ensures untouched { result ≡ 2
-        → (files.new ≡ files.old) × (record_in.new ≡ record_in.old) × (out.new ≡ out.old) }
+        → (files.new ≡ files.old) × (record_in.new ≡ record_in.old) × (out.new ≡ out.old)
+        × (maker.new ≡ maker.old) }
 
     ensures headline { (name : List ℕ) → config_name (texts_of words.now) ≡ Some name → result ≡ 0
         → Headline (setting env.now (F.held files.old) name (S.left record_in.old))
@@ -55,12 +60,17 @@ pub fn run<F: Files, S: Source, K: Sink>(
         × SourceFails (setting env.now (F.held files.old) name (S.left record_in.old))
         (S.left record_in.new) (K.written out.old) (K.written out.new)) }
     ensures sink { result ≡ 6 → Rose (K.faults out.old) (K.faults out.new) }
+    ensures too_large { (name : List ℕ) → config_name (texts_of words.now) ≡ Some name
+        → result ≡ 8 → Rose (M.too_large maker.old) (M.too_large maker.new)
+        × RunJudgesLast (setting env.now (F.held files.old) name (S.left record_in.old))
+        (M.large maker.new) × Appends (K.written out.old) (K.written out.new) [] }
     // Where nothing outside failed, the status is the one that the configuration and the record
     // have, unless memory ran out.
     ensures complete { (name : List ℕ) → config_name (texts_of words.now) ≡ Some name
         → ¬ (Rose (F.faults files.old) (F.faults files.new))
         → ¬ (Rose (S.faults record_in.old) (S.faults record_in.new))
         → ¬ (Rose (K.faults out.old) (K.faults out.new))
+        → ¬ (Rose (M.too_large maker.old) (M.too_large maker.new))
         → (result ≡ 7)
         ⊎ HasStatus (setting env.now (F.held files.old) name (S.left record_in.old)) result }
 
@@ -72,7 +82,7 @@ pub fn run<F: Files, S: Source, K: Sink>(
     let Some(name) = config_name(words) else {
         return 2;
     };
-    match attempt(alloc, env, files, name, record_in, out) {
+    match attempt(alloc, env, files, name, record_in, out, maker) {
         Ok(()) => 0,
         Err(fault) => finish(alloc, fault, out),
     }
@@ -89,13 +99,14 @@ pub fn config_name(words: &[Vec<u8>]) -> Option<&[u8]>
 }
 
 /// Loads the configuration of this name and replays the record, up to the first fault.
-fn attempt<F: Files, S: Source, K: Sink>(
+fn attempt<F: Files, S: Source, K: Sink, M: ReMaker>(
     alloc: Global,
     env: &[(Vec<u8>, Vec<u8>)],
     files: &mut F,
     name: &[u8],
     record_in: &mut S,
     out: &mut K,
+    maker: &mut M,
 ) -> Result<(), RunFault>
     ensures attempted { Attempted
         (setting env.now (F.held files.old) name.now (S.left record_in.old))
@@ -112,12 +123,16 @@ fn attempt<F: Files, S: Source, K: Sink>(
         (S.left record_in.new) (K.written out.old) (K.written out.new) }
     ensures sink_failed { IsErrOf result RunFault.Sink
         → Rose (K.faults out.old) (K.faults out.new) }
+    ensures too_large { IsErrOf result RunFault.TooLarge
+        → Rose (M.too_large maker.old) (M.too_large maker.new)
+        × RunJudgesLast (setting env.now (F.held files.old) name.now (S.left record_in.old))
+        (M.large maker.new) × (out.new ≡ out.old) }
     ensures later { K.faults out.old ≤ K.faults out.new }
     ensures held { F.held files.new ≡ F.held files.old }
     ensures named { (F.last files.new ≡ F.last files.old) ⊎ (F.last files.new ≡ Some name.now) }
 {
     let config = files.read(alloc, name)?;
-    let rules = load(alloc, env, config.as_slice())?;
+    let rules = load(alloc, env, config.as_slice(), maker)?;
     replay(alloc, &rules, record_in, out)?;
     Ok(())
 }

@@ -21,6 +21,8 @@ pub enum RunFault {
     Source,
     /// An answer could not be written.
     Sink,
+    /// A regular expression is too large.
+    TooLarge,
     NoMemory,
 }
 
@@ -35,6 +37,7 @@ impl RunFault {
             RunFault::Files => 5,
             RunFault::Source => 5,
             RunFault::Sink => 6,
+            RunFault::TooLarge => 8,
             RunFault::NoMemory => 7,
         }
     }
@@ -53,6 +56,7 @@ impl RunFault {
             RunFault::Files => Ok(String::new(alloc)),
             RunFault::Source => Ok(String::new(alloc)),
             RunFault::Sink => Ok(String::new(alloc)),
+            RunFault::TooLarge => Ok(String::new(alloc)),
             RunFault::NoMemory => Ok(String::new(alloc)),
         }
     }
@@ -81,6 +85,7 @@ impl From<LoadFault> for RunFault {
     fn from(fault: LoadFault) -> RunFault {
         match fault {
             LoadFault::Refused { line, code } => RunFault::ConfigRefused { line, code },
+            LoadFault::TooLarge => RunFault::TooLarge,
             LoadFault::NoMemory => RunFault::NoMemory,
         }
     }

@@ -1,5 +1,5 @@
 use crate::run::run;
-use hx_outside::{MemFiles, MemSink, MemSource, read_to_end};
+use hx_outside::{FailMaker, MemFiles, MemSink, MemSource, PlainMaker, read_to_end};
 use std::alloc::Global;
 use std::test::Fail;
 
@@ -24,7 +24,16 @@ fn ran_in_pieces(
     let mut files = MemFiles::new(files, Vec::new(alloc));
     let mut source = MemSource::new(record, piece.max(1), Vec::new(alloc));
     let mut sink = MemSink::new(alloc, 5, Vec::new(alloc));
-    let status = run(alloc, &words, &env, &mut files, &mut source, &mut sink);
+    let mut maker = PlainMaker::new();
+    let status = run(
+        alloc,
+        &words,
+        &env,
+        &mut files,
+        &mut source,
+        &mut sink,
+        &mut maker,
+    );
     Ok((status, sink.bytes().to_vec(alloc)?))
 }
 
@@ -114,6 +123,122 @@ fn paths_are_denied_by_the_rules(rt: HostRuntime) -> Result<(), Fail> {
 }
 
 #[test]
+fn expressions_are_compared_with_the_values(rt: HostRuntime) -> Result<(), Fail> {
+    let cases: [(&[u8], &[u8], &[u8]); 10] = [
+        (
+            b"http-request deny if { req.hdr(Host),lower -m str a.example }",
+            b"GET / HTTP/1.1\r\nHost: A.Example\r\n\r\n",
+            b"1 deny 403\n",
+        ),
+        (
+            b"http-request deny if { req.hdr(Host),lower,field(1,:) -m str b a }",
+            b"GET / HTTP/1.1\r\nHost: A:80\r\n\r\n",
+            b"1 deny 403\n",
+        ),
+        (
+            b"http-request deny if { src,lower,not -m str 1 }",
+            b"GET / HTTP/1.1\r\n\r\n",
+            b"1 pass -\n",
+        ),
+        (
+            b"http-request deny if { src -m str 192.0.2.7 }",
+            b"GET / HTTP/1.1\r\n\r\n",
+            b"1 deny 403\n",
+        ),
+        (
+            b"http-request deny if { dst_port,sub(1) -m str 79 }",
+            b"GET / HTTP/1.1\r\n\r\n",
+            b"1 deny 403\n",
+        ),
+        (
+            b"http-request deny if { hdr(X) b }",
+            b"GET / HTTP/1.1\r\nX: a, b, c\r\n\r\n",
+            b"1 deny 403\n",
+        ),
+        (
+            b"http-request deny if { hdr_val(X),add(1) -m str 8 }",
+            b"GET / HTTP/1.1\r\nX: x, 7, c\r\n\r\n",
+            b"1 deny 403\n",
+        ),
+        (
+            b"http-request deny unless { var(txn.a) -m str b }",
+            b"GET / HTTP/1.1\r\n\r\n",
+            b"1 deny 403\n",
+        ),
+        (
+            b"http-request deny if { path,regsub(b+,c,g) -m str /acac }",
+            b"GET /abbab HTTP/1.1\r\n\r\n",
+            b"1 deny 403\n",
+        ),
+        (
+            b"http-request deny if { url_param(v),concat(<,,>) -m str 1<> }",
+            b"GET /?v=1 HTTP/1.1\r\n\r\n",
+            b"1 deny 403\n",
+        ),
+    ];
+    for (config, head, text) in cases {
+        let record = record_of(rt.alloc(), &[head])?;
+        let (status, written) = ran(rt.alloc(), config, record.as_slice())?;
+        assert_eq!(rt; status, 0);
+        assert_eq!(rt; written.as_slice(), text);
+    }
+    Ok(())
+}
+
+#[test]
+fn an_expression_refuses_the_configuration(rt: HostRuntime) -> Result<(), Fail> {
+    let cases: [(&[u8], &[u8]); 12] = [
+        (b"str(f1_f2),field(0,_)", b"config 1 10\n"),
+        (b"int(9223372036854775808)", b"config 1 10\n"),
+        (b"\"str(a),regsub('(',b)\"", b"config 1 16\n"),
+        (b"str(a),regsub('(',b)", b"config 1 16\n"),
+        (b"bin(61),ipmask(8)", b"config 1 11\n"),
+        (b"bin(61),ipmask(8),regsub('(',b)", b"config 1 11\n"),
+        (b"path,nosuch,b(", b"config 1 9\n"),
+        (b"path,field(", b"config 1 5\n"),
+        (b"path,field(1,:)x", b"config 1 6\n"),
+        (b"\"hdr(\\\\xg)\"", b"config 1 7\n"),
+        (b"\"hdr('a)\"", b"config 1 8\n"),
+        (b"hdr(a:b)", b"config 1 12\n"),
+    ];
+    let alloc = rt.alloc();
+    let record = record_of(alloc, &[])?;
+    for (expr, text) in cases {
+        let mut config = b"http-request deny if { ".to_vec(alloc)?;
+        config.extend_from_slice(expr)?;
+        config.extend_from_slice(b" -m str a }")?;
+        let (status, written) = ran(alloc, config.as_slice(), record.as_slice())?;
+        assert_eq!(rt; status, 3);
+        assert_eq!(rt; written.as_slice(), text);
+    }
+    Ok(())
+}
+
+#[test]
+fn an_expression_that_is_too_large_ends_the_run(rt: HostRuntime) -> Result<(), Fail> {
+    let alloc = rt.alloc();
+    let config = b"http-request deny if { str(a),regsub(a,b) -m str b }";
+    let words = vec![in alloc; b"run".to_vec(alloc)?, b"c".to_vec(alloc)?]?;
+    let files = vec![in alloc; (b"c".to_vec(alloc)?, config.to_vec(alloc)?)]?;
+    let mut files = MemFiles::new(files, Vec::new(alloc));
+    let mut source = MemSource::new(record_of(alloc, &[])?, 7, Vec::new(alloc));
+    let mut sink = MemSink::new(alloc, 5, Vec::new(alloc));
+    let mut maker = FailMaker::new(vec![in alloc; 1u64]?);
+    let status = run(
+        alloc,
+        &words,
+        &[],
+        &mut files,
+        &mut source,
+        &mut sink,
+        &mut maker,
+    );
+    assert_eq!(rt; status, 8);
+    assert!(rt; sink.bytes().is_empty());
+    Ok(())
+}
+
+#[test]
 fn the_first_faulty_line_refuses_the_configuration(rt: HostRuntime) -> Result<(), Fail> {
     let cases: [(&[u8], &[u8]); 22] = [
         (b"http-request allow", b"config 1 9\n"),
@@ -167,7 +292,16 @@ fn failing(
     let mut files = MemFiles::new(files, Vec::new(alloc));
     let mut source = MemSource::new(record, 8, reads.to_vec(alloc)?);
     let mut sink = MemSink::new(alloc, 3, writes.to_vec(alloc)?);
-    let status = run(alloc, &words, &[], &mut files, &mut source, &mut sink);
+    let mut maker = PlainMaker::new();
+    let status = run(
+        alloc,
+        &words,
+        &[],
+        &mut files,
+        &mut source,
+        &mut sink,
+        &mut maker,
+    );
     Ok((status, sink.bytes().to_vec(alloc)?))
 }
 
@@ -200,7 +334,16 @@ fn an_answer_is_written_before_the_next_event_is_read(rt: HostRuntime) -> Result
     let mut files = MemFiles::new(files, Vec::new(alloc));
     let mut source = MemSource::new(record, 8, Vec::new(alloc));
     let mut sink = MemSink::new(alloc, 3, vec![in alloc; 1u64]?);
-    let status = run(alloc, &words, &[], &mut files, &mut source, &mut sink);
+    let mut maker = PlainMaker::new();
+    let status = run(
+        alloc,
+        &words,
+        &[],
+        &mut files,
+        &mut source,
+        &mut sink,
+        &mut maker,
+    );
     assert_eq!(rt; status, 6);
     let left = read_to_end(alloc, &mut source, 1000)?;
     assert!(rt; left.len() + 8 > second);

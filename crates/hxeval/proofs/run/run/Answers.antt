@@ -1,7 +1,7 @@
 use Rattle.std.proofs.Common.{◌≡◌, ◌<◌, ◌∙◌, Some, Err, inl, inr, ap, arith, subst, refl}
-use Rattle.hxeval.specs.Run.{setting, Ran, Headline, SourceFails}
+use Rattle.hxeval.specs.Run.{setting, Ran, Headline, SourceFails, RunJudgesLast}
 use Rattle.hxeval.proofs.RunLemmas.{source_moved}
-use Rattle.hxeval.proofs.StatusLemmas.{headline, ran_completed, finished_status, ran_finished, finished_by, finished_line, is_config_refused, is_outside, sink_rose, complete}
+use Rattle.hxeval.proofs.StatusLemmas.{headline, ran_completed, finished_status, ran_finished, finished_by, finished_line, is_config_refused, is_outside, is_large, large_line, sink_rose, complete}
 use Rattle.hxeval.proofs.run.run.Goals as goal
 
 pub returns-in-Ok-clause-headline : goal.returns-in-Ok-clause-headline
@@ -21,10 +21,11 @@ returns-in-Ok-clause-ran g c = λ name is.
     (g.K.Sink.written c.args.out.now) (g.K.Sink.written c.attempt.new.out) c.in-Ok.ensures.attempted)
 
 pub returns-in-Ok-clause-complete : goal.returns-in-Ok-clause-complete
-returns-in-Ok-clause-complete g c = λ name is files source sink.
+returns-in-Ok-clause-complete g c = λ name is files source sink large.
     complete (setting c.args.env.now (g.F.Files.held c.args.files.now) name (g.S.Source.left c.args.record_in.now))
     (g.K.Sink.written c.args.out.now) (g.K.Sink.written c.attempt.new.out) 0 (0, omega arith, refl)
     (λ two. absurd (omega (arith, two))) (λ five. absurd (omega (arith, five))) (λ six. absurd (omega (arith, six)))
+    (λ eight. absurd (omega (arith, eight)))
     (returns-in-Ok-clause-ran g c name is)
 
 pub returns-in-Ok-clause-named : goal.returns-in-Ok-clause-named
@@ -80,13 +81,24 @@ returns-in-Err-clause-sink g c = λ six.
     sink_rose c.in-Err.fault c.finish.result (g.K.Sink.faults c.args.out.now) (g.K.Sink.faults c.attempt.new.out) (g.K.Sink.faults c.finish.new.out) six
     (λ is. c.in-Err.ensures.sink_failed (ap Err is)) c.finish.ensures.sink c.in-Err.ensures.later c.finish.ensures.later
 
+pub returns-in-Err-clause-too_large : goal.returns-in-Err-clause-too_large
+returns-in-Err-clause-too_large g c = λ name is eight.
+    let same : c.in-Some.name.now ≡ name = cc (c.in-Some.ensures, is) in
+    let fault = is_large c.in-Err.fault (g.K.Sink.written c.attempt.new.out) (g.K.Sink.written c.finish.new.out) c.finish.result c.finish.ensures.finished eight in
+    let (rose, judged, stays) = c.in-Err.ensures.too_large (ap Err fault) in (
+      rose,
+      subst (λ n. RunJudgesLast (setting c.args.env.now (g.F.Files.held c.args.files.now) n (g.S.Source.left c.args.record_in.now)) (g.M.ReMaker.large c.attempt.new.maker)) same judged,
+      rw stays at (large_line c.in-Err.fault (g.K.Sink.written c.attempt.new.out) (g.K.Sink.written c.finish.new.out) c.finish.result c.finish.ensures.finished eight),
+    )
+
 pub returns-in-Err-clause-complete : goal.returns-in-Err-clause-complete
-returns-in-Err-clause-complete g c = λ name is files source sink.
+returns-in-Err-clause-complete g c = λ name is files source sink large.
     complete (setting c.args.env.now (g.F.Files.held c.args.files.now) name (g.S.Source.left c.args.record_in.now))
     (g.K.Sink.written c.args.out.now) (g.K.Sink.written c.finish.new.out) c.finish.result (returns-in-Err-clause-status g c)
     (λ two. absurd (omega (arith, two, c.finish.ensures.large)))
     (λ five. elim (returns-in-Err-clause-outside g c name is five) [ inl failed ↦ files failed.0 | inr failed ↦ source failed.0 ])
-    (λ six. sink (returns-in-Err-clause-sink g c six)) (returns-in-Err-clause-ran g c name is)
+    (λ six. sink (returns-in-Err-clause-sink g c six))
+    (λ eight. large (returns-in-Err-clause-too_large g c name is eight).0) (returns-in-Err-clause-ran g c name is)
 
 pub returns-in-Err-clause-named : goal.returns-in-Err-clause-named
 returns-in-Err-clause-named g c = elim c.in-Err.ensures.named [

@@ -1,5 +1,5 @@
-use Rattle.std.proofs.Common.{◌≡◌, take}
+use Rattle.std.specs.Prelude.{◌≡◌, take}
 use Rattle.hxeval.proofs.statement.copies.Given as goal
 
 abbrev pub invariant-loop-word : goal.invariant-loop-word
-invariant-loop-word l = l.copied.items ≡ take l.word-index l.words
+invariant-loop-word l = l.copied ≡ take l.word-index l.words
