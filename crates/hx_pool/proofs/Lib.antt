@@ -4,3 +4,6 @@ pub mod PoolLemmas
 pub mod ChainLemmas
 mod LinkingLemmas
 mod ChainSteps
+mod MemoryLemmas
+mod PlaceLemmas
+pub mod LyingLemmas

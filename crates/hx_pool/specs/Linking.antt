@@ -26,7 +26,8 @@ last_after None prev last = prev
 last_after (Some x) prev last = last
 
 -- id is put between prev and next: f and the chain c before, g and d after
-pub record IsLink (f g : ℕ → Option Links) (c d : Chain) (prev : Option ℕ) (id : ℕ) (next : Option ℕ) : Type 0 where
+pub record IsLink (f g : ℕ → Option Links) (c d : Chain)
+    (prev : Option ℕ) (id : ℕ) (next : Option ℕ) : Type 0 where
   pub middle : ℕ → Option Links
   pub both : ℕ → Option Links
   pub placed : middle id ≡ Some (record { prev = prev; next = next })

@@ -65,7 +65,8 @@ impl Chain {
         requires { ForSome prev (λ p. IsLive pool.old p) }
         ensures first { self.new.first ≡ first_after prev next self.old.first }
         ensures last { self.new.last ≡ self.old.last }
-        ensures links { SetsNext (links_at T.links_of pool.old) (links_at T.links_of pool.new) prev next }
+        ensures links { SetsNext (links_at T.links_of pool.old) (links_at T.links_of pool.new)
+            prev next }
         ensures values { Relinked T.same pool.old pool.new }
         ensures others { (k : ℕ) → prev ≢ Some k → get pool.new k ≡ get pool.old k }
         ensures cost { steps.new ≤ steps.old + 1 }
@@ -94,7 +95,8 @@ impl Chain {
         requires { ForSome next (λ n. IsLive pool.old n) }
         ensures first { self.new.first ≡ self.old.first }
         ensures last { self.new.last ≡ last_after next prev self.old.last }
-        ensures links { SetsPrev (links_at T.links_of pool.old) (links_at T.links_of pool.new) next prev }
+        ensures links { SetsPrev (links_at T.links_of pool.old) (links_at T.links_of pool.new)
+            next prev }
         ensures values { Relinked T.same pool.old pool.new }
         ensures others { (k : ℕ) → next ≢ Some k → get pool.new k ≡ get pool.old k }
         ensures cost { steps.new ≤ steps.old + 1 }
@@ -124,7 +126,8 @@ impl Chain {
         requires live { IsLive pool.old id }
         requires prev { ForSome prev (λ p. IsLive pool.old p) }
         requires next { ForSome next (λ n. IsLive pool.old n) }
-        ensures parts { IsLink (links_at T.links_of pool.old) (links_at T.links_of pool.new) self.old self.new prev id next }
+        ensures parts { IsLink (links_at T.links_of pool.old) (links_at T.links_of pool.new)
+            self.old self.new prev id next }
         ensures values { Relinked T.same pool.old pool.new }
         ensures others { (k : ℕ) → k ≢ id → prev ≢ Some k → next ≢ Some k
             → get pool.new k ≡ get pool.old k }

@@ -20,6 +20,7 @@ mod chain;
 mod chunk;
 mod chunks;
 mod links;
+mod memory;
 mod pool;
 mod slot;
 mod steps;

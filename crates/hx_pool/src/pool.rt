@@ -39,8 +39,8 @@ impl<T> Model for Pool<T> {
     ghost invariant = { λ p. IsPool p.slots.0 p.spare p.first_free };
 }
 
-/// Appends `count` free slots, each of which names the one before it, and the first of them `first`.
-/// The last one's number, or `first` where there is none.
+/// Appends `count` free slots, each of which names the one before it, and the first of them
+/// `first`. The last one's number, or `first` where there is none.
 fn add_free<T>(slots: &mut Chunks<T>, count: usize, first: Option<usize>) -> Option<usize>
     requires { count ≤ slots.old.1 }
     ensures values { map value_of slots.new.0 ≡ map value_of slots.old.0 ++ replicate count None }
