@@ -1,7 +1,25 @@
 """Builds and runs a measuring program over the crates of this repository, for the scripts beside this file."""
-import os, shutil, subprocess, sys, tempfile
+import contextlib, os, shutil, subprocess, sys, tempfile
 
 TOP = os.path.dirname(os.path.dirname(os.path.abspath(__file__)))
+
+
+@contextlib.contextmanager
+def copied(changes=()):
+    """A folder with a copy of the crates. Each of the changes is a file, a text that stands in it once, and the one in its place."""
+    with tempfile.TemporaryDirectory() as folder:
+        for name in sorted(os.listdir(os.path.join(TOP, 'crates'))):
+            shutil.copytree(os.path.join(TOP, 'crates', name), os.path.join(folder, 'crates', name), ignore=shutil.ignore_patterns('out', 'must-fail'))
+        shutil.copy(os.path.join(TOP, 'crates.txt'), folder)
+        for file, old, new in changes:
+            path = os.path.join(folder, file)
+            with open(path) as source:
+                text = source.read()
+            if text.count(old) != 1:
+                sys.exit(f'{file}: not once there: {old}')
+            with open(path, 'w') as out:
+                out.write(text.replace(old, new))
+        yield folder
 
 
 def rows(main, crates):
@@ -10,10 +28,7 @@ def rows(main, crates):
     It is built by `rt try`, in a folder of its own: a measuring program needs no proof, and its times are to be read
     against one another alone. Where it fails, its words and those of rt are printed, and the script ends with status 1.
     """
-    with tempfile.TemporaryDirectory() as folder:
-        for name in sorted(os.listdir(os.path.join(TOP, 'crates'))):
-            shutil.copytree(os.path.join(TOP, 'crates', name), os.path.join(folder, 'crates', name), ignore=shutil.ignore_patterns('out', 'must-fail'))
-        shutil.copy(os.path.join(TOP, 'crates.txt'), folder)
+    with copied() as folder:
         crate = os.path.join(folder, 'crates', 'measure')
         os.makedirs(os.path.join(crate, 'src'))
         with open(os.path.join(crate, 'src', 'main.rt'), 'w') as out:

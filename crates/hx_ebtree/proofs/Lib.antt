@@ -1,0 +1,27 @@
+mod BitLemmas
+mod CodeLemmas
+mod PairLemmas
+mod NodeLemmas
+mod ShapeLemmas
+mod KeyedLemmas
+mod ChangeLemmas
+mod WholeLemmas
+mod SeekLemmas
+mod PushLemmas
+mod ExactLemmas
+mod InsertLemmas
+mod StandLemmas
+pub mod FrameLemmas
+mod InsertSteps
+mod LongestLemmas
+mod LongestSteps
+mod RemoveLemmas
+mod UnchainLemmas
+mod NextLemmas
+mod CutLemmas
+mod MoveLemmas
+mod DetachLemmas
+mod RootLemmas
+mod LaterLemmas
+mod RemoveSteps
+mod WalkLemmas

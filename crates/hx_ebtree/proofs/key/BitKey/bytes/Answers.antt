@@ -1,0 +1,10 @@
+use Rattle.hx_ebtree.proofs.BitLemmas.{bits_length}
+use Rattle.hx_ebtree.proofs.key.BitKey.bytes.Goals as goal
+
+pub returns-clause-bits : goal.returns-clause-bits
+returns-clause-bits c = rw (← c.self.view_is, bits_length, c.as_slice.ensures.value)
+
+pub returns-clause-enough : goal.returns-clause-enough
+returns-clause-enough c =
+    let fits = c.self.invariant in
+    rw (← c.self.view_is, bits_length, c.as_slice.ensures.value) fits

@@ -1,0 +1,9 @@
+pub mod Bits
+pub mod Pairs
+pub mod Node
+pub mod Shape
+pub mod Context
+pub mod Change
+pub mod Tree
+pub mod Seat
+pub mod Remove

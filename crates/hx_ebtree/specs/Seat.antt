@@ -1,0 +1,91 @@
+-- Where a key is, or where it goes. No public clause cites this module.
+use Rattle.std.specs.Prelude.{◌≡◌, ℕ, ◌*◌, ◌%◌, ◌==◌, Bool, true, false, if◌then◌else◌, nat_lt, List, [], ◌∷◌, ◌++◌, length, slice_index_or, Option, Some, None}
+use mathlib.Core.Bool.{not}
+use Rattle.hx_ebtree.specs.declared.node.Down.{Down}
+use Rattle.hx_ebtree.specs.declared.node.Down.TheVariants.{Leaf, Branch}
+use Rattle.hx_ebtree.specs.declared.node.Up.{Up}
+use Rattle.hx_ebtree.specs.declared.node.Branch.{Branch as Fork}
+use Rattle.hx_ebtree.specs.declared.seek.Seat.{Seat}
+use Rattle.hx_ebtree.specs.declared.seek.Seat.TheVariants.{Same, Beside}
+use Rattle.hx_ebtree.specs.Bits.{code_of, IsPrefix}
+use Rattle.hx_ebtree.specs.Pairs.{Pairs}
+use Rattle.hx_ebtree.specs.Shape.{Shape, leaf, IsKeyed, Leaves, Forks, HangsAt}
+use Rattle.hx_ebtree.specs.Context.{Context, plug, hole_up, hole_shared, SurroundsAt}
+use Rattle.hx_ebtree.specs.Tree.{StandsAs}
+
+-- where two codes part, if it is before `limit`
+abbrev pub split_before_of : ℕ → Option ℕ → Option ℕ
+split_before_of limit None = None
+split_before_of limit (Some at) = if nat_lt at limit then Some at else None
+
+abbrev pub side_of : Bool → Fork → Down
+side_of false b = b.left
+side_of true b = b.right
+
+abbrev pub leaf_seat_of : List Bool → ℕ → Option Up → Option ℕ → Seat
+leaf_seat_of key id up None = Same id
+leaf_seat_of key id up (Some bit) = Beside (Leaf id) up bit (slice_index_or (code_of key) bit false)
+
+-- a shape of the tree, with a hole that `up` is the place of and that `at` points into
+pub record IsHole (f : Leaves) (g : Forks) (root : Option Down) (pairs : Pairs) (c : Context)
+    (s : Shape) (up : Option Up) (at : Down) : Type 0 where
+  pub stands : StandsAs f g root (Some (plug c s)) pairs
+  pub around : SurroundsAt f g root c at
+  pub inside : HangsAt f g (hole_up c) s at
+  pub up_is : up ≡ hole_up c
+
+-- the search for a key came to a hole
+pub record Reaches (f : Leaves) (g : Forks) (root : Option Down) (pairs : Pairs) (key : List Bool)
+    (up : Option Up) (at : Down) (depth : ℕ) : Type 0 where
+  pub context : Context
+  pub here : Shape
+  pub hole : IsHole f g root pairs context here up at
+  pub leads : IsPrefix (hole_shared context) (code_of key)
+  pub deep : depth ≡ length (hole_shared context)
+
+-- the leaf of the key
+pub record IsSame (f : Leaves) (g : Forks) (root : Option Down) (pairs : Pairs) (key : List Bool)
+    (front : ℕ) : Type 0 where
+  pub context : Context
+  pub more : List ℕ
+  pub up : Option Up
+  pub at : Down
+  pub hole : IsHole f g root pairs context (leaf key front more) up at
+
+-- the place of the key's own leaf, beside what is there
+pub record IsBeside (f : Leaves) (g : Forks) (root : Option Down) (pairs : Pairs) (key : List Bool)
+    (at : Down) (up : Option Up) (bit : ℕ) (right : Bool) : Type 0 where
+  pub context : Context
+  pub here : Shape
+  pub hole : IsHole f g root pairs context here up at
+  pub shared : List Bool
+  pub long : length shared ≡ bit
+  pub leads : IsPrefix (shared ++ right ∷ []) (code_of key)
+  pub keyed : IsKeyed (shared ++ not right ∷ []) here
+  pub under : IsPrefix (hole_shared context) shared
+
+abbrev pub IsSeat : Leaves → Forks → Option Down → Pairs → List Bool → Option Seat → Type 0
+IsSeat f g root pairs key None = StandsAs f g root None pairs
+IsSeat f g root pairs key (Some (Same front)) = IsSame f g root pairs key front
+IsSeat f g root pairs key (Some (Beside at up bit right)) =
+    IsBeside f g root pairs key at up bit right
+
+abbrev pub seat_id : Option Seat → Option ℕ
+seat_id None = None
+seat_id (Some (Same front)) = Some front
+seat_id (Some (Beside at up bit right)) = None
+
+-- the number of a leaf that is on the left, or the best so far
+abbrev pub left_leaf : Down → Option ℕ → Option ℕ
+left_leaf (Leaf id) best = Some id
+left_leaf (Branch h) best = best
+
+-- the best once the search goes to this side of a branch
+abbrev pub better_of : Bool → Fork → Option ℕ → Option ℕ
+better_of false b best = best
+better_of true b best = if b.bit % 2 == 0 then left_leaf b.left best else best
+
+-- the best at a leaf, whose key is this long, by where its code parts from the key's
+abbrev pub leaf_longest_of : ℕ → ℕ → Option ℕ → Option ℕ → Option ℕ
+leaf_longest_of id len None best = Some id
+leaf_longest_of id len (Some at) best = if at == len * 2 then Some id else best

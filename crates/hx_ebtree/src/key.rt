@@ -1,0 +1,53 @@
+ghost use Rattle.std.specs.Prelude.{◌≡◌, ◌*◌, ◌≤◌, IfOk, length};
+ghost use Rattle.hx_ebtree.specs.Bits.{bits_of};
+
+use hx_text::NoMemory;
+use std::alloc::Global;
+use std::marker::Model;
+
+/// A key of bits. Contracts see the list of its bits.
+#[derive(Debug, Drop)]
+pub struct BitKey {
+    bytes: Vec<u8>,
+    bits: usize,
+}
+
+impl Model for BitKey {
+    ghost use Rattle.std.specs.Prelude.{List, Bool, ◌*◌, ◌≤◌, length};
+    ghost use Rattle.hx_ebtree.specs.Bits.{bits_of};
+
+    ghost Value = { List Bool };
+
+    ghost view = { λ key. bits_of key.bytes.items key.bits };
+
+    ghost invariant = { λ key. key.bits ≤ 8 * length key.bytes.items };
+}
+
+impl BitKey {
+    /// The first `bits` bits of `bytes`, the highest bit of each byte first, copied into memory of
+    /// `alloc`.
+    pub fn new(alloc: Global, bytes: &[u8], bits: usize) -> Result<BitKey, NoMemory>
+        requires { bits ≤ 8 * length bytes.now }
+        ensures { IfOk result (λ key. key ≡ bits_of bytes.now bits) }
+    {
+        Ok(BitKey {
+            bytes: Vec::from_slice(alloc, bytes)?,
+            bits,
+        })
+    }
+
+    /// The bytes that hold the bits.
+    pub(crate) fn bytes(&self) -> &[u8]
+        ensures bits { bits_of result.now (length self.now) ≡ self.now }
+        ensures enough { length self.now ≤ 8 * length result.now }
+    {
+        self.bytes.as_slice()
+    }
+
+    /// How many bits there are.
+    pub(crate) fn len(&self) -> usize
+        ensures { result ≡ length self.now }
+    {
+        self.bits
+    }
+}

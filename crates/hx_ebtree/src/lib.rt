@@ -1,0 +1,22 @@
+//! A radix tree whose nodes lie in the slots of a pool.
+#![tactic(auto)]
+
+mod bits;
+#[cfg(test)]
+mod chain_tests;
+mod insert;
+mod key;
+mod longest;
+mod node;
+mod parts;
+mod place;
+mod pop;
+mod remove;
+mod seek;
+#[cfg(test)]
+mod tests;
+mod tree;
+
+pub use key::BitKey;
+pub use node::Node;
+pub use tree::Tree;

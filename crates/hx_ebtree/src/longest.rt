@@ -1,0 +1,101 @@
+//! The longest prefix of a key.
+ghost use Rattle.std.specs.Prelude.{◌≡◌, ◌+◌, ◌*◌, ◌≤◌, length};
+ghost use Rattle.hx_ebtree.specs.Bits.{bits_of, split_of};
+ghost use Rattle.hx_ebtree.specs.Pairs.{Pairs, longest_of};
+ghost use Rattle.hx_ebtree.specs.Tree.{leaves_of, forks_of, Stands};
+ghost use Rattle.hx_ebtree.specs.Seat.{split_before_of, side_of, better_of, leaf_longest_of};
+
+use crate::bits::{code_bit, split};
+use crate::node::{Branch, Down, Node};
+use crate::seek::{side, split_before};
+use crate::tree::Tree;
+use hx_pool::{Pool, Steps};
+use std::sync::ledger::Ledger;
+
+/// The best number so far, once the search goes to this side of a branch: where it goes right at a
+/// bit that says whether the key ends, the key that ends there is longer than any before.
+fn better(branch: &Branch, right: bool, best: Option<usize>) -> Option<usize>
+    ensures { result ≡ better_of right branch.now best }
+{
+    if right && branch.bit % 2 == 0 {
+        match branch.left {
+            Down::Leaf(id) => Some(id),
+            Down::Branch(_) => best,
+        }
+    } else {
+        best
+    }
+}
+
+/// The number of the leaf at which the search ends, if its key is a prefix, or the best before.
+fn leaf_longest(id: usize, len: usize, found: Option<u128>, best: Option<usize>) -> Option<usize>
+    ensures { result ≡ leaf_longest_of id len found best }
+{
+    match found {
+        Some(at) => {
+            if at == len as u128 * 2 {
+                Some(id)
+            } else {
+                best
+            }
+        }
+        None => Some(id),
+    }
+}
+
+impl Tree {
+    /// The oldest node of those with the longest key that is a prefix of the first `bits` bits of
+    /// `key`, or none where no node has such a key. At most two steps for each bit, and two more.
+    pub fn longest<V, L: Ledger>(
+        &self,
+        pool: &Pool<Node<V>>,
+        key: &[u8],
+        bits: usize,
+        steps: &mut Steps<L>,
+    ) -> Option<usize>
+        requires bits { bits ≤ 8 * length key.now }
+        requires stands { (pairs : Pairs) × Stands pool.now self.now pairs }
+        ensures found { (pairs : Pairs) → Stands pool.now self.now pairs
+            → result ≡ longest_of pairs (bits_of key.now bits) }
+        ensures cost { steps.new ≤ steps.old + 2 * bits + 2 }
+    {
+        let mut at = match self.root {
+            Some(down) => down,
+            None => return None,
+        };
+        let mut best = None;
+        let mut depth = 0;
+        loop {
+            match at {
+                Down::Leaf(id) => {
+                    let node = pool.get(id, steps);
+                    let found = split(node.key.bytes(), node.key.len(), key, bits);
+                    return leaf_longest(id, node.key.len(), found, best);
+                }
+                Down::Branch(id) => {
+                    let node = pool.get(id, steps);
+                    let branch = match node.branch {
+                        Some(branch) => branch,
+                        None => unreachable!(),
+                    };
+                    let found = split_before(
+                        key,
+                        bits,
+                        node.key.bytes(),
+                        node.key.len(),
+                        branch.bit,
+                    );
+                    match found {
+                        Some(_) => return best,
+                        None => {
+                            let right = code_bit(key, bits, branch.bit);
+                            best = better(&branch, right, best);
+                            at = side(&branch, right);
+                            depth = branch.bit + 1;
+                        }
+                    }
+                }
+            }
+        }
+    }
+}
