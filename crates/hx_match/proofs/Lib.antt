@@ -1,0 +1,5 @@
+pub mod TextLemmas
+pub mod ComponentLemmas
+pub mod ExpressionLemmas
+pub mod RefusalLemmas
+pub mod BetweenLemmas

@@ -1,0 +1,28 @@
+use crate::form::Form;
+use hx_text::Octets;
+use std::marker::Model;
+
+/// A text as a pattern of a match method, read once. Contracts see it as its method, its case and
+/// its text.
+#[derive(Drop)]
+pub struct Pattern {
+    pub(crate) ci: bool,
+    pub(crate) text: Octets,
+    pub(crate) form: Form,
+}
+
+impl Model for Pattern {
+    ghost use Rattle.hx_match.specs.Patterns.{PatternText};
+
+    ghost Value = { PatternText };
+
+    ghost use Rattle.hx_match.specs.Read.{by_of, IsRead};
+
+    ghost view = { λ pattern. record {
+      by = by_of pattern.form;
+      ci = pattern.ci;
+      text = pattern.text;
+    } };
+
+    ghost invariant = { λ pattern. IsRead pattern.ci pattern.text pattern.form };
+}
