@@ -1,4 +1,4 @@
-ghost use Rattle.std.specs.Prelude.{◌≡◌, IfOk, None};
+ghost use Rattle.std.specs.Prelude.{◌≡◌, IfOk, None, map};
 ghost use Rattle.std.specs.Option.{option_copied};
 ghost use Rattle.hx_fetch.specs.World.{context_of};
 ghost use Rattle.hx_sample.specs.Seen.{occurrence_value, value_of};
@@ -85,7 +85,10 @@ fn apply<'w, T: Tables, L: Ledger>(
     }
 }
 
-/// What the converters make of an occurrence, one after the other. None stays none.
+/// What the converters make of an occurrence, one after the other. None stays none. It is kept out
+/// of its callers, most of which have no converters: a function pays at its entry for the locals of
+/// all that is inlined into it.
+#[inline(never)]
 fn convert<'w, T: Tables, L: Ledger>(
     alloc: Global,
     convs: &[PlanConv],
@@ -129,14 +132,32 @@ pub fn eval<'w, T: Tables, L: Ledger>(
         ≡ expr_value (context_of world.now) (T.heads tables.now) (T.lists tables.now) plan.now) }
 {
     let occurrence = chosen(alloc, &plan.fetch, world)?;
-    convert(
-        alloc,
-        plan.convs.as_slice(),
-        occurrence,
-        world,
-        tables,
-        steps,
-    )
+    let convs = plan.convs.as_slice();
+    if convs.is_empty() {
+        return Ok(occurrence);
+    }
+    convert(alloc, convs, occurrence, world, tables, steps)
+}
+
+/// What the converters make of each occurrence.
+fn convert_all<'w, T: Tables, L: Ledger>(
+    alloc: Global,
+    convs: &[PlanConv],
+    mut found: Samples<'w>,
+    world: &World<'w>,
+    tables: &'w T,
+    steps: &mut Steps<L>,
+) -> Result<Samples<'w>, NoMemory>
+    requires { HasTableHeads (T.heads tables.now) convs.now }
+    ensures { IfOk result (λ values. values
+        ≡ map (value_after (context_of world.now) (T.heads tables.now) (T.lists tables.now)
+        convs.now) found.entry) }
+{
+    let mut values = Samples::new(alloc);
+    while let Some(occurrence) = found.take() {
+        values.push(convert(alloc, convs, occurrence, world, tables, steps)?)?;
+    }
+    Ok(values)
 }
 
 /// The values of the expression in `world`, one for each occurrence of its fetch, in their order,
@@ -153,11 +174,10 @@ pub fn eval_all<'w, T: Tables, L: Ledger>(
     ensures { IfOk result (λ values. values
         ≡ expr_values (context_of world.now) (T.heads tables.now) (T.lists tables.now) plan.now) }
 {
-    let mut found = occurrences(alloc, &plan.fetch, world)?;
-    let mut values = Samples::new(alloc);
-    while let Some(occurrence) = found.take() {
-        let convs = plan.convs.as_slice();
-        values.push(convert(alloc, convs, occurrence, world, tables, steps)?)?;
+    let found = occurrences(alloc, &plan.fetch, world)?;
+    let convs = plan.convs.as_slice();
+    if convs.is_empty() {
+        return Ok(found);
     }
-    Ok(values)
+    convert_all(alloc, convs, found, world, tables, steps)
 }

@@ -1,4 +1,6 @@
-ghost use Rattle.std.specs.Prelude.{◌≡◌, IfOk};
+ghost use Rattle.std.specs.Prelude.{◌≡◌, [], ◌∷◌, IfOk, IfSome, Some};
+ghost use Rattle.std.specs.Option.{option_copied};
+ghost use Rattle.hx_sample.specs.declared.sample.Value.TheVariants as value;
 ghost use Rattle.hx_sample.specs.Seen.{occurrence_value};
 ghost use Rattle.hx_fetch.specs.Fetches.{occurrences_of, chosen_of, takes_last};
 ghost use Rattle.hx_fetch.specs.World.{context_of};
@@ -82,5 +84,20 @@ pub fn chosen<'w>(
             Some(text) => cast(alloc, Sample::Str(Bytes::Lent(text)), kind),
             None => Ok(None),
         },
+    }
+}
+
+/// The string that `fetch` finds in `world`, where it is its one occurrence and stands in the
+/// message as it is: the path, the query or the target. None for any other fetch, and where there
+/// is no path or no query. A caller that compares strings needs no sample then.
+pub fn message_text<'w>(fetch: &Fetch, world: &World<'w>) -> Option<&'w [u8]>
+    ensures { IfSome (option_copied result) (λ text.
+        occurrences_of fetch.now (context_of world.now) ≡ Some (value.Str text) ∷ []) }
+{
+    match fetch {
+        Fetch::Path => world.message.path(),
+        Fetch::Query => world.message.query(),
+        Fetch::Url => Some(world.message.target()),
+        _ => None,
     }
 }

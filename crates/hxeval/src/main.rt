@@ -22,6 +22,8 @@ mod replay_state;
 mod rules;
 mod run;
 mod run_fault;
+#[cfg(test)]
+mod runs;
 mod statement;
 #[cfg(test)]
 mod tests;

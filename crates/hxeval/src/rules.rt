@@ -77,6 +77,9 @@ impl Rule {
         ensures { IfOk result (λ found.
             found ≡ holds (context_of world.now) self.now.expr self.now.values) }
     {
+        if let Some(text) = self.plan.message_text(world) {
+            return Ok(is_among(text, &self.values));
+        }
         let mut steps = Steps::<L>::open(blank);
         let mut found = eval_all(alloc, &self.plan, world, &EmptyTables, &mut steps)?;
         while let Some(value) = found.take() {
@@ -92,12 +95,14 @@ impl Rule {
 fn is_one_of(alloc: Global, found: Option<Sample<'_>>, values: &Texts) -> Result<bool, NoMemory>
     ensures { IfOk result (λ is. is ≡ is_one_of values.now (occurrence_value found.entry)) }
 {
-    let Some(sample) = found else {
-        return Ok(false);
-    };
-    match cast(alloc, sample, Kind::Str)? {
+    match found {
+        // Most values are strings, which a cast would only move.
         Some(Sample::Str(text)) => Ok(is_among(text.as_slice(), values)),
-        _ => Ok(false),
+        Some(sample) => match cast(alloc, sample, Kind::Str)? {
+            Some(Sample::Str(text)) => Ok(is_among(text.as_slice(), values)),
+            _ => Ok(false),
+        },
+        None => Ok(false),
     }
 }
 
@@ -145,6 +150,8 @@ impl Rules {
     }
 
     /// Whether some rule denies this request. The first that does is the last that is evaluated.
+    /// It is kept out of the loop over events, which would clear its locals for each of them.
+    #[inline(never)]
     pub fn deny(&self, alloc: Global, world: &World<'_>) -> Result<bool, NoMemory>
         ensures { IfOk result (λ denied.
             denied ≡ list_any (denies (context_of world.now)) self.now) }

@@ -1,297 +1,153 @@
 use crate::run::run;
+use crate::runs::RUNS;
 use hx_outside::{FailMaker, MemFiles, MemSink, MemSource, PlainMaker, read_to_end};
+use hx_text::{cut_at, read_number};
 use std::alloc::Global;
 use std::test::Fail;
 
 /// The line that opens connection 1.
 const CONN: &[u8] = b"conn 1 192.0.2.7 40000 203.0.113.1 80\n";
 
-/// A run of `run c` over a configuration named `c`, with the variable A of value `x`: its status
-/// and text.
-fn ran(alloc: Global, config: &[u8], record: &[u8]) -> Result<(u8, Vec<u8>), Fail> {
-    ran_in_pieces(alloc, config, record.to_vec(alloc)?, 7)
+/// A run of `run NAME` over a configuration named `c`, with the variable A of value `x`, and the
+/// numbers of the calls that fail.
+#[derive(Drop)]
+struct Run {
+    name: Vec<u8>,
+    config: Vec<u8>,
+    record: Vec<u8>,
+    reads: Vec<u64>,
+    writes: Vec<u64>,
+    large: Vec<u64>,
 }
 
+impl Run {
+    fn new(alloc: Global, config: Vec<u8>, record: Vec<u8>) -> Result<Run, Fail> {
+        Ok(Run {
+            name: b"c".to_vec(alloc)?,
+            config,
+            record,
+            reads: Vec::new(alloc),
+            writes: Vec::new(alloc),
+            large: Vec::new(alloc),
+        })
+    }
+
+    /// Takes in a part of the run, and answers whether its word is known.
+    fn take(&mut self, alloc: Global, word: &[u8], text: &[u8]) -> Result<bool, Fail> {
+        let bytes = decoded(alloc, text)?;
+        if word == b"name".as_slice() {
+            self.name = bytes;
+        } else if word == b"record".as_slice() {
+            self.record = bytes;
+        } else if word == b"more".as_slice() {
+            self.record.extend_from_slice(bytes.as_slice())?;
+        } else if word == b"head".as_slice() {
+            append_request(alloc, &mut self.record, bytes.as_slice())?;
+        } else if word == b"read".as_slice() {
+            self.reads.push(number_of(text))?;
+        } else if word == b"write".as_slice() {
+            self.writes.push(number_of(text))?;
+        } else if word == b"large".as_slice() {
+            self.large.push(number_of(text))?;
+        } else {
+            return Ok(false);
+        }
+        Ok(true)
+    }
+
+    /// Its status and what it writes.
+    fn outcome(&self, alloc: Global) -> Result<(u8, Vec<u8>), Fail> {
+        let words = vec![in alloc; b"run".to_vec(alloc)?, self.name.as_slice().to_vec(alloc)?]?;
+        let env = vec![in alloc; (b"A".to_vec(alloc)?, b"x".to_vec(alloc)?)]?;
+        let config = self.config.as_slice().to_vec(alloc)?;
+        let files = vec![in alloc; (b"c".to_vec(alloc)?, config)]?;
+        let mut files = MemFiles::new(files, Vec::new(alloc));
+        let record = self.record.as_slice().to_vec(alloc)?;
+        let mut source = MemSource::new(record, 8, self.reads.as_slice().to_vec(alloc)?);
+        let mut sink = MemSink::new(alloc, 3, self.writes.as_slice().to_vec(alloc)?);
+        let mut maker = FailMaker::new(self.large.as_slice().to_vec(alloc)?);
+        let status = run(
+            alloc,
+            &words,
+            &env,
+            &mut files,
+            &mut source,
+            &mut sink,
+            &mut maker,
+        );
+        Ok((status, sink.bytes().to_vec(alloc)?))
+    }
+}
+
+/// The text with `~` and `^` read as `RUNS` says.
+fn decoded(alloc: Global, text: &[u8]) -> Result<Vec<u8>, Fail> {
+    let mut bytes = Vec::new(alloc);
+    for b in text {
+        match *b {
+            b'~' => bytes.push(b'\n')?,
+            b'^' => bytes.extend_from_slice(b"\r\n")?,
+            b => bytes.push(b)?,
+        }
+    }
+    Ok(bytes)
+}
+
+/// The number that a text writes; for any other text one that is no status and counts no call.
+fn number_of(text: &[u8]) -> u64 {
+    read_number(text, 1_000).unwrap_or(u64::MAX)
+}
+
+fn append_request(alloc: Global, record: &mut Vec<u8>, head: &[u8]) -> Result<(), Fail> {
+    let len = head.len();
+    record.extend_from_slice(format!(in alloc; "req 1 {len}\n")?.as_bytes())?;
+    record.extend_from_slice(head)?;
+    record.extend_from_slice(b"\n")?;
+    Ok(())
+}
+
+/// The first word of a line, and what stands after the space that follows it.
+fn word_and_text(line: &[u8]) -> (&[u8], &[u8]) {
+    match cut_at(b' ', line) {
+        Some(cut) => cut,
+        None => (line, b""),
+    }
+}
+
+#[test]
+fn runs_end_and_answer_as_their_lines_say(rt: HostRuntime) -> Result<(), Fail> {
+    let alloc = rt.alloc();
+    let mut made = Run::new(alloc, Vec::new(alloc), Vec::new(alloc))?;
+    let mut count = 0u32;
+    for line in RUNS.split(|b| *b == b'\n') {
+        let (word, text) = word_and_text(line);
+        if word == b"config".as_slice() {
+            made = Run::new(alloc, decoded(alloc, text)?, CONN.to_vec(alloc)?)?;
+        } else if word == b"run".as_slice() {
+            let (status, answers) = word_and_text(text);
+            let (ended, written) = made.outcome(alloc)?;
+            assert_eq!(rt; u64::from(ended), number_of(status), "at run {count}");
+            assert_eq!(rt; written, decoded(alloc, answers)?, "at run {count}");
+            count = count.saturating_add(1);
+        } else if !line.is_empty() {
+            assert!(rt; made.take(alloc, word, text)?, "at run {count}");
+        }
+    }
+    assert_eq!(rt; count, 80);
+    Ok(())
+}
+
+/// A run over files, a source and a maker that don't fail.
 fn ran_in_pieces(
     alloc: Global,
-    config: &[u8],
+    config: Vec<u8>,
     record: Vec<u8>,
     piece: usize,
 ) -> Result<(u8, Vec<u8>), Fail> {
     let words = vec![in alloc; b"run".to_vec(alloc)?, b"c".to_vec(alloc)?]?;
-    let env = vec![in alloc; (b"A".to_vec(alloc)?, b"x".to_vec(alloc)?)]?;
-    let files = vec![in alloc; (b"c".to_vec(alloc)?, config.to_vec(alloc)?)]?;
+    let files = vec![in alloc; (b"c".to_vec(alloc)?, config)]?;
     let mut files = MemFiles::new(files, Vec::new(alloc));
     let mut source = MemSource::new(record, piece.max(1), Vec::new(alloc));
-    let mut sink = MemSink::new(alloc, 5, Vec::new(alloc));
-    let mut maker = PlainMaker::new();
-    let status = run(
-        alloc,
-        &words,
-        &env,
-        &mut files,
-        &mut source,
-        &mut sink,
-        &mut maker,
-    );
-    Ok((status, sink.bytes().to_vec(alloc)?))
-}
-
-/// A record of requests on connection 1.
-fn record_of(alloc: Global, heads: &[&[u8]]) -> Result<Vec<u8>, Fail> {
-    let mut record = CONN.to_vec(alloc)?;
-    for head in heads {
-        let len = head.len();
-        record.extend_from_slice(format!(in alloc; "req 1 {len}\n")?.as_bytes())?;
-        record.extend_from_slice(head)?;
-        record.extend_from_slice(b"\n")?;
-    }
-    Ok(record)
-}
-
-#[test]
-fn paths_are_denied_by_the_rules(rt: HostRuntime) -> Result<(), Fail> {
-    let cases: [(&[u8], &[u8], &[u8]); 12] = [
-        (
-            b"http-request deny if { path /a }",
-            b"GET /a?x HTTP/1.1\r\n\r\n",
-            b"1 deny 403\n",
-        ),
-        (
-            b"http-request deny if { path /a }",
-            b"GET /b HTTP/1.1\r\n\r\n",
-            b"1 pass -\n",
-        ),
-        (
-            b"http-request deny if { path /a }",
-            b"GET /ab HTTP/1.1\r\n\r\n",
-            b"1 pass -\n",
-        ),
-        (
-            b"http-request deny if { path /a }",
-            b"GET /a\r\n",
-            b"1 bad 400\n",
-        ),
-        (
-            b"http-request deny if { path /a }",
-            b"OPTIONS * HTTP/1.1\r\n\r\n",
-            b"1 pass -\n",
-        ),
-        (
-            b"http-request deny unless { path /a }",
-            b"OPTIONS * HTTP/1.1\r\n\r\n",
-            b"1 deny 403\n",
-        ),
-        (
-            b"http-request deny unless { path /a }",
-            b"GET /a HTTP/1.1\r\n\r\n",
-            b"1 pass -\n",
-        ),
-        (
-            b"http-request deny if { path /b /a }",
-            b"GET /a HTTP/1.1\r\n\r\n",
-            b"1 deny 403\n",
-        ),
-        (
-            b"# none\n\nhttp-request deny if { path /a }\r\n",
-            b"GET /a HTTP/1.1\r\n\r\n",
-            b"1 deny 403\n",
-        ),
-        (
-            b"http-request deny if { path \"/$A b\"'$A'\\ c }",
-            b"GET /x HTTP/1.1\r\n\r\n",
-            b"1 pass -\n",
-        ),
-        (
-            b"http-request deny if { path \"/$A\" }",
-            b"GET /x HTTP/1.1\r\n\r\n",
-            b"1 deny 403\n",
-        ),
-        (
-            b"http-request deny if { path /b }\nhttp-request deny if { path /a }",
-            b"GET /a HTTP/1.1\r\n\r\n",
-            b"1 deny 403\n",
-        ),
-    ];
-    for (config, head, text) in cases {
-        let record = record_of(rt.alloc(), &[head])?;
-        let (status, written) = ran(rt.alloc(), config, record.as_slice())?;
-        assert_eq!(rt; status, 0);
-        assert_eq!(rt; written.as_slice(), text);
-    }
-    Ok(())
-}
-
-#[test]
-fn expressions_are_compared_with_the_values(rt: HostRuntime) -> Result<(), Fail> {
-    let cases: [(&[u8], &[u8], &[u8]); 10] = [
-        (
-            b"http-request deny if { req.hdr(Host),lower -m str a.example }",
-            b"GET / HTTP/1.1\r\nHost: A.Example\r\n\r\n",
-            b"1 deny 403\n",
-        ),
-        (
-            b"http-request deny if { req.hdr(Host),lower,field(1,:) -m str b a }",
-            b"GET / HTTP/1.1\r\nHost: A:80\r\n\r\n",
-            b"1 deny 403\n",
-        ),
-        (
-            b"http-request deny if { src,lower,not -m str 1 }",
-            b"GET / HTTP/1.1\r\n\r\n",
-            b"1 pass -\n",
-        ),
-        (
-            b"http-request deny if { src -m str 192.0.2.7 }",
-            b"GET / HTTP/1.1\r\n\r\n",
-            b"1 deny 403\n",
-        ),
-        (
-            b"http-request deny if { dst_port,sub(1) -m str 79 }",
-            b"GET / HTTP/1.1\r\n\r\n",
-            b"1 deny 403\n",
-        ),
-        (
-            b"http-request deny if { hdr(X) b }",
-            b"GET / HTTP/1.1\r\nX: a, b, c\r\n\r\n",
-            b"1 deny 403\n",
-        ),
-        (
-            b"http-request deny if { hdr_val(X),add(1) -m str 8 }",
-            b"GET / HTTP/1.1\r\nX: x, 7, c\r\n\r\n",
-            b"1 deny 403\n",
-        ),
-        (
-            b"http-request deny unless { var(txn.a) -m str b }",
-            b"GET / HTTP/1.1\r\n\r\n",
-            b"1 deny 403\n",
-        ),
-        (
-            b"http-request deny if { path,regsub(b+,c,g) -m str /acac }",
-            b"GET /abbab HTTP/1.1\r\n\r\n",
-            b"1 deny 403\n",
-        ),
-        (
-            b"http-request deny if { url_param(v),concat(<,,>) -m str 1<> }",
-            b"GET /?v=1 HTTP/1.1\r\n\r\n",
-            b"1 deny 403\n",
-        ),
-    ];
-    for (config, head, text) in cases {
-        let record = record_of(rt.alloc(), &[head])?;
-        let (status, written) = ran(rt.alloc(), config, record.as_slice())?;
-        assert_eq!(rt; status, 0);
-        assert_eq!(rt; written.as_slice(), text);
-    }
-    Ok(())
-}
-
-#[test]
-fn an_expression_refuses_the_configuration(rt: HostRuntime) -> Result<(), Fail> {
-    let cases: [(&[u8], &[u8]); 12] = [
-        (b"str(f1_f2),field(0,_)", b"config 1 10\n"),
-        (b"int(9223372036854775808)", b"config 1 10\n"),
-        (b"\"str(a),regsub('(',b)\"", b"config 1 16\n"),
-        (b"str(a),regsub('(',b)", b"config 1 16\n"),
-        (b"bin(61),ipmask(8)", b"config 1 11\n"),
-        (b"bin(61),ipmask(8),regsub('(',b)", b"config 1 11\n"),
-        (b"path,nosuch,b(", b"config 1 9\n"),
-        (b"path,field(", b"config 1 5\n"),
-        (b"path,field(1,:)x", b"config 1 6\n"),
-        (b"\"hdr(\\\\xg)\"", b"config 1 7\n"),
-        (b"\"hdr('a)\"", b"config 1 8\n"),
-        (b"hdr(a:b)", b"config 1 12\n"),
-    ];
-    let alloc = rt.alloc();
-    let record = record_of(alloc, &[])?;
-    for (expr, text) in cases {
-        let mut config = b"http-request deny if { ".to_vec(alloc)?;
-        config.extend_from_slice(expr)?;
-        config.extend_from_slice(b" -m str a }")?;
-        let (status, written) = ran(alloc, config.as_slice(), record.as_slice())?;
-        assert_eq!(rt; status, 3);
-        assert_eq!(rt; written.as_slice(), text);
-    }
-    Ok(())
-}
-
-#[test]
-fn an_expression_that_is_too_large_ends_the_run(rt: HostRuntime) -> Result<(), Fail> {
-    let alloc = rt.alloc();
-    let config = b"http-request deny if { str(a),regsub(a,b) -m str b }";
-    let words = vec![in alloc; b"run".to_vec(alloc)?, b"c".to_vec(alloc)?]?;
-    let files = vec![in alloc; (b"c".to_vec(alloc)?, config.to_vec(alloc)?)]?;
-    let mut files = MemFiles::new(files, Vec::new(alloc));
-    let mut source = MemSource::new(record_of(alloc, &[])?, 7, Vec::new(alloc));
-    let mut sink = MemSink::new(alloc, 5, Vec::new(alloc));
-    let mut maker = FailMaker::new(vec![in alloc; 1u64]?);
-    let status = run(
-        alloc,
-        &words,
-        &[],
-        &mut files,
-        &mut source,
-        &mut sink,
-        &mut maker,
-    );
-    assert_eq!(rt; status, 8);
-    assert!(rt; sink.bytes().is_empty());
-    Ok(())
-}
-
-#[test]
-fn the_first_faulty_line_refuses_the_configuration(rt: HostRuntime) -> Result<(), Fail> {
-    let cases: [(&[u8], &[u8]); 22] = [
-        (b"http-request allow", b"config 1 9\n"),
-        (b"http-request tarpit", b"config 1 9\n"),
-        (b"\n# a\nhttp-request deny\n\"", b"config 3 9\n"),
-        (b"http-request deny if { path }", b"config 1 9\n"),
-        (b"http-request deny if { path -i /a }", b"config 1 9\n"),
-        (b"http-request deny if { path /a } }", b"config 1 9\n"),
-        (b"http-request deny if { path { /a }", b"config 1 9\n"),
-        (b"http-request deny if { path /a", b"config 1 9\n"),
-        (b"http-request deny or { path /a }", b"config 1 9\n"),
-        (b"http-request deny if { path \"-i\" }", b"config 1 9\n"),
-        (b"deny if { path /a }", b"config 1 9\n"),
-        (b"http-request deny if { path \"/a }", b"config 1 1\n"),
-        (b"http-request deny if { path '/a }", b"config 1 1\n"),
-        (b"http-request deny if { path \\xZ }", b"config 1 2\n"),
-        (b"http-request deny if { path \"${A\" }", b"config 1 3\n"),
-        (b"http-request deny if { path \"$A }", b"config 1 1\n"),
-        (b"http-request deny if { path \"$1\" }", b"config 1 3\n"),
-        (b"http-request set-header Y \"$A\"", b"config 1 9\n"),
-        (b"\r\r\n", b"config 1 9\n"),
-        (b"http-request set-header Y \"${A\"", b"config 1 3\n"),
-        (b"http-request set-header Y \"$A", b"config 1 1\n"),
-        (b"http-request set-header Y \\xZ", b"config 1 2\n"),
-    ];
-    let record = record_of(rt.alloc(), &[b"GET /a HTTP/1.1\r\n\r\n"])?;
-    for (config, text) in cases {
-        let (status, written) = ran(rt.alloc(), config, record.as_slice())?;
-        assert_eq!(rt; status, 3);
-        assert_eq!(rt; written.as_slice(), text);
-    }
-    Ok(())
-}
-
-/// A run over a missing configuration, or a source or a sink that fails at the given calls.
-fn failing(
-    alloc: Global,
-    name: &[u8],
-    reads: &[u64],
-    writes: &[u64],
-) -> Result<(u8, Vec<u8>), Fail> {
-    let head = b"GET /a?x HTTP/1.1\r\n\r\n".as_slice();
-    let record = record_of(alloc, &[head, head])?;
-    let words = vec![in alloc; b"run".to_vec(alloc)?, name.to_vec(alloc)?]?;
-    let files = vec![in alloc;
-        (
-            b"c".to_vec(alloc)?,
-            b"http-request deny if { path /a }".to_vec(alloc)?
-        ),
-    ]?;
-    let mut files = MemFiles::new(files, Vec::new(alloc));
-    let mut source = MemSource::new(record, 8, reads.to_vec(alloc)?);
-    let mut sink = MemSink::new(alloc, 3, writes.to_vec(alloc)?);
+    let mut sink = MemSink::new(alloc, 65_536, Vec::new(alloc));
     let mut maker = PlainMaker::new();
     let status = run(
         alloc,
@@ -303,31 +159,15 @@ fn failing(
         &mut maker,
     );
     Ok((status, sink.bytes().to_vec(alloc)?))
-}
-
-#[test]
-fn a_failure_outside_ends_the_run_after_these_answers(rt: HostRuntime) -> Result<(), Fail> {
-    let cases: [(&[u8], &[u64], &[u64], u8, &[u8]); 6] = [
-        (b"c", &[], &[], 0, b"1 deny 403\n2 deny 403\n"),
-        (b"missing", &[], &[], 5, b""),
-        (b"c", &[1], &[], 5, b""),
-        (b"c", &[10], &[], 5, b"1 deny 403\n"),
-        (b"c", &[], &[1], 6, b""),
-        (b"c", &[], &[2], 6, b"1 d"),
-    ];
-    for (name, reads, writes, want, text) in cases {
-        let (status, written) = failing(rt.alloc(), name, reads, writes)?;
-        assert_eq!(rt; status, want);
-        assert_eq!(rt; written.as_slice(), text);
-    }
-    Ok(())
 }
 
 #[test]
 fn an_answer_is_written_before_the_next_event_is_read(rt: HostRuntime) -> Result<(), Fail> {
     let alloc = rt.alloc();
     let head = b"GET /a?x HTTP/1.1\r\n\r\n".as_slice();
-    let record = record_of(alloc, &[head, head])?;
+    let mut record = CONN.to_vec(alloc)?;
+    append_request(alloc, &mut record, head)?;
+    append_request(alloc, &mut record, head)?;
     let second = b"req 1 21\nGET /a?x HTTP/1.1\r\n\r\n\n".len();
     let words = vec![in alloc; b"run".to_vec(alloc)?, b"c".to_vec(alloc)?]?;
     let files = vec![in alloc; (b"c".to_vec(alloc)?, Vec::new(alloc))]?;
@@ -351,60 +191,22 @@ fn an_answer_is_written_before_the_next_event_is_read(rt: HostRuntime) -> Result
     Ok(())
 }
 
-#[test]
-fn a_record_is_refused_at_its_offset(rt: HostRuntime) -> Result<(), Fail> {
-    let cases: [(&[u8], &[u8], &[u8]); 17] = [
-        (CONN, CONN, b"record 38 7\n"),
-        (CONN, b"close 2", b"record 38 6\n"),
-        (CONN, b"close 1\nclose 1\n", b"record 46 6\n"),
-        (CONN, b"close 1\nreq 1 0\n\n", b"record 46 6\n"),
-        (CONN, b"cli 1 show map", b"record 38 1\n"),
-        (b"", b"hello", b"record 0 1\n"),
-        (b"", b"req 1 0\n\n", b"record 0 6\n"),
-        (CONN, b"req 1 21\nGET /a", b"record 38 3\n"),
-        (CONN, b"req 1 x", b"record 38 2\n"),
-        (CONN, b"req 1 ", b"record 38 2\n"),
-        (CONN, b"req 2 0\n\n", b"record 38 6\n"),
-        (CONN, b"req 1 2\nabc", b"record 48 1\n"),
-        (CONN, b"req 1 0\n\nx", b"1 bad 400\nrecord 47 1\n"),
-        (CONN, b"req 1 1048577\n", b"record 38 2\n"),
-        (
-            b"",
-            b"conn 4294967296 1.1.1.1 1 1.1.1.1 1\n",
-            b"record 0 2\n",
-        ),
-        (b"", b"conn 1 1.1.1 1 1.1.1.1 1\n", b"record 0 1\n"),
-        (b"", b"conn 1 ::1 65536 1.1.1.1 1\n", b"record 0 2\n"),
-    ];
-    for (first, second, text) in cases {
-        let mut record = first.to_vec(rt.alloc())?;
-        record.extend_from_slice(second)?;
-        let (status, written) = ran(rt.alloc(), b"", record.as_slice())?;
-        assert_eq!(rt; status, 4);
-        assert_eq!(rt; written.as_slice(), text);
-    }
-    let long = vec![in rt.alloc(); b'a'; 65_537]?;
-    let (status, written) = ran(rt.alloc(), b"", long.as_slice())?;
-    assert_eq!(rt; status, 4);
-    assert_eq!(rt; written.as_slice(), b"record 0 5\n".as_slice());
-    Ok(())
-}
-
-/// A configuration of 3,000 lines, the first of which has a word of 70,000 bytes.
+/// A configuration of 10,000 lines, of which the first has a word of 70,000 bytes, the second
+/// denies `/a`, and the last `/z`.
 fn long_config(alloc: Global) -> Result<Vec<u8>, Fail> {
     let mut config = b"http-request deny if { path ".to_vec(alloc)?;
     config.extend_from_slice(vec![in alloc; b'x'; 70_000]?.as_slice())?;
-    config.extend_from_slice(b" }\n")?;
-    for _ in 0..2_999 {
-        config.extend_from_slice(b"http-request deny if { path /a }\n")?;
+    config.extend_from_slice(b" }\nhttp-request deny if { path /a }\n")?;
+    for _ in 0..9_997 {
+        config.extend_from_slice(b"http-request deny if { path,lower /no }\n")?;
     }
+    config.extend_from_slice(b"http-request deny if { path /z }\n")?;
     Ok(config)
 }
 
 #[test]
 fn long_inputs_are_answered_whole(rt: HostRuntime) -> Result<(), Fail> {
     let alloc = rt.alloc();
-    let config = long_config(alloc)?;
     let mut record = Vec::new(alloc);
     let mut text = Vec::new(alloc);
     for id in 0..1_000u32 {
@@ -413,7 +215,8 @@ fn long_inputs_are_answered_whole(rt: HostRuntime) -> Result<(), Fail> {
     }
     for number in 1..3_001u32 {
         let id = number % 1_000;
-        let request = format!(in alloc; "req {id} 19\nGET /a HTTP/1.1\r\n\r\n\n")?;
+        let path = if id == 7 { "z" } else { "a" };
+        let request = format!(in alloc; "req {id} 19\nGET /{path} HTTP/1.1\r\n\r\n\n")?;
         record.extend_from_slice(request.as_bytes())?;
         let answer = format!(in alloc; "{number} deny 403\n")?;
         text.extend_from_slice(answer.as_bytes())?;
@@ -421,9 +224,9 @@ fn long_inputs_are_answered_whole(rt: HostRuntime) -> Result<(), Fail> {
     record.extend_from_slice(b"req 0 1048576\nPOST /b HTTP/1.1\r\n\r\n")?;
     record.extend_from_slice(vec![in alloc; b'x'; 1_048_556]?.as_slice())?;
     text.extend_from_slice(b"3001 pass -\n")?;
-    let (status, written) = ran_in_pieces(alloc, config.as_slice(), record, 4_097)?;
+    let (status, written) = ran_in_pieces(alloc, long_config(alloc)?, record, 4_097)?;
     assert_eq!(rt; status, 0);
-    assert_eq!(rt; written.as_slice(), text.as_slice());
+    assert_eq!(rt; written, text);
     Ok(())
 }
 
@@ -437,8 +240,12 @@ fn more_than_64_kib_of_answers_are_decided_by_one_read(rt: HostRuntime) -> Resul
         let answer = format!(in alloc; "{number} bad 400\n")?;
         text.extend_from_slice(answer.as_bytes())?;
     }
-    let (status, written) = ran_in_pieces(alloc, b"", record, 65_536)?;
+    let (status, written) = ran_in_pieces(alloc, Vec::new(alloc), record, 65_536)?;
     assert_eq!(rt; status, 0);
-    assert_eq!(rt; written.as_slice(), text.as_slice());
+    assert_eq!(rt; written, text);
+    let long = vec![in alloc; b'a'; 65_537]?;
+    let (status, written) = ran_in_pieces(alloc, Vec::new(alloc), long, 4_096)?;
+    assert_eq!(rt; status, 4);
+    assert_eq!(rt; written.as_slice(), b"record 0 5\n".as_slice());
     Ok(())
 }

@@ -1,0 +1,254 @@
+//! Runs as lines of text, for one test: a line says a part of a run, or what the run answers.
+//!
+//! `config` begins a run over a configuration named `c`; its record is the line that opens
+//! connection 1, and `record` has another one in its place. `head` adds a request of connection 1
+//! with these bytes, `more` adds bytes as they are. `name` asks for another configuration. `read`,
+//! `write` and `large` number a read and a write that fail, and an expression that is too large.
+//! `run` has the status and the text. `~` stands for a line feed, `^` for CR and a line feed.
+
+/// The runs, one after the other.
+pub const RUNS: &[u8] = b"config http-request deny if { path /a }
+head GET /a?x HTTP/1.1^^
+run 0 1 deny 403~
+config http-request deny if { path /a }
+head GET /b HTTP/1.1^^
+run 0 1 pass -~
+config http-request deny if { path /a }
+head GET /ab HTTP/1.1^^
+run 0 1 pass -~
+config http-request deny if { path /a }
+head GET /a^
+run 0 1 bad 400~
+config http-request deny if { path /a }
+head OPTIONS * HTTP/1.1^^
+run 0 1 pass -~
+config http-request deny unless { path /a }
+head OPTIONS * HTTP/1.1^^
+run 0 1 deny 403~
+config http-request deny unless { path /a }
+head GET /a HTTP/1.1^^
+run 0 1 pass -~
+config http-request deny if { path /b /a }
+head GET /a HTTP/1.1^^
+run 0 1 deny 403~
+config # none~~http-request deny if { path /a }^
+head GET /a HTTP/1.1^^
+run 0 1 deny 403~
+config http-request deny if { path \"/$A b\"'$A'\\ c }
+head GET /x HTTP/1.1^^
+run 0 1 pass -~
+config http-request deny if { path \"/$A\" }
+head GET /x HTTP/1.1^^
+run 0 1 deny 403~
+config http-request deny if { path /b }~http-request deny if { path /a }
+head GET /a HTTP/1.1^^
+run 0 1 deny 403~
+config http-request deny if { req.hdr(Host),lower -m str a.example }
+head GET / HTTP/1.1^Host: A.Example^^
+run 0 1 deny 403~
+config http-request deny if { req.hdr(Host),lower,field(1,:) -m str b a }
+head GET / HTTP/1.1^Host: A:80^^
+run 0 1 deny 403~
+config http-request deny if { src,lower,not -m str 1 }
+head GET / HTTP/1.1^^
+run 0 1 pass -~
+config http-request deny if { src -m str 192.0.2.7 }
+head GET / HTTP/1.1^^
+run 0 1 deny 403~
+config http-request deny if { dst_port,sub(1) -m str 79 }
+head GET / HTTP/1.1^^
+run 0 1 deny 403~
+config http-request deny if { hdr(X) b }
+head GET / HTTP/1.1^X: a, b, c^^
+run 0 1 deny 403~
+config http-request deny if { hdr_val(X),add(1) -m str 8 }
+head GET / HTTP/1.1^X: x, 7, c^^
+run 0 1 deny 403~
+config http-request deny unless { var(txn.a) -m str b }
+head GET / HTTP/1.1^^
+run 0 1 deny 403~
+config http-request deny if { path,regsub(b+,c,g) -m str /acac }
+head GET /abbab HTTP/1.1^^
+run 0 1 deny 403~
+config http-request deny if { url_param(v),concat(<,,>) -m str 1<> }
+head GET /?v=1 HTTP/1.1^^
+run 0 1 deny 403~
+config http-request deny if { str(f1_f2),field(0,_) -m str a }
+run 3 config 1 10~
+config http-request deny if { int(9223372036854775808) -m str a }
+run 3 config 1 10~
+config http-request deny if { \"str(a),regsub('(',b)\" -m str a }
+run 3 config 1 16~
+config http-request deny if { str(a),regsub('(',b) -m str a }
+run 3 config 1 16~
+config http-request deny if { bin(61),ipmask(8) -m str a }
+run 3 config 1 11~
+config http-request deny if { bin(61),ipmask(8),regsub('(',b) -m str a }
+run 3 config 1 11~
+config http-request deny if { path,nosuch,b( -m str a }
+run 3 config 1 9~
+config http-request deny if { path,field( -m str a }
+run 3 config 1 5~
+config http-request deny if { path,field(1,:)x -m str a }
+run 3 config 1 6~
+config http-request deny if { \"hdr(\\\\xg)\" -m str a }
+run 3 config 1 7~
+config http-request deny if { \"hdr('a)\" -m str a }
+run 3 config 1 8~
+config http-request deny if { hdr(a:b) -m str a }
+run 3 config 1 12~
+config http-request deny if { str(a),regsub(a,b) -m str b }
+large 1
+run 8
+config http-request allow
+head GET /a HTTP/1.1^^
+run 3 config 1 9~
+config http-request tarpit
+head GET /a HTTP/1.1^^
+run 3 config 1 9~
+config ~# a~http-request deny~\"
+head GET /a HTTP/1.1^^
+run 3 config 3 9~
+config http-request deny if { path }
+head GET /a HTTP/1.1^^
+run 3 config 1 9~
+config http-request deny if { path -i /a }
+head GET /a HTTP/1.1^^
+run 3 config 1 9~
+config http-request deny if { path /a } }
+head GET /a HTTP/1.1^^
+run 3 config 1 9~
+config http-request deny if { path { /a }
+head GET /a HTTP/1.1^^
+run 3 config 1 9~
+config http-request deny if { path /a
+head GET /a HTTP/1.1^^
+run 3 config 1 9~
+config http-request deny or { path /a }
+head GET /a HTTP/1.1^^
+run 3 config 1 9~
+config http-request deny if { path \"-i\" }
+head GET /a HTTP/1.1^^
+run 3 config 1 9~
+config deny if { path /a }
+head GET /a HTTP/1.1^^
+run 3 config 1 9~
+config http-request deny if { path \"/a }
+head GET /a HTTP/1.1^^
+run 3 config 1 1~
+config http-request deny if { path '/a }
+head GET /a HTTP/1.1^^
+run 3 config 1 1~
+config http-request deny if { path \\xZ }
+head GET /a HTTP/1.1^^
+run 3 config 1 2~
+config http-request deny if { path \"${A\" }
+head GET /a HTTP/1.1^^
+run 3 config 1 3~
+config http-request deny if { path \"$A }
+head GET /a HTTP/1.1^^
+run 3 config 1 1~
+config http-request deny if { path \"$1\" }
+head GET /a HTTP/1.1^^
+run 3 config 1 3~
+config http-request set-header Y \"$A\"
+head GET /a HTTP/1.1^^
+run 3 config 1 9~
+config \r^
+head GET /a HTTP/1.1^^
+run 3 config 1 9~
+config http-request set-header Y \"${A\"
+head GET /a HTTP/1.1^^
+run 3 config 1 3~
+config http-request set-header Y \"$A
+head GET /a HTTP/1.1^^
+run 3 config 1 1~
+config http-request set-header Y \\xZ
+head GET /a HTTP/1.1^^
+run 3 config 1 2~
+config http-request deny if { path /a }
+head GET /a?x HTTP/1.1^^
+head GET /a?x HTTP/1.1^^
+run 0 1 deny 403~2 deny 403~
+config http-request deny if { path /a }
+head GET /a?x HTTP/1.1^^
+head GET /a?x HTTP/1.1^^
+name missing
+run 5
+config http-request deny if { path /a }
+head GET /a?x HTTP/1.1^^
+head GET /a?x HTTP/1.1^^
+read 1
+run 5
+config http-request deny if { path /a }
+head GET /a?x HTTP/1.1^^
+head GET /a?x HTTP/1.1^^
+read 10
+run 5 1 deny 403~
+config http-request deny if { path /a }
+head GET /a?x HTTP/1.1^^
+head GET /a?x HTTP/1.1^^
+write 1
+run 6
+config http-request deny if { path /a }
+head GET /a?x HTTP/1.1^^
+head GET /a?x HTTP/1.1^^
+write 2
+run 6 1 d
+config
+more conn 1 192.0.2.7 40000 203.0.113.1 80~
+run 4 record 38 7~
+config
+more close 2
+run 4 record 38 6~
+config
+more close 1~close 1~
+run 4 record 46 6~
+config
+more close 1~req 1 0~~
+run 4 record 46 6~
+config
+more cli 1 show map
+run 4 record 38 1~
+config
+record
+more hello
+run 4 record 0 1~
+config
+record
+more req 1 0~~
+run 4 record 0 6~
+config
+more req 1 21~GET /a
+run 4 record 38 3~
+config
+more req 1 x
+run 4 record 38 2~
+config
+more req 1\x20
+run 4 record 38 2~
+config
+more req 2 0~~
+run 4 record 38 6~
+config
+more req 1 2~abc
+run 4 record 48 1~
+config
+more req 1 0~~x
+run 4 1 bad 400~record 47 1~
+config
+more req 1 1048577~
+run 4 record 38 2~
+config
+record
+more conn 4294967296 1.1.1.1 1 1.1.1.1 1~
+run 4 record 0 2~
+config
+record
+more conn 1 1.1.1 1 1.1.1.1 1~
+run 4 record 0 1~
+config
+record
+more conn 1 ::1 65536 1.1.1.1 1~
+run 4 record 0 2~
+";
