@@ -1,45 +1,11 @@
 //! Calls of hx_fetch.
 
-use crate::arguments::{address, byte, id, port, signed, variable};
-use crate::fault::CaseFault;
-use crate::sample::{show_all, show_occurrence};
-use crate::state::State;
 use hx_ast::{Fetch, Items};
-use hx_fetch::{Conn, World, chosen, occurrences};
-use hx_http::read_head;
+use hx_cases_base::{CaseFault, State, address, byte, show_all, show_occurrence, signed, variable};
+use hx_fetch::{World, chosen, occurrences};
 use hx_text::Octets;
 use hx_words::{Call, calls};
 use std::alloc::Global;
-use std::str;
-
-/// `request BYTES`: the request of the fetches that follow.
-pub fn request_case(alloc: Global, state: &mut State, args: &[Vec<u8>]) -> Result<(), CaseFault> {
-    let [bytes] = args else {
-        return Err(CaseFault::BadArguments);
-    };
-    match read_head(alloc, bytes.as_slice()) {
-        Ok((message, _)) => {
-            state.message = Some(message);
-            Ok(())
-        }
-        Err(_) => Err(CaseFault::BadArguments),
-    }
-}
-
-/// `connection ID SRC SPORT DST DPORT`: the connection of the fetches that follow.
-pub fn connection_case(state: &mut State, args: &[Vec<u8>]) -> Result<(), CaseFault> {
-    let [conn, src, src_port, dst, dst_port] = args else {
-        return Err(CaseFault::BadArguments);
-    };
-    state.conn = Conn {
-        id: id(conn.as_slice())?,
-        src: address(src.as_slice())?,
-        src_port: port(src_port.as_slice())?,
-        dst: address(dst.as_slice())?,
-        dst_port: port(dst_port.as_slice())?,
-    };
-    Ok(())
-}
 
 /// `fetch FETCH ..`: of each fetch the occurrences, and after `>` the one that an expression takes.
 pub fn fetch_case(

@@ -1,7 +1,6 @@
 //! Calls of hx_http.
 
-use crate::fault::CaseFault;
-use crate::line::{show, show_option, show_pair};
+use hx_cases_base::{CaseFault, show, show_option, show_pair};
 use hx_http::{HeadFault, Message, read_head, read_head_in};
 use hx_text::Octets;
 use std::alloc::Global;

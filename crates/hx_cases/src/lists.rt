@@ -1,8 +1,6 @@
 //! Calls of hx_lists.
 
-use crate::arguments::byte;
-use crate::fault::CaseFault;
-use crate::line::{show, show_pair};
+use hx_cases_base::{CaseFault, byte, show, show_pair};
 use hx_lists::{cookies, hdr_values, params};
 
 /// `hdr_values LINE`

@@ -1,8 +1,6 @@
 //! Calls of hx_outside.
 
-use crate::arguments::{number, numbers, pairs, size};
-use crate::fault::CaseFault;
-use crate::line::{show, show_option};
+use hx_cases_base::{CaseFault, number, numbers, pairs, show, show_option, size};
 use hx_outside::{
     DirFiles, FileFault, Files, LogSource, MemFiles, MemSink, MemSource, ReadFault, Sink,
     SinkFault, Source, StdSink, StdSource, read_to_end, write_all,

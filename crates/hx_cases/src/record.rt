@@ -2,11 +2,8 @@
 
 ghost use Rattle.std.specs.Prelude.{◌≡◌, false};
 
-use crate::arguments::number;
-use crate::fault::CaseFault;
-use crate::line::show;
 use crate::outside::mem_source;
-use crate::text::show_address;
+use hx_cases_base::{CaseFault, number, show, show_address};
 use hx_outside::{LogSource, MemSource};
 use hx_record::{Event, Placed, Reader, RecordFault};
 use std::alloc::Global;

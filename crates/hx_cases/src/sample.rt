@@ -1,42 +1,10 @@
 //! Calls of hx_sample, and of hx_ast's lists.
 
-use crate::arguments::{id, kind, number, occurrence, sample, variable};
-use crate::fault::CaseFault;
-use crate::line::show;
-use crate::text::show_address;
 use hx_ast::Items;
-use hx_sample::{Bytes, Sample, Samples, Vars, cast, lend, own};
-use hx_text::cut_at;
+use hx_cases_base::{CaseFault, kind, number, occurrence, sample, show_all, show_occurrence};
+use hx_sample::{Samples, cast, lend, own};
 use std::alloc::Global;
 use std::fmt::Write;
-
-fn show_bytes(out: &mut String, kind: &str, bytes: &Bytes<'_>) -> Result<(), CaseFault> {
-    out.push_str(kind)?;
-    match bytes {
-        Bytes::Lent(bytes) => {
-            out.push_str(" lent ")?;
-            show(out, bytes)
-        }
-        Bytes::Own(octets) => {
-            out.push_str(" own ")?;
-            show(out, octets.as_slice())
-        }
-    }
-}
-
-/// Writes an occurrence: its kind, whether its bytes are lent, its value, and a bar.
-pub fn show_occurrence(out: &mut String, found: &Option<Sample<'_>>) -> Result<(), CaseFault> {
-    match found {
-        None => out.push_str("none")?,
-        Some(Sample::Bool(b)) => write!(out, "bool {b}")?,
-        Some(Sample::Int(n)) => write!(out, "int {n}")?,
-        Some(Sample::Ip(ip)) => show_address(out, *ip)?,
-        Some(Sample::Str(bytes)) => show_bytes(out, "str", bytes)?,
-        Some(Sample::Bin(bytes)) => show_bytes(out, "bin", bytes)?,
-        Some(Sample::Method(bytes)) => show_bytes(out, "method", bytes)?,
-    }
-    Ok(out.push('|')?)
-}
 
 /// `cast SAMPLE KIND`, of a sample whose bytes are lent
 pub fn cast_case(alloc: Global, out: &mut String, args: &[Vec<u8>]) -> Result<(), CaseFault> {
@@ -105,66 +73,6 @@ pub fn lone_case(alloc: Global, out: &mut String, args: &[Vec<u8>]) -> Result<()
         samples.push(occurrence(text.as_slice())?)?;
     }
     show_all(out, samples, args.len())
-}
-
-/// Takes all of at most that many occurrences, and writes them.
-pub fn show_all(out: &mut String, mut samples: Samples<'_>, most: usize) -> Result<(), CaseFault> {
-    for _ in 0..most {
-        match samples.take() {
-            Some(found) => show_occurrence(out, &found)?,
-            None => return Ok(()),
-        }
-    }
-    match samples.take() {
-        Some(_) => Ok(out.push_str("more")?),
-        None => Ok(()),
-    }
-}
-
-/// `vars OPERATION ..`: what each `get` answers. The operations are `set,CONN,NAME,SAMPLE`,
-/// `get,CONN,NAME`, `unset,CONN,NAME`, `end_request` and `end_session,CONN`.
-pub fn vars_case(
-    alloc: Global,
-    vars: &mut Vars,
-    out: &mut String,
-    args: &[Vec<u8>],
-) -> Result<(), CaseFault> {
-    for text in args {
-        match cut_at(b',', text.as_slice()) {
-            Some((operation, rest)) => vars_step(alloc, vars, out, operation, rest)?,
-            None => vars.end_request(),
-        }
-    }
-    Ok(())
-}
-
-fn vars_step(
-    alloc: Global,
-    vars: &mut Vars,
-    out: &mut String,
-    operation: &[u8],
-    rest: &[u8],
-) -> Result<(), CaseFault> {
-    if operation == b"end_session".as_slice() {
-        vars.end_session(id(rest)?);
-        return Ok(());
-    }
-    let (conn, rest) = cut_at(b',', rest).ok_or(CaseFault::BadArguments)?;
-    let conn = id(conn)?;
-    if operation == b"set".as_slice() {
-        let (name, value) = cut_at(b',', rest).ok_or(CaseFault::BadArguments)?;
-        let value = own(alloc, &sample(value)?)?;
-        return Ok(vars.set(conn, &variable(alloc, name)?, value)?);
-    }
-    let name = variable(alloc, rest)?;
-    if operation == b"unset".as_slice() {
-        vars.unset(conn, &name);
-        return Ok(());
-    }
-    match vars.get(conn, &name) {
-        Some(value) => show_occurrence(out, &Some(lend(value))),
-        None => show_occurrence(out, &None),
-    }
 }
 
 /// `items NUMBER ..`: the list of the numbers: its length, its items, and those at each position

@@ -1,8 +1,8 @@
 //! Calls of hx_text.
 
-use crate::arguments::{address, byte, number, signed, variable};
-use crate::fault::CaseFault;
-use crate::line::{show, show_option};
+use hx_cases_base::{
+    CaseFault, address, byte, number, show, show_address, show_option, signed, variable,
+};
 use hx_text::{
     Ip, Net, Octets, cut_at, map4to6, print_i64, print_ip, read_i64, read_ip, read_net,
     read_number, six_to_four, without_cr,
@@ -42,19 +42,6 @@ pub fn read_number_case(out: &mut String, args: &[Vec<u8>]) -> Result<(), CaseFa
     match read_number(text.as_slice(), number(most.as_slice())?) {
         Some(n) => write!(out, "{n}")?,
         None => out.push_str("none")?,
-    }
-    Ok(())
-}
-
-/// Writes an address: its family, and the number that its bits make, in hex digits.
-pub fn show_address(out: &mut String, ip: Ip) -> Result<(), CaseFault> {
-    match ip {
-        Ip::V4(a) => write!(out, "v4 {a:08x}")?,
-        Ip::V6(a) => {
-            let high = (a >> 64) as u64;
-            let low = (a % 0x1_0000_0000_0000_0000) as u64;
-            write!(out, "v6 {high:016x}{low:016x}")?;
-        }
     }
     Ok(())
 }

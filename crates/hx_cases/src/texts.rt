@@ -1,6 +1,6 @@
 //! The texts of faults, as their `Display` prints them.
 
-use crate::fault::CaseFault;
+use hx_cases_base::CaseFault;
 use hx_http::HeadFault;
 use hx_outside::{Failed, FileFault, ReadFault, SinkFault};
 use hx_record::RecordFault;

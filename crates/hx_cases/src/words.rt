@@ -1,8 +1,6 @@
 //! Calls of hx_words.
 
-use crate::arguments::{byte, pairs};
-use crate::fault::CaseFault;
-use crate::line::show;
+use hx_cases_base::{CaseFault, byte, pairs, show};
 use hx_words::{ArgFault, Call, CallStep, WordFault, calls, next_call, split};
 use std::alloc::Global;
 use std::fmt::Write;
