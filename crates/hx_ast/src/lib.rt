@@ -16,6 +16,7 @@ mod expr;
 mod fetch;
 mod items;
 mod statement;
+mod typing;
 mod val;
 
 pub use conv::Conv;
@@ -23,4 +24,5 @@ pub use expr::{Convs, Expr};
 pub use fetch::Fetch;
 pub use items::Items;
 pub use statement::{AclUse, Action, Cond, Conj, Decl, Heads, Rule, Statement, Term, Texts};
+pub use typing::kind_out;
 pub use val::Val;

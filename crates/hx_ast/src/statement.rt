@@ -14,8 +14,9 @@ pub type Conj = Items<Term>;
 /// The conjunctions of a condition: it holds where one of them does.
 pub type Cond = Items<Conj>;
 
-/// An ACL: a sample and the patterns that it is compared with (HAProxy configuration manual 2.4,
-/// section 7.1).
+/// An ACL: samples, and the patterns that they are compared with (HAProxy configuration manual 2.4,
+/// section 7.1). It has the inline patterns twice: as they are written, and under the last of its
+/// heads.
 #[derive(Debug, Drop)]
 pub struct Decl {
     /// gives the samples
@@ -33,6 +34,8 @@ pub struct Decl {
 /// The ACL of a term.
 #[derive(Debug, Drop)]
 pub enum AclUse {
+    /// the ACL of this name: one that is declared, or else one that is predefined
+    Named(Octets),
     /// one that stands in the condition itself, in braces
     Own(Decl),
 }
@@ -72,6 +75,15 @@ pub struct Rule {
 pub enum Statement {
     /// nothing that changes a rule, as a line without words
     Plain,
+    /// `acl NAME CRITERION [FLAG..] [PATTERN..]`: one of the declarations of the ACL NAME
+    Acl {
+        /// the number of its line in the configuration, counted from 1
+        line: u64,
+        /// NAME
+        name: Octets,
+        /// what it declares
+        decl: Decl,
+    },
     /// `http-request`
     Rule(Rule),
 }

@@ -64,6 +64,7 @@ fn first_acl(statement: &Statement) -> Option<&Decl> {
         return None;
     };
     match &rule.cond.as_ref()?.get(0)?.get(0)?.acl {
+        AclUse::Named(_) => None,
         AclUse::Own(decl) => Some(decl),
     }
 }

@@ -4,6 +4,7 @@ use Rattle.std.specs.Prelude.{◌≡◌, ℕ, ◌<◌, List, [], ◌∷◌, leng
 use Rattle.hx_ast.specs.declared.conv.Conv.{Conv}
 use Rattle.hx_ast.specs.declared.conv.Conv.TheVariants as conv
 use Rattle.hx_ast.specs.declared.expr.Expr.{Expr}
+use Rattle.hx_ast.specs.Types.{kind_out}
 use Rattle.hx_conv_text.specs.Converters.{is_text_conv, text_conv_of}
 use Rattle.hx_conv_val.specs.Converters.{is_value_conv, value_conv_of}
 use Rattle.hx_fetch.specs.Fetches.{chosen_of, occurrences_of}
@@ -16,7 +17,6 @@ use Rattle.hx_sample.specs.declared.sample.Value.{Value}
 use Rattle.hx_sample.specs.declared.sample.Value.TheVariants as value
 use Rattle.hx_text.specs.declared.kinds.By.{By}
 use Rattle.hx_text.specs.declared.kinds.Out.{Out}
-use Rattle.hx_expr.specs.Types.{kind_out}
 
 -- the value of the entry that was found, or without one the default, read as the type of the map's
 -- values; none without a default

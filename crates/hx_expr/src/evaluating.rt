@@ -5,8 +5,8 @@ ghost use Rattle.hx_sample.specs.Seen.{occurrence_value, value_of};
 ghost use Rattle.hx_expr.specs.Values.{HasTableHead, HasTableHeads, IsHeadBy, converted_value, expr_value, expr_values, map_value, mapped_value, value_after};
 
 use crate::plan::{Built, Plan, PlanConv};
-use crate::typing::{kind_by, kind_out};
-use hx_ast::Conv;
+use crate::typing::kind_by;
+use hx_ast::{Conv, kind_out};
 use hx_conv_text::apply as apply_text;
 use hx_conv_val::apply as apply_val;
 use hx_fetch::{World, chosen, occurrences};

@@ -10,6 +10,7 @@ use Rattle.hx_ast.specs.declared.Expr.{Expr}
 use Rattle.hx_ast.specs.declared.Term.{Term}
 use Rattle.hx_ast.specs.declared.Statement.{Statement}
 use Rattle.hx_ast.specs.Convs.{IsConv, IsExpr}
+use Rattle.hx_ast.specs.Acls.{IsAclUse, IsDecl}
 use Rattle.hx_ast.specs.Statements.{EachExpr, IsStatement, OwnExpr, UsesNoMap, is_map}
 use Rattle.hx_spell.specs.declared.fault.SpellFault.{SpellFault}
 use Rattle.hx_spell.specs.declared.fault.SpellFault.TheVariants as spell
@@ -64,6 +65,36 @@ each_spelled P line (word ∷ words) spelled such s =
     subst (λ (t : Statement). EachExpr P t) (sym s.is)
     (each_of_deny P line s.unless (string_decl s.expr s.values) (such s.text s.expr s.written))
 
+is_string_decl : (expr : Expr) (values : List (List ℕ)) → IsExpr expr
+    → IsDecl (string_decl expr values)
+is_string_decl expr values such =
+    record {
+      expr = such;
+      case = λ ignores. refl;
+      heads = λ none. refl;
+      words = λ none. (let never : ⊥ = cc in absurd never);
+    }
+
+is_deny : (line : ℕ) (unless : Bool) (decl : Decl) → IsDecl decl
+    → IsStatement (deny_rule line unless decl)
+is_deny line unless decl such =
+    record {
+      action = tt;
+      cond = All-from_recursion (All (λ (term : Term). IsAclUse term.acl))
+          ((own_term decl ∷ []) ∷ []) (
+            All-from_recursion (λ (term : Term). IsAclUse term.acl) (own_term decl ∷ []) (such, tt),
+            tt,
+          );
+    }
+
+is_statement : (line : ℕ) (words : List (List ℕ)) (spelled : Statement)
+    → Spells line words spelled → IsStatement spelled
+is_statement line [] spelled is = subst IsStatement (sym is) tt
+is_statement line (word ∷ words) spelled s =
+    subst IsStatement (sym s.is)
+    (is_deny line s.unless (string_decl s.expr s.values)
+    (is_string_decl s.expr s.values (is_expr s.text s.expr s.written)))
+
 -- ---- what a call answers where it reads words
 
 pub answer_spelled : (line : ℕ) (words : List (List ℕ)) (answer : Result Statement SpellFault)
@@ -88,7 +119,7 @@ answer_refused line words (Err fault) law is =
 pub answer_allowed : (line : ℕ) (words : List (List ℕ)) (answer : Result Statement SpellFault)
     → AreReadAsSpelled words → AnswersAs answer (statement_of line words) → IfOk answer IsStatement
 answer_allowed line words (Ok spelled) law is =
-    each_spelled IsExpr line words spelled is_expr ((law line spelled).0 is)
+    is_statement line words spelled ((law line spelled).0 is)
 answer_allowed line words (Err fault) law is = tt
 
 pub answer_uses_no_map : (line : ℕ) (words : List (List ℕ)) (answer : Result Statement SpellFault)

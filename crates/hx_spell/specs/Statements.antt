@@ -7,13 +7,10 @@ use Rattle.std.specs.Option.{ok_or}
 use Rattle.std.specs.Str.{bytes_eq}
 use Rattle.hx_base.specs.Bytes.{hyphen}
 use Rattle.hx_text.specs.declared.By.TheVariants as method
-use Rattle.hx_text.specs.declared.Out.{Out}
-use Rattle.hx_text.specs.declared.Out.TheVariants as output
-use Rattle.hx_ast.specs.declared.Fetch.{Fetch}
-use Rattle.hx_ast.specs.declared.Fetch.TheVariants as fetch
-use Rattle.hx_ast.specs.declared.Conv.{Conv}
-use Rattle.hx_ast.specs.declared.Conv.TheVariants as conv
+use Rattle.hx_text.specs.declared.Kind.{Kind}
+use Rattle.hx_text.specs.declared.Kind.TheVariants as kind
 use Rattle.hx_ast.specs.declared.Expr.{Expr}
+use Rattle.hx_ast.specs.Types.{expr_kind}
 use Rattle.hx_ast.specs.declared.Decl.{Decl}
 use Rattle.hx_ast.specs.declared.AclUse.TheVariants.{Own}
 use Rattle.hx_ast.specs.declared.Term.{Term}
@@ -27,49 +24,12 @@ use Rattle.hx_spell.specs.Expressions.{expr_of}
 
 -- ---- which expressions give strings, whatever the request is
 
-abbrev pub is_string_fetch : Fetch → Bool
-is_string_fetch (fetch.Str text) = true
-is_string_fetch fetch.ReqVer = true
-is_string_fetch fetch.Path = true
-is_string_fetch fetch.Query = true
-is_string_fetch fetch.Url = true
-is_string_fetch fetch.Base = true
-is_string_fetch (fetch.ReqHdr name at) = true
-is_string_fetch (fetch.ReqFhdr name at) = true
-is_string_fetch (fetch.ReqCook name) = true
-is_string_fetch (fetch.UrlParam name delim) = true
-is_string_fetch _ = false
-
-abbrev pub is_string_output : Out → Bool
-is_string_output output.Str = true
-is_string_output output.Int = false
-is_string_output output.Ip = false
-
-abbrev pub is_string_conv : Conv → Bool
-is_string_conv conv.Lower = true
-is_string_conv conv.Upper = true
-is_string_conv (conv.Field index delims count) = true
-is_string_conv (conv.Word index delims count) = true
-is_string_conv (conv.Ltrim bytes) = true
-is_string_conv (conv.Rtrim bytes) = true
-is_string_conv conv.CutCrlf = true
-is_string_conv (conv.Concat start variable end) = true
-is_string_conv (conv.Regsub re sub all case) = true
-is_string_conv (conv.UrlDec form) = true
-is_string_conv (conv.Map head by out default) = is_string_output out
-is_string_conv (conv.Iif first second) = true
-is_string_conv conv.Base64 = true
-is_string_conv conv.Ub64enc = true
-is_string_conv conv.Hex = true
-is_string_conv _ = false
-
--- the last of several parts of an expression decides
-abbrev pub string_after : Bool → List Conv → Bool
-string_after before [] = before
-string_after before (conv ∷ convs) = string_after (is_string_conv conv) convs
+abbrev pub is_string : Kind → Bool
+is_string kind.Str = true
+is_string _ = false
 
 abbrev pub gives_string : Expr → Bool
-gives_string expr = string_after (is_string_fetch expr.fetch) expr.convs
+gives_string expr = is_string (expr_kind expr)
 
 -- ---- words
 

@@ -5,79 +5,22 @@ ghost use Rattle.hx_spell.specs.Codes.{AnswersAs};
 ghost use Rattle.hx_spell.specs.Statements.{is_value, words_after_word, values_of, after_method};
 ghost use Rattle.hx_spell.specs.Statements.{patterns_of, decl_of, string_decl, polarity_of, deny_of};
 ghost use Rattle.hx_spell.specs.Statements.{deny_rule, rule_of, statement_of, gives_string};
-ghost use Rattle.hx_spell.specs.Statements.{is_string_fetch, is_string_conv, is_string_output};
 ghost use Rattle.hx_spell.specs.Statements.{own_term};
 
 use crate::expression::expr_of;
 use crate::fault::{SpellFault, UNSUPPORTED};
-use hx_ast::{
-    AclUse, Action, Cond, Conj, Conv, Decl, Expr, Fetch, Items, Rule, Statement, Term, Texts,
-};
-use hx_text::{By, NoMemory, Octets, Out};
+use hx_ast::{AclUse, Action, Cond, Conj, Decl, Expr, Items, Rule, Statement, Term, Texts};
+use hx_text::{By, Kind, NoMemory, Octets};
 use std::alloc::Global;
-
-fn is_string_fetch(fetch: &Fetch) -> bool
-    ensures { result ≡ is_string_fetch fetch.now }
-{
-    match fetch {
-        Fetch::Str(_) => true,
-        Fetch::ReqVer => true,
-        Fetch::Path => true,
-        Fetch::Query => true,
-        Fetch::Url => true,
-        Fetch::Base => true,
-        Fetch::ReqHdr(_, _) => true,
-        Fetch::ReqFhdr(_, _) => true,
-        Fetch::ReqCook(_) => true,
-        Fetch::UrlParam(_, _) => true,
-        _ => false,
-    }
-}
-
-fn is_string_output(out: Out) -> bool
-    ensures { result ≡ is_string_output out }
-{
-    match out {
-        Out::Str => true,
-        Out::Int => false,
-        Out::Ip => false,
-    }
-}
-
-fn is_string_conv(conv: &Conv) -> bool
-    ensures { result ≡ is_string_conv conv.now }
-{
-    match conv {
-        Conv::Lower => true,
-        Conv::Upper => true,
-        Conv::Field(_, _, _) => true,
-        Conv::Word(_, _, _) => true,
-        Conv::Ltrim(_) => true,
-        Conv::Rtrim(_) => true,
-        Conv::CutCrlf => true,
-        Conv::Concat(_, _, _) => true,
-        Conv::Regsub(_, _, _, _) => true,
-        Conv::UrlDec(_) => true,
-        Conv::Map(_, _, out, _) => is_string_output(*out),
-        Conv::Iif(_, _) => true,
-        Conv::Base64 => true,
-        Conv::Ub64enc => true,
-        Conv::Hex => true,
-        _ => false,
-    }
-}
 
 /// Whether the expression gives strings, whatever the request is.
 fn gives_string(expr: &Expr) -> bool
     ensures { result ≡ gives_string expr.now }
 {
-    let mut string = is_string_fetch(&expr.fetch);
-    let mut convs = expr.convs.as_slice();
-    while let [conv, rest @ ..] = convs {
-        string = is_string_conv(conv);
-        convs = rest;
+    match expr.kind() {
+        Kind::Str => true,
+        _ => false,
     }
-    string
 }
 
 /// The words after the first, where that is `word`.

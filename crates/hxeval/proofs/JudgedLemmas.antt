@@ -7,7 +7,7 @@ use Rattle.hx_words.specs.Variable.{Env}
 use Rattle.hx_words.specs.Words.{words_of}
 use Rattle.hx_ast.specs.Statements.{EachExprOfCond, OwnExpr, UsesNoMap}
 use Rattle.hx_ast.specs.declared.AclUse.{AclUse}
-use Rattle.hx_ast.specs.declared.AclUse.TheVariants.{Own}
+use Rattle.hx_ast.specs.declared.AclUse.TheVariants.{Named, Own}
 use Rattle.hx_ast.specs.declared.Decl.{Decl}
 use Rattle.hx_ast.specs.declared.Statement.{Statement}
 use Rattle.hx_ast.specs.declared.Statement.TheVariants as statement
@@ -16,7 +16,7 @@ use Rattle.hx_spell.specs.Spelling.{Spells}
 use Rattle.hx_spell.specs.Statements.{deny_rule, string_decl}
 use Rattle.hx_expr.specs.Expressions.{expression_texts}
 use Rattle.hx_expr.specs.Types.{is_typed}
-use Rattle.hxeval.specs.Configuration.{GivesRule, GiveRules, acl_of, line_rule, lines_of, only_decl}
+use Rattle.hxeval.specs.Configuration.{GivesRule, GiveRules, own_decl, line_rule, lines_of, only_decl}
 use Rattle.hxeval.specs.Judged.{Judges, LineJudges}
 use Rattle.hxeval.specs.Loading.{GaveRules, StatementJudges}
 use Rattle.hxeval.specs.Rules.{Rule}
@@ -73,6 +73,7 @@ gave_rule env config count rules left line after rule g is says = record {
 -- the one ACL of a statement's condition
 abbrev only_decl_of : Statement → Option Decl
 only_decl_of statement.Plain = None
+only_decl_of (statement.Acl line name decl) = None
 only_decl_of (statement.Rule rule) = only_decl rule.cond
 
 -- a text of the statement is one of the line
@@ -118,7 +119,8 @@ last_of_config env config count rules left line after (Some text) g is j = judge
 
 -- ---- a rule's condition looks nothing up
 
-own_uses_no_map : (acl : AclUse) (decl : Decl) → OwnExpr UsesNoMap acl → Some decl ≡ Some (acl_of acl) → UsesNoMap decl.expr
+own_uses_no_map : (acl : AclUse) (decl : Decl) → OwnExpr UsesNoMap acl → Some decl ≡ own_decl acl → UsesNoMap decl.expr
+own_uses_no_map (Named name) decl uses is = absurd (none-some decl (sym is))
 own_uses_no_map (Own own) decl uses is = subst (λ (d : Decl). UsesNoMap d.expr) (sym (same_Some decl own is)) uses
 
 pub only_uses_no_map : (cond : Option (List (List Term))) (decl : Decl) → IfSome cond (EachExprOfCond UsesNoMap) → Some decl ≡ only_decl cond → UsesNoMap decl.expr

@@ -9,7 +9,7 @@ use Rattle.hx_words.specs.Variable.{Env}
 use Rattle.hx_words.specs.Words.{words_of}
 use Rattle.hx_words.specs.declared.WordFault.{WordFault}
 use Rattle.hx_ast.specs.declared.AclUse.{AclUse}
-use Rattle.hx_ast.specs.declared.AclUse.TheVariants.{Own}
+use Rattle.hx_ast.specs.declared.AclUse.TheVariants.{Named, Own}
 use Rattle.hx_ast.specs.declared.Decl.{Decl}
 use Rattle.hx_ast.specs.declared.Statement.{Statement}
 use Rattle.hx_ast.specs.declared.Statement.TheVariants as statement
@@ -134,11 +134,12 @@ Loads env config found = LoadsLines env 1 (lines_of config) found
 -- ---- the same as a function, for proofs; `laws::loading` says that it is the relation
 
 -- the ACL of a condition that is one ACL
-abbrev pub acl_of : AclUse → Decl
-acl_of (Own decl) = decl
+abbrev pub own_decl : AclUse → Option Decl
+own_decl (Named name) = None
+own_decl (Own decl) = Some decl
 
 abbrev pub only_decl : Option (List (List Term)) → Option Decl
-only_decl (Some ((term ∷ []) ∷ [])) = Some (acl_of term.acl)
+only_decl (Some ((term ∷ []) ∷ [])) = own_decl term.acl
 only_decl _ = None
 
 -- the rule of an ACL, or the code of what is wrong with its expression; types come first
@@ -164,6 +165,7 @@ some_rule (Err code) = Err code
 -- the rule of a statement, if it is one
 abbrev pub rule_of_statement : Statement → Result (Option Rule) ℕ
 rule_of_statement statement.Plain = Ok None
+rule_of_statement (statement.Acl line name decl) = Err unsupported_code
 rule_of_statement (statement.Rule rule) =
     some_rule (rule_or_unsupported rule.unless (only_decl rule.cond))
 

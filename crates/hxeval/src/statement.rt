@@ -30,12 +30,13 @@ pub(crate) fn rule_of<M: ReMaker>(
         → (M.too_large maker.new ≡ M.too_large maker.old)
         × (M.large maker.new ≡ M.large maker.old) }
 {
-    let Statement::Rule(rule) = statement else {
-        return Ok(None);
-    };
-    match only_decl(&rule.cond) {
-        Some(decl) => Ok(Some(rule_of_decl(alloc, rule.unless, decl, maker)?)),
-        None => Err(LineFault::Refused(UNSUPPORTED)),
+    match statement {
+        Statement::Plain => Ok(None),
+        Statement::Acl { .. } => Err(LineFault::Refused(UNSUPPORTED)),
+        Statement::Rule(rule) => match only_decl(&rule.cond) {
+            Some(decl) => Ok(Some(rule_of_decl(alloc, rule.unless, decl, maker)?)),
+            None => Err(LineFault::Refused(UNSUPPORTED)),
+        },
     }
 }
 
@@ -52,8 +53,10 @@ fn only_decl(cond: &Option<Cond>) -> Option<&Decl>
     let [term] = conj.as_slice() else {
         return None;
     };
-    let AclUse::Own(decl) = &term.acl;
-    Some(decl)
+    match &term.acl {
+        AclUse::Named(_) => None,
+        AclUse::Own(decl) => Some(decl),
+    }
 }
 
 /// The rule that denies by this ACL. Types are judged first, and then regular expressions.

@@ -1,9 +1,9 @@
 use Rattle.std.proofs.Common.{◌≡◌, length}
-use Rattle.hx_spell.specs.Statements.{gives_string, string_after}
-use Rattle.hx_spell.proofs.statement.gives_string.Given as goal
+use Rattle.hx_ast.specs.Types.{expr_kind, kind_after}
+use Rattle.hx_ast.proofs.expr.Expr.kind.Given as goal
 
 abbrev pub invariant-loop-convs : goal.invariant-loop-convs
-invariant-loop-convs l = string_after l.string l.convs ≡ gives_string l.expr
+invariant-loop-convs l = kind_after l.kind l.convs ≡ expr_kind l.self
 
 abbrev pub decreases-loop-convs : goal.decreases-loop-convs
 decreases-loop-convs l = length l.convs
