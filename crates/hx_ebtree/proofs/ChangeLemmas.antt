@@ -8,7 +8,7 @@ use Rattle.hx_ebtree.specs.declared.node.Down.{Down}
 use Rattle.hx_ebtree.specs.declared.node.Down.TheVariants.{Leaf, Branch}
 use Rattle.hx_ebtree.specs.declared.node.Up.{Up}
 use Rattle.hx_ebtree.specs.Shape.{Shape, leaf, fork, numbers, holders, Leaves, Forks, LeafPart, links_in, key_in, left_of, right_of, HangsAt}
-use Rattle.hx_ebtree.specs.Context.{Context, root, on_left, on_right, hole_up, SurroundsAt}
+use Rattle.hx_ebtree.specs.ShapeContext.{ShapeContext, root, on_left, on_right, hole_up, SurroundsAt}
 use Rattle.hx_ebtree.specs.Change.{SetsUp, SetsDown}
 use Rattle.hx_ebtree.proofs.ShapeLemmas.{hangs_frame, surrounds_frame, holders_around}
 
@@ -22,7 +22,7 @@ down_branch f g up (leaf key id more) down k at e = let p = at.points in cc
 down_branch f g up (fork h sh l r) down k at e = let p = at.2.points in let same : k ≡ h = cc in inl same
 
 -- what the hole hangs at is around it
-pub hole_in : (c : Context) (u : Up) (k : ℕ) → hole_up c ≡ Some u → u.node ≡ k → IsIn k (holders_around c)
+pub hole_in : (c : ShapeContext) (u : Up) (k : ℕ) → hole_up c ≡ Some u → u.node ≡ k → IsIn k (holders_around c)
 hole_in root u k e n = cc
 hole_in (on_left c h sh r) u k e n = let same : u ≡ record { node = h; right = false } = cc in inl (sym n ∙ ap (λ (v : Up). v.node) same)
 hole_in (on_right c h sh l) u k e n = let same : u ≡ record { node = h; right = true } = cc in inl (sym n ∙ ap (λ (v : Up). v.node) same)
@@ -64,7 +64,7 @@ module _ (f : Leaves) (g : Forks) (f' : Leaves) (g' : Forks) (down : Down) (up' 
 
 module _ (f : Leaves) (g : Forks) (at : Option Down) (f' : Leaves) (g' : Forks) (at' : Option Down) where
   -- the hole's side points to something else
-  pub surrounds_down : (c : Context) (down down' : Down) → SetsDown f g at f' g' at' (hole_up c) down' → AreDistinct (holders_around c) → SurroundsAt f g at c down → SurroundsAt f' g' at' c down'
+  pub surrounds_down : (c : ShapeContext) (down down' : Down) → SetsDown f g at f' g' at' (hole_up c) down' → AreDistinct (holders_around c) → SurroundsAt f g at c down → SurroundsAt f' g' at' c down'
   surrounds_down root down down' set d p = set.top refl
   surrounds_down (on_left c h sh r) down down' set d p =
       let others : (k : ℕ) → IsIn k (holders r ++ holders_around c) → g' k ≡ g k = λ k there. set.forks k (λ u e n. let same : u ≡ record { node = h; right = false } = cc in d.0 (in_same (holders r ++ holders_around c) h k (sym n ∙ ap (λ (v : Up). v.node) same) there)) in (

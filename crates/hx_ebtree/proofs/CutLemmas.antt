@@ -7,9 +7,9 @@ use Rattle.hx_pool.proofs.ChainLemmas.{in_left, in_right, in_either, in_same, di
 use Rattle.hx_ebtree.specs.declared.node.Down.{Down}
 use Rattle.hx_ebtree.specs.declared.node.Down.TheVariants.{Branch}
 use Rattle.hx_ebtree.specs.declared.node.Up.{Up}
-use Rattle.hx_ebtree.specs.Pairs.{Pairs, numbers_of, without}
+use Rattle.hx_ebtree.specs.KeyList.{KeyList, numbers_of, without}
 use Rattle.hx_ebtree.specs.Shape.{Shape, leaf, fork, pairs_of, numbers, fronts, holders, all_of, none_of, nothing_of, only_of, IsKeyed, IsAbove, IsSound, Leaves, Forks, HangsAt, with_key}
-use Rattle.hx_ebtree.specs.Context.{Context, plug, hole_up, hole_shared, SurroundsAt}
+use Rattle.hx_ebtree.specs.ShapeContext.{ShapeContext, plug, hole_up, hole_shared, SurroundsAt}
 use Rattle.hx_ebtree.specs.Tree.{IsIdle}
 use Rattle.hx_ebtree.specs.Remove.{Cuts, IsDetached}
 use Rattle.hx_ebtree.proofs.ShapeLemmas.{AreParted, plug_parted, plug_distinct, plug_in, plug_either, hangs_frame, surrounds_frame, numbers_around, holders_around, plug_close}
@@ -92,7 +92,7 @@ other_left m sh key id l dn dh above =
     }
 
 module _ (f : Leaves) (g : Forks) (at_root : Option Down) (f' : Leaves) (g' : Forks) (root' : Option Down)
-    (c : Context) (s t : Shape) (id m : ℕ) (up : Option Up) (other : Down) (pairs : Pairs)
+    (c : ShapeContext) (s t : Shape) (id m : ℕ) (up : Option Up) (other : Down) (pairs : KeyList)
     (side : IsOther s t id m) (sound : IsSound (plug c s)) (idle : IsIdle g (Some (plug c s)))
     (same : (k : List Bool) → numbers_of k pairs ≡ numbers_of k (pairs_of (plug c s)))
     (cut : Cuts f g at_root f' g' root' m (hole_up c) other)

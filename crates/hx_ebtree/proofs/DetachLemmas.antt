@@ -10,9 +10,9 @@ use Rattle.hx_ebtree.specs.declared.node.Down.TheVariants.{Leaf, Branch}
 use Rattle.hx_ebtree.specs.declared.node.Up.{Up}
 use Rattle.hx_ebtree.specs.declared.node.Branch.{Branch as Fork}
 use Rattle.hx_ebtree.specs.declared.node.Node.{Node}
-use Rattle.hx_ebtree.specs.Pairs.{Pairs, numbers_of, ids_of, Lists, IsOff, without}
+use Rattle.hx_ebtree.specs.KeyList.{KeyList, numbers_of, ids_of, Lists, IsOff, without}
 use Rattle.hx_ebtree.specs.Shape.{Shape, leaf, fork, pairs_of, numbers, holders, all_of, none_of, nothing_of, only_of, IsSound, LeafPart, Leaves, Forks, links_in, key_in, left_of, right_of, HangsAt, IsLeafAt}
-use Rattle.hx_ebtree.specs.Context.{Context, root, on_left, on_right, plug, hole_up, SurroundsAt}
+use Rattle.hx_ebtree.specs.ShapeContext.{ShapeContext, root, on_left, on_right, plug, hole_up, SurroundsAt}
 use Rattle.hx_ebtree.specs.Change.{node_of, up_in}
 use Rattle.hx_ebtree.specs.Tree.{leaf_part, leaves_of, forks_of, IsIdle, StandsAs}
 use Rattle.hx_ebtree.specs.Remove.{other_of, Unchains, MakesFirst, Cuts, IsFirst, IsGap, IsWithout}
@@ -25,8 +25,8 @@ use Rattle.hx_ebtree.proofs.CutLemmas.{IsOther, other_left, other_right, detache
 use Rattle.hx_ebtree.proofs.MoveLemmas.{down_has, around_has, down_number}
 
 -- the branch at which a leaf that is alone hangs
-pub record CutPlace (f : Leaves) (g : Forks) (at_root : Option Down) (id : ℕ) (place : Up) (part : Fork) (pairs : Pairs) : Type 0 where
-  pub context : Context
+pub record CutPlace (f : Leaves) (g : Forks) (at_root : Option Down) (id : ℕ) (place : Up) (part : Fork) (pairs : KeyList) : Type 0 where
+  pub context : ShapeContext
   pub branch : Shape
   pub other : Shape
   pub up : Option Up
@@ -38,10 +38,10 @@ pub record CutPlace (f : Leaves) (g : Forks) (at_root : Option Down) (id : ℕ) 
   pub around : SurroundsAt f g at_root context (Branch place.node)
   pub hangs : HangsAt f g up other (other_of place.right part)
 
-pub cut_place : (f : Leaves) (g : Forks) (at_root : Option Down) (id : ℕ) (place : Up) (part : Fork) (pairs : Pairs) → IsGap f g at_root id (Some place) pairs → g place.node ≡ Some part → CutPlace f g at_root id place part pairs
+pub cut_place : (f : Leaves) (g : Forks) (at_root : Option Down) (id : ℕ) (place : Up) (part : Fork) (pairs : KeyList) → IsGap f g at_root id (Some place) pairs → g place.node ≡ Some part → CutPlace f g at_root id place part pairs
 cut_place f g at_root id place part pairs gap has = by gap.context gap.key gap.up_is gap.around gap.sound gap.idle gap.same
   where
-    by : (c : Context) (key : List Bool) → Some place ≡ hole_up c → SurroundsAt f g at_root c (Leaf id) → IsSound (plug c (leaf key id [])) → IsIdle g (Some (plug c (leaf key id [])))
+    by : (c : ShapeContext) (key : List Bool) → Some place ≡ hole_up c → SurroundsAt f g at_root c (Leaf id) → IsSound (plug c (leaf key id [])) → IsIdle g (Some (plug c (leaf key id [])))
         → ((k : List Bool) → numbers_of k pairs ≡ numbers_of k (pairs_of (plug c (leaf key id [])))) → CutPlace f g at_root id place part pairs
     by root key e a sound idle same = cc
     by (on_left c m sh r) key e a sound idle same =
@@ -81,13 +81,13 @@ cut_place f g at_root id place part pairs gap has = by gap.context gap.key gap.u
           hangs = subst (HangsAt f g (left_of m) l) (sym (ap (λ (b : Fork). b.left) part_is)) a.2;
         })
 
-pub gap_at : (f : Leaves) (g : Forks) (at_root : Option Down) (id : ℕ) (up now : Option Up) (pairs : Pairs) → up ≡ now → IsGap f g at_root id up pairs → IsGap f g at_root id now pairs
+pub gap_at : (f : Leaves) (g : Forks) (at_root : Option Down) (id : ℕ) (up now : Option Up) (pairs : KeyList) → up ≡ now → IsGap f g at_root id up pairs → IsGap f g at_root id now pairs
 gap_at f g at_root id up now pairs e gap = subst (λ w. IsGap f g at_root id w pairs) e gap
 
 pub cuts_at : (f : Leaves) (g : Forks) (at_root : Option Down) (f' : Leaves) (g' : Forks) (root' : Option Down) (m : ℕ) (up : Option Up) (other now : Down) → other ≡ now → Cuts f g at_root f' g' root' m up other → Cuts f g at_root f' g' root' m up now
 cuts_at f g at_root f' g' root' m up other now e cut = subst (Cuts f g at_root f' g' root' m up) e cut
 
-module _ (f : Leaves) (g : Forks) (at_root : Option Down) (id : ℕ) (place : Up) (pairs : Pairs) (gap : IsGap f g at_root id (Some place) pairs) where
+module _ (f : Leaves) (g : Forks) (at_root : Option Down) (id : ℕ) (place : Up) (pairs : KeyList) (gap : IsGap f g at_root id (Some place) pairs) where
   pub gap_has : (b : Fork) × (g place.node ≡ Some b)
   gap_has = around_has f g at_root gap.context (Leaf id) place gap.around (sym gap.up_is)
 
@@ -122,25 +122,25 @@ module _ (f : Leaves) (g : Forks) (at_root : Option Down) (id : ℕ) (place : Up
     )
 
 -- the only leaf goes
-pub alone_without : (f : Leaves) (g : Forks) (at_root : Option Down) (id : ℕ) (pairs : Pairs) → IsGap f g at_root id None pairs → (shape : Option Shape) × IsWithout f g None id id shape (without id pairs)
+pub alone_without : (f : Leaves) (g : Forks) (at_root : Option Down) (id : ℕ) (pairs : KeyList) → IsGap f g at_root id None pairs → (shape : Option Shape) × IsWithout f g None id id shape (without id pairs)
 alone_without f g at_root id pairs gap = by gap.context gap.key gap.up_is gap.idle gap.same
   where
-    by : (c : Context) (key : List Bool) → None ≡ hole_up c → IsIdle g (Some (plug c (leaf key id [])))
+    by : (c : ShapeContext) (key : List Bool) → None ≡ hole_up c → IsIdle g (Some (plug c (leaf key id [])))
         → ((k : List Bool) → numbers_of k pairs ≡ numbers_of k (pairs_of (plug c (leaf key id [])))) → (shape : Option Shape) × IsWithout f g None id id shape (without id pairs)
     by root key e idle same = (None, (refl, idle id (inl refl) (λ p. p), λ k. numbers_without k id pairs ∙ ap (without_number id) (same k) ∙ sym (less_leaf k key id [] (λ p. p))))
     by (on_left c m sh r) key e idle same = cc
     by (on_right c m sh l) key e idle same = cc
 
 -- the leaf of the first node of a key
-pub record FirstPlace (f : Leaves) (g : Forks) (at_root : Option Down) (id : ℕ) (pairs : Pairs) : Type 0 where
-  pub context : Context
+pub record FirstPlace (f : Leaves) (g : Forks) (at_root : Option Down) (id : ℕ) (pairs : KeyList) : Type 0 where
+  pub context : ShapeContext
   pub key : List Bool
   pub more : List ℕ
   pub stands : StandsAs f g at_root (Some (plug context (leaf key id more))) pairs
   pub around : SurroundsAt f g at_root context (Leaf id)
   pub inside : IsLeafAt f (hole_up context) key id more (Leaf id)
 
-pub first_place : (f : Leaves) (g : Forks) (at_root : Option Down) (id : ℕ) (pairs : Pairs) → IsFirst f g at_root id pairs → FirstPlace f g at_root id pairs
+pub first_place : (f : Leaves) (g : Forks) (at_root : Option Down) (id : ℕ) (pairs : KeyList) → IsFirst f g at_root id pairs → FirstPlace f g at_root id pairs
 first_place f g at_root id pairs first =
     let p = leaf_place root first.whole id first.first in
     let stands : StandsAs f g at_root (Some (plug p.context (leaf p.key id p.more))) pairs = subst (λ w. StandsAs f g at_root (Some w) pairs) p.is first.stands in
@@ -163,7 +163,7 @@ pub first_none : (xs : List ℕ) → None ≡ first_or xs None → xs ≡ []
 first_none [] e = refl
 first_none (x ∷ xs) e = cc
 
-module _ (f : Leaves) (g : Forks) (at_root : Option Down) (id : ℕ) (pairs : Pairs) (first : IsFirst f g at_root id pairs) where
+module _ (f : Leaves) (g : Forks) (at_root : Option Down) (id : ℕ) (pairs : KeyList) (first : IsFirst f g at_root id pairs) where
   abbrev found : FirstPlace f g at_root id pairs
   found = first_place f g at_root id pairs first
 

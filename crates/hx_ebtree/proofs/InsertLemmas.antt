@@ -9,9 +9,9 @@ use Rattle.hx_ebtree.specs.declared.node.Down.{Down}
 use Rattle.hx_ebtree.specs.declared.node.Down.TheVariants.{Leaf, Branch}
 use Rattle.hx_ebtree.specs.declared.node.Up.{Up}
 use Rattle.hx_ebtree.specs.Bits.{code_of, IsPrefix}
-use Rattle.hx_ebtree.specs.Pairs.{numbers_of, is_same_key}
+use Rattle.hx_ebtree.specs.KeyList.{numbers_of, is_same_key}
 use Rattle.hx_ebtree.specs.Shape.{Shape, leaf, fork, pairs_of, numbers, fronts, holders, all_of, none_of, nothing_of, only_of, IsKeyed, IsAbove, IsSound, LeafPart, Leaves, Forks, key_in, IsLeafAt, HangsAt}
-use Rattle.hx_ebtree.specs.Context.{Context, plug, hole_up, hole_shared, SurroundsAt}
+use Rattle.hx_ebtree.specs.ShapeContext.{ShapeContext, plug, hole_up, hole_shared, SurroundsAt}
 use Rattle.hx_ebtree.specs.Change.{SetsDown, PutsFork, fork_of}
 use Rattle.hx_ebtree.proofs.ShapeLemmas.{AreParted, plug_parted, plug_distinct, plug_in, leaf_frame, hangs_frame, surrounds_frame, numbers_around, holders_around, Holds}
 use Rattle.hx_ebtree.proofs.ChangeLemmas.{down_leaf, down_branch, hole_in, rehang, surrounds_down}
@@ -26,7 +26,7 @@ grown false id shared key s = fork id shared (leaf key id []) s
 grown true id shared key s = fork id shared s (leaf key id [])
 
 module _ (f : Leaves) (g : Forks) (at_root : Option Down) (f' : Leaves) (g' : Forks) (root' : Option Down)
-    (c : Context) (s : Shape) (id : ℕ) (at : Down) (up : Option Up) (key shared : List Bool) (right : Bool)
+    (c : ShapeContext) (s : Shape) (id : ℕ) (at : Down) (up : Option Up) (key shared : List Bool) (right : Bool)
     (change : PutsFork f g at_root f' g' root' id at up (length shared) right) (up_is : up ≡ hole_up c)
     (around : SurroundsAt f g at_root c at) (inside : HangsAt f g (hole_up c) s at)
     (above : IsAbove (plug c s)) (ds : AreDistinct (numbers (plug c s))) (dh : AreDistinct (holders (plug c s)))
@@ -139,7 +139,7 @@ one_off id xs d off = (off, d)
 one_after : (id : ℕ) (xs : List ℕ) → AreDistinct xs → (IsIn id xs → ⊥) → AreDistinct (xs ++ id ∷ [])
 one_after id xs d off = distinct_join xs (id ∷ []) d ((λ p. p), tt) (λ k p q. elim q as (λ _. ⊥) [ inl e ↦ off (in_same xs id k e p) | inr n ↦ n ])
 
-module _ (c : Context) (s : Shape) (id : ℕ) (key shared : List Bool)
+module _ (c : ShapeContext) (s : Shape) (id : ℕ) (key shared : List Bool)
     (sound : IsSound (plug c s)) (fresh : IsIn id (numbers (plug c s)) → ⊥)
     (under : IsPrefix (hole_shared c) shared) where
   numbers_parted : AreParted (numbers s) (numbers_around c)

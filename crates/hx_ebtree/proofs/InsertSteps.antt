@@ -9,9 +9,9 @@ use Rattle.hx_ebtree.specs.declared.node.Up.{Up}
 use Rattle.hx_ebtree.specs.declared.node.Node.{Node}
 use Rattle.hx_ebtree.specs.Node.{key_of}
 use Rattle.hx_ebtree.specs.Bits.{bits_of}
-use Rattle.hx_ebtree.specs.Pairs.{Pairs, IsOff}
+use Rattle.hx_ebtree.specs.KeyList.{KeyList, IsOff}
 use Rattle.hx_ebtree.specs.Shape.{Shape, leaf, fork, holders, all_of, none_of, nothing_of, only_of, LeafPart, Leaves, Forks, links_in, HangsAt}
-use Rattle.hx_ebtree.specs.Context.{Context, root, on_left, on_right, plug, hole_up, SurroundsAt}
+use Rattle.hx_ebtree.specs.ShapeContext.{ShapeContext, root, on_left, on_right, plug, hole_up, SurroundsAt}
 use Rattle.hx_ebtree.specs.Change.{node_of, PutsLeaf, Pushes, PutsFork}
 use Rattle.hx_ebtree.specs.Tree.{leaf_part, leaves_of, forks_of, StandsAs}
 use Rattle.hx_ebtree.specs.Seat.{IsSame, IsBeside}
@@ -22,13 +22,13 @@ use Rattle.hx_ebtree.proofs.SeekLemmas.{bits_seen, key_live, fork_live}
 use Rattle.hx_ebtree.proofs.StandLemmas.{number_listed, stands_beside, stands_alone, stands_same}
 
 -- what a place of the tree names is none of the numbers that aren't listed
-module _ (f : Leaves) (g : Forks) (at_root : Option Down) (pairs : Pairs) (key : List Bool) (k : ℕ) (off : IsOff k pairs) where
+module _ (f : Leaves) (g : Forks) (at_root : Option Down) (pairs : KeyList) (key : List Bool) (k : ℕ) (off : IsOff k pairs) where
   pub off_chain : (front : ℕ) (r : IsSame f g at_root pairs key front) → IsIn k (front ∷ r.more) → ⊥
   off_chain front r p =
       let s = leaf key front r.more in
       off (number_listed f g at_root (plug r.context s) pairs r.hole.stands k (plug_in all_of nothing_of r.context s k (inl p)))
 
-  off_held : (c : Context) (s : Shape) → StandsAs f g at_root (Some (plug c s)) pairs → IsIn k (holders (plug c s)) → ⊥
+  off_held : (c : ShapeContext) (s : Shape) → StandsAs f g at_root (Some (plug c s)) pairs → IsIn k (holders (plug c s)) → ⊥
   off_held c s whole p = off (number_listed f g at_root (plug c s) pairs whole k (holder_number (plug c s) k whole.sound.above p))
 
   module _ (at : Down) (up : Option Up) (bit : ℕ) (right : Bool) (r : IsBeside f g at_root pairs key at up bit right) where
@@ -56,7 +56,7 @@ module _ {V : Type 0} where
   hung_live p up (leaf key id more) down at = subst (λ d. IsLive p (node_of d)) (sym at.points) (leaf_live p id at.part at.here)
   hung_live p up (fork h sh l r) down at = subst (λ d. IsLive p (node_of d)) (sym at.2.points) (fork_live p h _ at.2.here)
 
-  above_live : (p : Pool (Node V)) (at_root : Option Down) (c : Context) (down : Down) → SurroundsAt (leaves_of p) (forks_of p) at_root c down → (u : Up) → hole_up c ≡ Some u → IsLive p u.node
+  above_live : (p : Pool (Node V)) (at_root : Option Down) (c : ShapeContext) (down : Down) → SurroundsAt (leaves_of p) (forks_of p) at_root c down → (u : Up) → hole_up c ≡ Some u → IsLive p u.node
   above_live p at_root root down a u e = cc
   above_live p at_root (on_left c h sh r) down a u e =
       let same : record { node = h; right = false } ≡ u = cc in
@@ -65,7 +65,7 @@ module _ {V : Type 0} where
       let same : record { node = h; right = true } ≡ u = cc in
       subst (λ (w : Up). IsLive p w.node) same (fork_live p h _ a.1.here)
 
-  module _ (p : Pool (Node V)) (at_root : Option Down) (pairs : Pairs) (key : List Bool) where
+  module _ (p : Pool (Node V)) (at_root : Option Down) (pairs : KeyList) (key : List Bool) where
     pub same_lies : (id : ℕ) → IsOff id pairs → (front : ℕ) → IsSame (leaves_of p) (forks_of p) at_root pairs key front
         → (part : LeafPart) × (more : List ℕ) × (leaves_of p front ≡ Some part) × LiesAt (links_in (leaves_of p)) part.chain (front ∷ more) × (IsIn id (front ∷ more) → ⊥)
     same_lies id off front r =
@@ -84,7 +84,7 @@ module _ {V : Type 0} where
   sought p id n node bytes len at is e f =
       bits_seen bytes len n.key e f ∙ ap (λ (m : Node V). m.key) (some_same n node (sym at ∙ is))
 
-  module _ (p q : Pool (Node V)) (at_root root' : Option Down) (pairs : Pairs) (id : ℕ) (node : Node V) (is : get p id ≡ Some node) (key : List Bool) (key_is : key ≡ key_of node) (off : IsOff id pairs) where
+  module _ (p q : Pool (Node V)) (at_root root' : Option Down) (pairs : KeyList) (id : ℕ) (node : Node V) (is : get p id ≡ Some node) (key : List Bool) (key_is : key ≡ key_of node) (off : IsOff id pairs) where
     here : leaves_of p id ≡ Some (leaf_part node)
     here = ap (option_map leaf_part) is
 

@@ -4,9 +4,9 @@ use Rattle.std.proofs.lemmas.List.{append-nil}
 use Rattle.hx_pool.specs.Chain.{IsIn}
 use Rattle.hx_pool.proofs.ChainLemmas.{in_left, in_right, in_either}
 use Rattle.hx_ebtree.specs.Bits.{code_of, IsPrefix}
-use Rattle.hx_ebtree.specs.Pairs.{numbers_of, ids_of}
+use Rattle.hx_ebtree.specs.KeyList.{numbers_of, ids_of}
 use Rattle.hx_ebtree.specs.Shape.{Shape, leaf, fork, pairs_of, numbers, fronts, IsKeyed, with_key}
-use Rattle.hx_ebtree.specs.Context.{Context, root, on_left, on_right, plug, hole_shared}
+use Rattle.hx_ebtree.specs.ShapeContext.{ShapeContext, root, on_left, on_right, plug, hole_shared}
 use Rattle.hx_ebtree.proofs.CodeLemmas.{prefix_on, prefix_under, prefix_clash}
 use Rattle.hx_ebtree.proofs.PairLemmas.{key_cases, numbers_append, numbers_other, ids_with, ids_append}
 
@@ -14,12 +14,12 @@ pub keyed_weaker : (p q : List Bool) (s : Shape) → IsPrefix p q → IsKeyed q 
 keyed_weaker p q (leaf key id more) pq k = prefix_on p q (code_of key) pq k
 keyed_weaker p q (fork h sh l r) pq k = (prefix_on p q sh pq k.0, k.1, k.2)
 
-pub keyed_hole : (c : Context) (s : Shape) → IsKeyed [] (plug c s) → IsKeyed (hole_shared c) s
+pub keyed_hole : (c : ShapeContext) (s : Shape) → IsKeyed [] (plug c s) → IsKeyed (hole_shared c) s
 keyed_hole root s k = k
 keyed_hole (on_left c h sh r) s k = (keyed_hole c (fork h sh s r) k).1
 keyed_hole (on_right c h sh l) s k = (keyed_hole c (fork h sh l s) k).2
 
-pub keyed_replace : (c : Context) (s t : Shape) → IsKeyed [] (plug c s) → IsKeyed (hole_shared c) t → IsKeyed [] (plug c t)
+pub keyed_replace : (c : ShapeContext) (s t : Shape) → IsKeyed [] (plug c s) → IsKeyed (hole_shared c) t → IsKeyed [] (plug c t)
 keyed_replace root s t k n = n
 keyed_replace (on_left c h sh r) s t k n =
     let old = keyed_hole c (fork h sh s r) k in keyed_replace c (fork h sh s r) (fork h sh t r) k (old.0, n, old.2)
@@ -37,7 +37,7 @@ none_below p (fork h sh l r) key k off =
     ∙ ap (λ xs. xs ++ numbers_of key (pairs_of r)) (none_below (sh ++ false ∷ []) l key k.1 (λ q. off (prefix_on p sh (code_of key) k.0 (prefix_under sh false (code_of key) q))))
     ∙ none_below (sh ++ true ∷ []) r key k.2 (λ q. off (prefix_on p sh (code_of key) k.0 (prefix_under sh true (code_of key) q)))
 
-pub numbers_replace : (c : Context) (s t : Shape) (key : List Bool) → numbers_of key (pairs_of t) ≡ numbers_of key (pairs_of s) → numbers_of key (pairs_of (plug c t)) ≡ numbers_of key (pairs_of (plug c s))
+pub numbers_replace : (c : ShapeContext) (s t : Shape) (key : List Bool) → numbers_of key (pairs_of t) ≡ numbers_of key (pairs_of s) → numbers_of key (pairs_of (plug c t)) ≡ numbers_of key (pairs_of (plug c s))
 numbers_replace root s t key e = e
 numbers_replace (on_left c h sh r) s t key e =
     numbers_replace c (fork h sh s r) (fork h sh t r) key
@@ -47,7 +47,7 @@ numbers_replace (on_right c h sh l) s t key e =
     (numbers_append key (pairs_of l) (pairs_of t) ∙ ap (λ xs. numbers_of key (pairs_of l) ++ xs) e ∙ sym (numbers_append key (pairs_of l) (pairs_of s)))
 
 -- a key that leads to the hole is only there
-pub numbers_in_hole : (c : Context) (s : Shape) (key : List Bool) → IsKeyed [] (plug c s) → IsPrefix (hole_shared c) (code_of key) → numbers_of key (pairs_of (plug c s)) ≡ numbers_of key (pairs_of s)
+pub numbers_in_hole : (c : ShapeContext) (s : Shape) (key : List Bool) → IsKeyed [] (plug c s) → IsPrefix (hole_shared c) (code_of key) → numbers_of key (pairs_of (plug c s)) ≡ numbers_of key (pairs_of s)
 numbers_in_hole root s key k p = refl
 numbers_in_hole (on_left c h sh r) s key k p =
     let whole = keyed_hole c (fork h sh s r) k in

@@ -7,9 +7,9 @@ use Rattle.hx_pool.specs.Chain.{IsIn, AreDistinct, LiesAt, first_or, last_or}
 use Rattle.hx_pool.proofs.ChainLemmas.{in_right, in_either, distinct_left, distinct_right, distinct_apart, distinct_join, lies_frame, lies_links}
 use Rattle.hx_ebtree.specs.declared.node.Down.{Down}
 use Rattle.hx_ebtree.specs.declared.node.Down.TheVariants.{Leaf}
-use Rattle.hx_ebtree.specs.Pairs.{Pairs, numbers_of, exact_of, Lists, IsOff, without}
+use Rattle.hx_ebtree.specs.KeyList.{KeyList, numbers_of, exact_of, Lists, IsOff, without}
 use Rattle.hx_ebtree.specs.Shape.{Shape, leaf, fork, pairs_of, numbers, holders, all_of, first_of, none_of, nothing_of, only_of, LeafPart, Leaves, Forks, links_in, key_in, with_key, IsLeafAt}
-use Rattle.hx_ebtree.specs.Context.{Context, root, on_left, on_right, plug, hole_up, SurroundsAt}
+use Rattle.hx_ebtree.specs.ShapeContext.{ShapeContext, root, on_left, on_right, plug, hole_up, SurroundsAt}
 use Rattle.hx_ebtree.specs.Tree.{StandsAs}
 use Rattle.hx_ebtree.specs.Remove.{Shortens, IsFirst}
 use Rattle.hx_ebtree.proofs.ShapeLemmas.{AreParted, plug_parted, plug_distinct, plug_in, plug_either, surrounds_frame, numbers_around, holders_around, plug_open, plug_close}
@@ -22,14 +22,14 @@ use Rattle.hx_ebtree.proofs.NextLemmas.{part_of}
 
 -- the leaf that has the number
 record LeafOf (whole : Shape) (id : ℕ) : Type 0 where
-  pub context : Context
+  pub context : ShapeContext
   pub key : List Bool
   pub front : ℕ
   pub more : List ℕ
   pub is : whole ≡ plug context (leaf key front more)
   pub within : IsIn id (front ∷ more)
 
-leaf_of : (c : Context) (s : Shape) (id : ℕ) → IsIn id (numbers s) → LeafOf (plug c s) id
+leaf_of : (c : ShapeContext) (s : Shape) (id : ℕ) → IsIn id (numbers s) → LeafOf (plug c s) id
 leaf_of c (leaf key front more) id p = record { context = c; key = key; front = front; more = more; is = refl; within = p }
 leaf_of c (fork h sh l r) id p = elim (in_either (numbers l) (numbers r) id p) as (λ _. LeafOf (plug c (fork h sh l r)) id) [
   | inl q ↦ leaf_of (on_left c h sh r) l id q
@@ -37,8 +37,8 @@ leaf_of c (fork h sh l r) id p = elim (in_either (numbers l) (numbers r) id p) a
 ]
 
 -- where a listed number is
-pub record NodePlace (f : Leaves) (g : Forks) (at_root : Option Down) (id : ℕ) (pairs : Pairs) : Type 0 where
-  pub context : Context
+pub record NodePlace (f : Leaves) (g : Forks) (at_root : Option Down) (id : ℕ) (pairs : KeyList) : Type 0 where
+  pub context : ShapeContext
   pub key : List Bool
   pub front : ℕ
   pub more : List ℕ
@@ -47,7 +47,7 @@ pub record NodePlace (f : Leaves) (g : Forks) (at_root : Option Down) (id : ℕ)
   pub around : SurroundsAt f g at_root context (Leaf front)
   pub inside : IsLeafAt f (hole_up context) key front more (Leaf front)
 
-pub node_place : (f : Leaves) (g : Forks) (at_root : Option Down) (shape : Option Shape) (id : ℕ) (pairs : Pairs) → StandsAs f g at_root shape pairs → Lists pairs id → NodePlace f g at_root id pairs
+pub node_place : (f : Leaves) (g : Forks) (at_root : Option Down) (shape : Option Shape) (id : ℕ) (pairs : KeyList) → StandsAs f g at_root shape pairs → Lists pairs id → NodePlace f g at_root id pairs
 node_place f g at_root None id pairs stands listed = absurd (listed_same pairs [] stands.same id listed)
 node_place f g at_root (Some s) id pairs stands listed =
     let p = leaf_of root s id (subst (IsIn id) (shape_ids s) (listed_same pairs (pairs_of s) stands.same id listed)) in
@@ -97,7 +97,7 @@ distinct_rest : (xs : List ℕ) (id : ℕ) (ys : List ℕ) → AreDistinct (xs +
 distinct_rest xs id ys d = distinct_join xs ys (distinct_left xs (id ∷ ys) d) (distinct_right xs (id ∷ ys) d).1 (λ k p q. distinct_apart xs (id ∷ ys) d k p (inr q))
 
 -- the node of a number: the first of its key, or a later one
-module _ (f : Leaves) (g : Forks) (at_root : Option Down) (shape : Option Shape) (id : ℕ) (pairs : Pairs) (all : StandsAs f g at_root shape pairs) (listed : Lists pairs id) where
+module _ (f : Leaves) (g : Forks) (at_root : Option Down) (shape : Option Shape) (id : ℕ) (pairs : KeyList) (all : StandsAs f g at_root shape pairs) (listed : Lists pairs id) where
   abbrev at : NodePlace f g at_root id pairs
   at = node_place f g at_root shape id pairs all listed
 
@@ -162,7 +162,7 @@ module _ (f : Leaves) (g : Forks) (at_root : Option Down) (shape : Option Shape)
         ((λ p. out (subst (λ w. IsIn k (at.front ∷ w)) (sym s.is) p)), (λ e. out (inl e)))
 
     module _ (f' : Leaves) (g' : Forks) (change : Shortens f g f' g' at.front id) where
-      abbrev c : Context
+      abbrev c : ShapeContext
       c = at.context
 
       abbrev before : Shape

@@ -4,7 +4,7 @@ use Rattle.std.proofs.lemmas.Bool.Decides.{nat_tests}
 use Rattle.std.specs.Option.{option_map}
 use Rattle.hx_pool.specs.Chain.{first_or}
 use Rattle.hx_ebtree.specs.Bits.{IsPrefix}
-use Rattle.hx_ebtree.specs.Pairs.{Pairs, is_prefix, is_same_key, longer_of, longest_pair_of, longest_of, numbers_of}
+use Rattle.hx_ebtree.specs.KeyList.{KeyList, is_prefix, is_same_key, longer_of, longest_pair_of, longest_of, numbers_of}
 use Rattle.hx_ebtree.proofs.PairLemmas.{key_self, key_cases}
 
 pub prefix_true : (xs ys : List Bool) → is_prefix xs ys ≡ true → IsPrefix xs ys
@@ -43,18 +43,18 @@ taken_prefix (suc m) [] le = absurd (omega arith)
 taken_prefix (suc m) (y ∷ ys) le = let r = taken_prefix m ys (omega arith) in ((r.0.0, ap (λ l. y ∷ l) r.0.1), ap suc r.1)
 
 -- the first number of the longest prefix of the key that has one
-pub record IsLongest (pairs : Pairs) (key : List Bool) (id : ℕ) : Type 0 where
+pub record IsLongest (pairs : KeyList) (key : List Bool) (id : ℕ) : Type 0 where
   pub length_of : ℕ
   pub within : length_of ≤ length key
   pub first : first_or (numbers_of (take length_of key) pairs) None ≡ Some id
   pub longer : (m : ℕ) → length_of < m → m ≤ length key → numbers_of (take m key) pairs ≡ []
 
-abbrev pub IsLongestOrNone : Pairs → List Bool → Option ℕ → Type 0
+abbrev pub IsLongestOrNone : KeyList → List Bool → Option ℕ → Type 0
 IsLongestOrNone pairs key (Some id) = IsLongest pairs key id
 IsLongestOrNone pairs key None = (m : ℕ) → m ≤ length key → numbers_of (take m key) pairs ≡ []
 
 -- the scan of the list, with the length that it found
-abbrev IsScan : Pairs → List Bool → Option (List Bool × ℕ) → Type 0
+abbrev IsScan : KeyList → List Bool → Option (List Bool × ℕ) → Type 0
 IsScan pairs key None = (m : ℕ) → m ≤ length key → numbers_of (take m key) pairs ≡ []
 IsScan pairs key (Some p) = IsPrefix p.0 key × (first_or (numbers_of p.0 pairs) None ≡ Some p.1)
     × ((m : ℕ) → length p.0 < m → m ≤ length key → numbers_of (take m key) pairs ≡ [])
@@ -62,14 +62,14 @@ IsScan pairs key (Some p) = IsPrefix p.0 key × (first_or (numbers_of p.0 pairs)
 not_same_length : (xs ys : List Bool) → (length xs ≡ length ys → ⊥) → is_same_key xs ys ≡ false
 not_same_length xs ys d = elim (key_cases xs ys) [ inl e ↦ absurd (d (ap length e)) | inr e ↦ e ]
 
-skip : (pair : List Bool × ℕ) (pairs : Pairs) (key : List Bool) → is_same_key pair.0 key ≡ false → numbers_of key (pair ∷ pairs) ≡ numbers_of key pairs
+skip : (pair : List Bool × ℕ) (pairs : KeyList) (key : List Bool) → is_same_key pair.0 key ≡ false → numbers_of key (pair ∷ pairs) ≡ numbers_of key pairs
 skip pair pairs key e = rw e
 
-hit : (pair : List Bool × ℕ) (pairs : Pairs) → first_or (numbers_of pair.0 (pair ∷ pairs)) None ≡ Some pair.1
+hit : (pair : List Bool × ℕ) (pairs : KeyList) → first_or (numbers_of pair.0 (pair ∷ pairs)) None ≡ Some pair.1
 hit pair pairs = rw (key_self pair.0)
 
 -- a pair whose key is no prefix changes nothing
-skip_scan : (pair : List Bool × ℕ) (pairs : Pairs) (key : List Bool) (o : Option (List Bool × ℕ)) → is_prefix pair.0 key ≡ false → IsScan pairs key o → IsScan (pair ∷ pairs) key o
+skip_scan : (pair : List Bool × ℕ) (pairs : KeyList) (key : List Bool) (o : Option (List Bool × ℕ)) → is_prefix pair.0 key ≡ false → IsScan pairs key o → IsScan (pair ∷ pairs) key o
 skip_scan pair pairs key None off scan = λ m le. skip pair pairs (take m key) (differs m le) ∙ scan m le
   where
     differs : (m : ℕ) → m ≤ length key → is_same_key pair.0 (take m key) ≡ false
@@ -86,7 +86,7 @@ skip_scan pair pairs key (Some p) off scan = (
     other : (k : List Bool) → IsPrefix k key → is_same_key pair.0 k ≡ false
     other k pre = elim (key_cases pair.0 k) [ inl e ↦ absurd (true≢false (sym (prefix_is pair.0 key (subst (λ w. IsPrefix w key) (sym e) pre)) ∙ off)) | inr d ↦ d ]
 
-take_scan : (pair : List Bool × ℕ) (pairs : Pairs) (key : List Bool) (o : Option (List Bool × ℕ)) → IsPrefix pair.0 key → IsScan pairs key o → IsScan (pair ∷ pairs) key (longer_of pair o)
+take_scan : (pair : List Bool × ℕ) (pairs : KeyList) (key : List Bool) (o : Option (List Bool × ℕ)) → IsPrefix pair.0 key → IsScan pairs key o → IsScan (pair ∷ pairs) key (longer_of pair o)
 take_scan pair pairs key None pre scan = (
   pre,
   hit pair pairs,
@@ -106,7 +106,7 @@ take_scan pair pairs key (Some p) pre scan = by (nat_lt (length pair.0) (length 
       λ m more le. skip pair pairs (take m key) (not_same_length pair.0 (take m key) (λ same. omega (arith, same, (taken_prefix m key le).1))) ∙ scan.2 m (omega arith) le,
     )
 
-scan_is : (pairs : Pairs) (key : List Bool) → IsScan pairs key (longest_pair_of pairs key)
+scan_is : (pairs : KeyList) (key : List Bool) → IsScan pairs key (longest_pair_of pairs key)
 scan_is [] key = λ m le. refl
 scan_is (pair ∷ pairs) key = by (is_prefix pair.0 key) refl (scan_is pairs key)
   where
@@ -124,7 +124,7 @@ no_first : (xs : List ℕ) (id : ℕ) → xs ≡ [] → first_or xs None ≡ Som
 no_first xs id e f = let g : first_or xs None ≡ None = ap (λ l. first_or l None) e in cc
 
 -- there is one longest prefix
-pub longest_is : (pairs : Pairs) (key : List Bool) (r : Option ℕ) → IsLongestOrNone pairs key r → r ≡ longest_of pairs key
+pub longest_is : (pairs : KeyList) (key : List Bool) (r : Option ℕ) → IsLongestOrNone pairs key r → r ≡ longest_of pairs key
 longest_is pairs key r is = by r (longest_pair_of pairs key) is (scan_is pairs key)
   where
     by : (r : Option ℕ) (o : Option (List Bool × ℕ)) → IsLongestOrNone pairs key r → IsScan pairs key o → r ≡ option_map (λ (p : List Bool × ℕ). p.1) o

@@ -10,9 +10,9 @@ use Rattle.hx_ebtree.specs.declared.node.Down.TheVariants.{Leaf, Branch}
 use Rattle.hx_ebtree.specs.declared.node.Up.{Up}
 use Rattle.hx_ebtree.specs.declared.node.Branch.{Branch as Fork}
 use Rattle.hx_ebtree.specs.Bits.{code_of, IsPrefix, is_same_bit, split_of}
-use Rattle.hx_ebtree.specs.Pairs.{Pairs, numbers_of}
+use Rattle.hx_ebtree.specs.KeyList.{KeyList, numbers_of}
 use Rattle.hx_ebtree.specs.Shape.{Shape, leaf, fork, pairs_of, IsKeyed, Leaves, Forks, key_in, left_of, HangsAt}
-use Rattle.hx_ebtree.specs.Context.{hole_up, hole_shared}
+use Rattle.hx_ebtree.specs.ShapeContext.{hole_up, hole_shared}
 use Rattle.hx_ebtree.specs.Tree.{StandsAs}
 use Rattle.hx_ebtree.specs.Seat.{split_before_of, side_of, Reaches, left_leaf, leaf_longest_of, better_of}
 use Rattle.hx_ebtree.proofs.BitLemmas.{code_even, code_length}
@@ -84,11 +84,11 @@ splits_prefix (b ∷ y) (c ∷ x) e = by (λ more. splits_prefix y x more) (is_s
         let r = rec (more ∙ ap Some here) in
         (r.0, ap (λ l. c ∷ l) r.1 ∙ ap (λ w. w ∷ (y ++ r.0)) (sym (same_bits b c same)))
 
-abbrev pub IsBest : Pairs → List Bool → Option ℕ → ℕ → Type 0
+abbrev pub IsBest : KeyList → List Bool → Option ℕ → ℕ → Type 0
 IsBest pairs x None least = least ≡ 0
 IsBest pairs x (Some id) least = (m : ℕ) × (least ≡ suc m) × (m ≤ length x) × (first_or (numbers_of (take m x) pairs) None ≡ Some id)
 
-module _ (f : Leaves) (g : Forks) (at_root : Option Down) (pairs : Pairs) (x : List Bool) where
+module _ (f : Leaves) (g : Forks) (at_root : Option Down) (pairs : KeyList) (x : List Bool) where
   -- the search came to a hole, and the longest prefix outside it is known
   pub record IsOnWay (at : Down) (depth : ℕ) (best : Option ℕ) : Type 0 where
     pub up : Option Up

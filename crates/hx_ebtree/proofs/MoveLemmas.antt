@@ -7,9 +7,9 @@ use Rattle.hx_ebtree.specs.declared.node.Down.{Down}
 use Rattle.hx_ebtree.specs.declared.node.Down.TheVariants.{Leaf, Branch}
 use Rattle.hx_ebtree.specs.declared.node.Up.{Up}
 use Rattle.hx_ebtree.specs.declared.node.Branch.{Branch as Fork}
-use Rattle.hx_ebtree.specs.Pairs.{Pairs, IsOff}
+use Rattle.hx_ebtree.specs.KeyList.{KeyList, IsOff}
 use Rattle.hx_ebtree.specs.Shape.{Shape, leaf, fork, numbers, fronts, holders, all_of, none_of, nothing_of, only_of, IsAbove, LeafPart, Leaves, Forks, left_of, right_of, HangsAt}
-use Rattle.hx_ebtree.specs.Context.{Context, root, on_left, on_right, plug, hole_up, SurroundsAt}
+use Rattle.hx_ebtree.specs.ShapeContext.{ShapeContext, root, on_left, on_right, plug, hole_up, SurroundsAt}
 use Rattle.hx_ebtree.specs.Change.{node_of, SetsUp, SetsDown}
 use Rattle.hx_ebtree.specs.Tree.{StandsAs}
 use Rattle.hx_ebtree.specs.Remove.{MovesPart, IsDetached, IsWithout}
@@ -32,7 +32,7 @@ pub down_has : (f : Leaves) (g : Forks) (up : Option Up) (s : Shape) (down : Dow
 down_has f g up (leaf key id more) down at = inl (at.part, ap f (ap node_of at.points) ∙ at.here)
 down_has f g up (fork h sh l r) down at = inr (_, ap g (ap node_of at.2.points) ∙ at.2.here)
 
-pub around_has : (f : Leaves) (g : Forks) (at_root : Option Down) (c : Context) (down : Down) (u : Up) → SurroundsAt f g at_root c down → hole_up c ≡ Some u → (b : Fork) × (g u.node ≡ Some b)
+pub around_has : (f : Leaves) (g : Forks) (at_root : Option Down) (c : ShapeContext) (down : Down) (u : Up) → SurroundsAt f g at_root c down → hole_up c ≡ Some u → (b : Fork) × (g u.node ≡ Some b)
 around_has f g at_root root down u at e = cc
 around_has f g at_root (on_left c h sh r) down u at e = let same : u ≡ record { node = h; right = false } = cc in (_, ap g (ap (λ (v : Up). v.node) same) ∙ at.1.here)
 around_has f g at_root (on_right c h sh l) down u at e = let same : u ≡ record { node = h; right = true } = cc in (_, ap g (ap (λ (v : Up). v.node) same) ∙ at.1.here)
@@ -41,7 +41,7 @@ pub down_number : (f : Leaves) (g : Forks) (up : Option Up) (s : Shape) (down : 
 down_number f g up (leaf key id more) down at = inl (inl (ap node_of at.points))
 down_number f g up (fork h sh l r) down at = inr (inl (ap node_of at.2.points))
 
-module _ (f : Leaves) (g : Forks) (at_root : Option Down) (id y : ℕ) (s : Shape) (pairs : Pairs) (d : IsDetached f g at_root id y s pairs) where
+module _ (f : Leaves) (g : Forks) (at_root : Option Down) (id y : ℕ) (s : Shape) (pairs : KeyList) (d : IsDetached f g at_root id y s pairs) where
   -- but for the node that left, those whose branch parts are in use are nodes of the tree
   pub held_number : (k : ℕ) → k ≢ id → IsIn k (holders s) → IsIn k (numbers s)
   held_number k other p = front_number s k (in_same (fronts s) k (d.place k) (d.stays k other) (by_held d.place s k d.above p))
@@ -77,7 +77,7 @@ in_cases (x ∷ xs) k = elim (cases_eq k x) as (λ _. IsIn k (x ∷ xs) ⊎ (IsI
   ]
 ]
 
-module _ (f : Leaves) (g : Forks) (at_root : Option Down) (c : Context) (sh : List Bool) (l r : Shape) (id y : ℕ) (pairs : Pairs)
+module _ (f : Leaves) (g : Forks) (at_root : Option Down) (c : ShapeContext) (sh : List Bool) (l r : Shape) (id y : ℕ) (pairs : KeyList)
     (d : IsDetached f g at_root id y (plug c (fork id sh l r)) pairs) (part : Fork) (has : g id ≡ Some part) where
   abbrev old : Shape
   old = fork id sh l r
@@ -308,14 +308,14 @@ module _ (f : Leaves) (g : Forks) (at_root : Option Down) (c : Context) (sh : Li
     }
 
 -- where the branch of the node that left is
-pub record PartPlace (f : Leaves) (g : Forks) (at_root : Option Down) (id y : ℕ) (pairs : Pairs) : Type 0 where
-  pub context : Context
+pub record PartPlace (f : Leaves) (g : Forks) (at_root : Option Down) (id y : ℕ) (pairs : KeyList) : Type 0 where
+  pub context : ShapeContext
   pub shared : List Bool
   pub left : Shape
   pub right : Shape
   pub detached : IsDetached f g at_root id y (plug context (fork id shared left right)) pairs
 
-pub part_place : (f : Leaves) (g : Forks) (at_root : Option Down) (id y : ℕ) (shape : Option Shape) (pairs : Pairs) (part : Fork) → IsWithout f g at_root id y shape pairs → g id ≡ Some part → PartPlace f g at_root id y pairs
+pub part_place : (f : Leaves) (g : Forks) (at_root : Option Down) (id y : ℕ) (shape : Option Shape) (pairs : KeyList) (part : Fork) → IsWithout f g at_root id y shape pairs → g id ≡ Some part → PartPlace f g at_root id y pairs
 part_place f g at_root id y None pairs part w has = let e : Some part ≡ None = sym has ∙ w.1 in cc
 part_place f g at_root id y (Some s) pairs part d has =
     let p = fork_place root s id (held_if f g at_root id y s pairs d part has (in_cases (holders s) id)) in
@@ -327,16 +327,16 @@ part_place f g at_root id y (Some s) pairs part d has =
       detached = subst (λ w. IsDetached f g at_root id y w pairs) p.is d;
     }
 
-pub stands_part : (f : Leaves) (g : Forks) (at_root : Option Down) (id y : ℕ) (shape : Option Shape) (pairs : Pairs) (part : Fork) (f' : Leaves) (g' : Forks) (root' : Option Down) → IsWithout f g at_root id y shape pairs → g id ≡ Some part → MovesPart f g at_root f' g' root' id y part → (now : Option Shape) × StandsAs f' g' root' now pairs
+pub stands_part : (f : Leaves) (g : Forks) (at_root : Option Down) (id y : ℕ) (shape : Option Shape) (pairs : KeyList) (part : Fork) (f' : Leaves) (g' : Forks) (root' : Option Down) → IsWithout f g at_root id y shape pairs → g id ≡ Some part → MovesPart f g at_root f' g' root' id y part → (now : Option Shape) × StandsAs f' g' root' now pairs
 stands_part f g at_root id y shape pairs part f' g' root' w has change =
     let p = part_place f g at_root id y shape pairs part w has in
     (Some (plug p.context (fork y p.shared p.left p.right)), stands_moved f g at_root p.context p.shared p.left p.right id y pairs p.detached part has f' g' root' change)
 
-pub stands_none : (f : Leaves) (g : Forks) (at_root : Option Down) (id y : ℕ) (shape : Option Shape) (pairs : Pairs) → IsWithout f g at_root id y shape pairs → g id ≡ None → StandsAs f g at_root shape pairs
+pub stands_none : (f : Leaves) (g : Forks) (at_root : Option Down) (id y : ℕ) (shape : Option Shape) (pairs : KeyList) → IsWithout f g at_root id y shape pairs → g id ≡ None → StandsAs f g at_root shape pairs
 stands_none f g at_root id y None pairs w none = record { hangs = w.0; sound = tt; idle = tt; same = w.2 }
 stands_none f g at_root id y (Some s) pairs d none = stands_idle f g at_root id y s pairs d none
 
-module _ (f : Leaves) (g : Forks) (at_root : Option Down) (id y : ℕ) (shape : Option Shape) (pairs : Pairs) (w : IsWithout f g at_root id y shape pairs) (part : Fork) (has : g id ≡ Some part) where
+module _ (f : Leaves) (g : Forks) (at_root : Option Down) (id y : ℕ) (shape : Option Shape) (pairs : KeyList) (w : IsWithout f g at_root id y shape pairs) (part : Fork) (has : g id ≡ Some part) where
   abbrev at : PartPlace f g at_root id y pairs
   at = part_place f g at_root id y shape pairs part w has
 

@@ -8,9 +8,9 @@ use Rattle.hx_pool.proofs.ChainLemmas.{lies_frame}
 use Rattle.hx_ebtree.specs.declared.node.Down.{Down}
 use Rattle.hx_ebtree.specs.declared.node.Down.TheVariants.{Leaf}
 use Rattle.hx_ebtree.specs.declared.node.Up.{Up}
-use Rattle.hx_ebtree.specs.Pairs.{Pairs, without}
+use Rattle.hx_ebtree.specs.KeyList.{KeyList, without}
 use Rattle.hx_ebtree.specs.Shape.{Shape, leaf, numbers, holders, all_of, first_of, none_of, nothing_of, only_of, LeafPart, Leaves, Forks, links_in, key_in, IsLeafAt}
-use Rattle.hx_ebtree.specs.Context.{Context, plug, hole_up, SurroundsAt}
+use Rattle.hx_ebtree.specs.ShapeContext.{ShapeContext, plug, hole_up, SurroundsAt}
 use Rattle.hx_ebtree.specs.Change.{up_in, SetsDown, SetsFirst}
 use Rattle.hx_ebtree.specs.Tree.{StandsAs}
 use Rattle.hx_ebtree.specs.Remove.{Unchains, MakesFirst, IsDetached}
@@ -47,7 +47,7 @@ leaf_up f up0 up key id more down at seen =
     same ∙ at.hung
 
 module _ (f : Leaves) (g : Forks) (at_root : Option Down) (f1 : Leaves) (g1 : Forks) (f' : Leaves) (g' : Forks) (root' : Option Down)
-    (c : Context) (key : List Bool) (id next : ℕ) (more : List ℕ) (chain : Chain) (up : Option Up) (pairs : Pairs)
+    (c : ShapeContext) (key : List Bool) (id next : ℕ) (more : List ℕ) (chain : Chain) (up : Option Up) (pairs : KeyList)
     (stands : StandsAs f g at_root (Some (plug c (leaf key id (next ∷ more)))) pairs)
     (unchained : Unchains f g f1 g1 id id chain) (made : MakesFirst f1 g1 at_root f' g' root' next chain up)
     (seen : up_in f id ≡ Some up) where

@@ -3,10 +3,10 @@ use Rattle.std.proofs.Common.{◌≡◌, ◌≢◌, ℕ, ◌==◌, Bool, true, f
 use Rattle.std.proofs.lemmas.Bool.Decides.{nat_tests}
 use Rattle.hx_pool.specs.Chain.{IsIn}
 use Rattle.hx_pool.proofs.ChainLemmas.{in_left, in_right, in_either, in_same}
-use Rattle.hx_ebtree.specs.Pairs.{Pairs, is_same_key, numbers_of, ids_of, IsOff, without}
+use Rattle.hx_ebtree.specs.KeyList.{KeyList, is_same_key, numbers_of, ids_of, IsOff, without}
 use Rattle.hx_ebtree.specs.Shape.{Shape, leaf, fork, pairs_of, numbers, fronts, holders, IsAbove, with_key}
 use Rattle.hx_ebtree.specs.Remove.{IsAboveBy}
-use Rattle.hx_ebtree.specs.Context.{Context, root, on_left, on_right, plug}
+use Rattle.hx_ebtree.specs.ShapeContext.{ShapeContext, root, on_left, on_right, plug}
 use Rattle.hx_ebtree.proofs.ShapeLemmas.{numbers_around, fronts_around, holders_around}
 use Rattle.hx_ebtree.proofs.PairLemmas.{key_cases, numbers_append, numbers_with, numbers_other, keyed_listed, listed_same}
 use Rattle.hx_ebtree.proofs.KeyedLemmas.{shape_ids, front_number}
@@ -14,12 +14,12 @@ use Rattle.hx_ebtree.proofs.WholeLemmas.{holder_front, above_hole}
 
 -- the leaf of a node that is the first of its chain
 pub record LeafPlace (whole : Shape) (id : ℕ) : Type 0 where
-  pub context : Context
+  pub context : ShapeContext
   pub key : List Bool
   pub more : List ℕ
   pub is : whole ≡ plug context (leaf key id more)
 
-pub leaf_place : (c : Context) (s : Shape) (id : ℕ) → IsIn id (fronts s) → LeafPlace (plug c s) id
+pub leaf_place : (c : ShapeContext) (s : Shape) (id : ℕ) → IsIn id (fronts s) → LeafPlace (plug c s) id
 leaf_place c (leaf key j more) id (inl e) = record { context = c; key = key; more = more; is = ap (λ k. plug c (leaf key k more)) (sym e) }
 leaf_place c (leaf key j more) id (inr p) = absurd p
 leaf_place c (fork h sh l r) id p = elim (in_either (fronts l) (fronts r) id p) as (λ _. LeafPlace (plug c (fork h sh l r)) id) [
@@ -29,13 +29,13 @@ leaf_place c (fork h sh l r) id p = elim (in_either (fronts l) (fronts r) id p) 
 
 -- the branch that lies in a node's slot
 pub record ForkPlace (whole : Shape) (id : ℕ) : Type 0 where
-  pub context : Context
+  pub context : ShapeContext
   pub shared : List Bool
   pub left : Shape
   pub right : Shape
   pub is : whole ≡ plug context (fork id shared left right)
 
-pub fork_place : (c : Context) (s : Shape) (id : ℕ) → IsIn id (holders s) → ForkPlace (plug c s) id
+pub fork_place : (c : ShapeContext) (s : Shape) (id : ℕ) → IsIn id (holders s) → ForkPlace (plug c s) id
 fork_place c (leaf key j more) id p = absurd p
 fork_place c (fork h sh l r) id (inl e) = record { context = c; shared = sh; left = l; right = r; is = ap (λ k. plug c (fork k sh l r)) (sym e) }
 fork_place c (fork h sh l r) id (inr p) = elim (in_either (holders l) (holders r) id p) as (λ _. ForkPlace (plug c (fork h sh l r)) id) [
@@ -54,7 +54,7 @@ module _ (ρ : ℕ → ℕ) where
   by_above (fork h sh l r) a same =
       (in_same (fronts l ++ fronts r) h (ρ h) (same h (inl refl)) a.0, by_above l a.1 (λ k p. same k (inr (in_left (holders l) (holders r) k p))), by_above r a.2 (λ k p. same k (inr (in_right (holders l) (holders r) k p))))
 
-  pub by_hole : (c : Context) (s : Shape) → IsAboveBy ρ (plug c s) → IsAboveBy ρ s
+  pub by_hole : (c : ShapeContext) (s : Shape) → IsAboveBy ρ (plug c s) → IsAboveBy ρ s
   by_hole root s a = a
   by_hole (on_left c h sh r) s a = (by_hole c (fork h sh s r) a).1
   by_hole (on_right c h sh l) s a = (by_hole c (fork h sh l s) a).2
@@ -68,7 +68,7 @@ module _ (ρ : ℕ → ℕ) where
   ]
 
   -- another shape in the hole, whose fronts are those that ρ gives
-  pub by_replace : (c : Context) (s t : Shape) → IsAbove (plug c s) → IsAboveBy ρ t → ((k : ℕ) → IsIn k (fronts s) → IsIn (ρ k) (fronts t)) → ((k : ℕ) → IsIn k (fronts_around c) → ρ k ≡ k) → IsAboveBy ρ (plug c t)
+  pub by_replace : (c : ShapeContext) (s t : Shape) → IsAbove (plug c s) → IsAboveBy ρ t → ((k : ℕ) → IsIn k (fronts s) → IsIn (ρ k) (fronts t)) → ((k : ℕ) → IsIn k (fronts_around c) → ρ k ≡ k) → IsAboveBy ρ (plug c t)
   by_replace root s t a b sub same = b
   by_replace (on_left c h sh r) s t a b sub same =
       let old = above_hole c (fork h sh s r) a in
@@ -88,7 +88,7 @@ module _ (ρ : ℕ → ℕ) where
       by_replace c (fork h sh l s) (fork h sh l t) a (wider h old.0, above_by l old.1 (λ k p. in_l k (holder_front l k old.1 p)), b) wider (λ k p. same k (in_right (fronts l) (fronts_around c) k p))
 
   -- a shape of the same fronts in the hole, above as it should be
-  pub moved : (c : Context) (s t : Shape) → fronts s ≡ fronts t → IsAboveBy ρ (plug c s) → IsAbove t → ((k : ℕ) → IsIn k (holders_around c) → ρ k ≡ k) → IsAbove (plug c t)
+  pub moved : (c : ShapeContext) (s t : Shape) → fronts s ≡ fronts t → IsAboveBy ρ (plug c s) → IsAbove t → ((k : ℕ) → IsIn k (holders_around c) → ρ k ≡ k) → IsAbove (plug c t)
   moved root s t e a b same = b
   moved (on_left c h sh r) s t e a b same =
       let old = by_hole c (fork h sh s r) a in
@@ -120,7 +120,7 @@ without_off id (x ∷ xs) off =
     let other : (x == id) ≡ false = (let differs : x ≢ id = λ e. off (inl (sym e)) in grind (arith, nat_tests)) in
     rw other (ap (λ l. x ∷ l) (without_off id xs (λ p. off (inr p))))
 
-pub numbers_without : (key : List Bool) (id : ℕ) (pairs : Pairs) → numbers_of key (without id pairs) ≡ without_number id (numbers_of key pairs)
+pub numbers_without : (key : List Bool) (id : ℕ) (pairs : KeyList) → numbers_of key (without id pairs) ≡ without_number id (numbers_of key pairs)
 numbers_without key id [] = refl
 numbers_without key id (p ∷ pairs) = by (p.1 == id) (is_same_key p.0 key) refl refl (numbers_without key id pairs)
   where
@@ -132,7 +132,7 @@ numbers_without key id (p ∷ pairs) = by (p.1 == id) (is_same_key p.0 key) refl
     by false false ea eb e = rw eb e
 
 -- a number in the hole is taken out of the whole
-pub less_plug : (id : ℕ) (key : List Bool) (c : Context) (s t : Shape) → (IsIn id (numbers_around c) → ⊥) → numbers_of key (pairs_of t) ≡ without_number id (numbers_of key (pairs_of s)) → numbers_of key (pairs_of (plug c t)) ≡ without_number id (numbers_of key (pairs_of (plug c s)))
+pub less_plug : (id : ℕ) (key : List Bool) (c : ShapeContext) (s t : Shape) → (IsIn id (numbers_around c) → ⊥) → numbers_of key (pairs_of t) ≡ without_number id (numbers_of key (pairs_of s)) → numbers_of key (pairs_of (plug c t)) ≡ without_number id (numbers_of key (pairs_of (plug c s)))
 less_plug id key root s t off e = e
 less_plug id key (on_left c h sh r) s t off e =
     let off_r : IsIn id (numbers_of key (pairs_of r)) → ⊥ = λ p. off (in_left (numbers r) (numbers_around c) id (subst (IsIn id) (shape_ids r) (keyed_listed key (pairs_of r) id p))) in
@@ -161,7 +161,7 @@ pub without_here : (id : ℕ) (xs : List ℕ) → without_number id (id ∷ xs) 
 without_here id xs = let same : (id == id) ≡ true = grind (arith, nat_tests) in rw same refl
 
 -- the first nodes around a hole are numbers around it
-pub front_around : (c : Context) (k : ℕ) → IsIn k (fronts_around c) → IsIn k (numbers_around c)
+pub front_around : (c : ShapeContext) (k : ℕ) → IsIn k (fronts_around c) → IsIn k (numbers_around c)
 front_around root k p = p
 front_around (on_left c h sh r) k p = elim (in_either (fronts r) (fronts_around c) k p) as (λ _. IsIn k (numbers r ++ numbers_around c)) [
   | inl q ↦ in_left (numbers r) (numbers_around c) k (front_number r k q)
@@ -186,17 +186,17 @@ less_leaf k key id more off = elim (key_cases key k) as (λ _. numbers_of k (wit
 ]
 
 -- what the whole stands for without the number
-pub less_pairs : (id : ℕ) (key : List Bool) (pairs : Pairs) (c : Context) (s t : Shape) → numbers_of key pairs ≡ numbers_of key (pairs_of (plug c s)) → (IsIn id (numbers_around c) → ⊥) → numbers_of key (pairs_of t) ≡ without_number id (numbers_of key (pairs_of s)) → numbers_of key (without id pairs) ≡ numbers_of key (pairs_of (plug c t))
+pub less_pairs : (id : ℕ) (key : List Bool) (pairs : KeyList) (c : ShapeContext) (s t : Shape) → numbers_of key pairs ≡ numbers_of key (pairs_of (plug c s)) → (IsIn id (numbers_around c) → ⊥) → numbers_of key (pairs_of t) ≡ without_number id (numbers_of key (pairs_of s)) → numbers_of key (without id pairs) ≡ numbers_of key (pairs_of (plug c t))
 less_pairs id key pairs c s t same off e = numbers_without key id pairs ∙ ap (without_number id) same ∙ sym (less_plug id key c s t off e)
 
 -- a number that is not listed is not in the shape
-pub off_number : (s : Shape) (pairs : Pairs) → ((key : List Bool) → numbers_of key pairs ≡ numbers_of key (pairs_of s)) → (k : ℕ) → IsOff k pairs → IsIn k (numbers s) → ⊥
+pub off_number : (s : Shape) (pairs : KeyList) → ((key : List Bool) → numbers_of key pairs ≡ numbers_of key (pairs_of s)) → (k : ℕ) → IsOff k pairs → IsIn k (numbers s) → ⊥
 off_number s pairs same k off p = off (listed_same (pairs_of s) pairs (λ key. sym (same key)) k (subst (IsIn k) (sym (shape_ids s)) p))
 
-pub number_listed : (s : Shape) (pairs : Pairs) → ((key : List Bool) → numbers_of key pairs ≡ numbers_of key (pairs_of s)) → (k : ℕ) → IsIn k (numbers s) → IsIn k (ids_of pairs)
+pub number_listed : (s : Shape) (pairs : KeyList) → ((key : List Bool) → numbers_of key pairs ≡ numbers_of key (pairs_of s)) → (k : ℕ) → IsIn k (numbers s) → IsIn k (ids_of pairs)
 number_listed s pairs same k p = listed_same (pairs_of s) pairs (λ key. sym (same key)) k (subst (IsIn k) (sym (shape_ids s)) p)
 
-in_without : (id : ℕ) (pairs : Pairs) (k : ℕ) → IsIn k (ids_of (without id pairs)) → IsIn k (ids_of pairs)
+in_without : (id : ℕ) (pairs : KeyList) (k : ℕ) → IsIn k (ids_of (without id pairs)) → IsIn k (ids_of pairs)
 in_without id [] k p = p
 in_without id (x ∷ pairs) k p = by (x.1 == id) p (in_without id pairs k)
   where
@@ -205,5 +205,5 @@ in_without id (x ∷ pairs) k p = by (x.1 == id) p (in_without id pairs k)
     by false (inl e) more = inl e
     by false (inr q) more = inr (more q)
 
-pub off_without : (id : ℕ) (pairs : Pairs) (k : ℕ) → IsOff k pairs → IsOff k (without id pairs)
+pub off_without : (id : ℕ) (pairs : KeyList) (k : ℕ) → IsOff k pairs → IsOff k (without id pairs)
 off_without id pairs k off p = off (in_without id pairs k p)

@@ -6,16 +6,16 @@ use Rattle.hx_pool.specs.Pool.{Pool, get, IsLive}
 use Rattle.hx_pool.specs.Chain.{IsIn, LiesAt}
 use Rattle.hx_ebtree.specs.declared.node.Down.{Down}
 use Rattle.hx_ebtree.specs.declared.node.Node.{Node}
-use Rattle.hx_ebtree.specs.Pairs.{Pairs, exact_of, Lists, IsOff, without}
+use Rattle.hx_ebtree.specs.KeyList.{KeyList, exact_of, Lists, IsOff, without}
 use Rattle.hx_ebtree.specs.Shape.{Shape, leaf, LeafPart, Leaves, Forks, links_in}
-use Rattle.hx_ebtree.specs.Context.{plug}
+use Rattle.hx_ebtree.specs.ShapeContext.{plug}
 use Rattle.hx_ebtree.specs.Tree.{leaf_part, leaves_of, forks_of, StandsAs}
 use Rattle.hx_ebtree.specs.Remove.{Shortens, IsFirst}
 use Rattle.hx_ebtree.proofs.DetachLemmas.{key_live}
 use Rattle.hx_ebtree.proofs.LaterLemmas.{NodePlace, node_place, Split, node_key, node_exact, node_first, node_later, later_lies, later_off, later_stands}
 
 -- a node that `front`, the first of its key, has in its chain
-pub record LaterAt (f : Leaves) (g : Forks) (at_root : Option Down) (id front : ℕ) (pairs : Pairs) : Type 0 where
+pub record LaterAt (f : Leaves) (g : Forks) (at_root : Option Down) (id front : ℕ) (pairs : KeyList) : Type 0 where
   pub part : LeafPart
   pub before : List ℕ
   pub after : List ℕ
@@ -25,7 +25,7 @@ pub record LaterAt (f : Leaves) (g : Forks) (at_root : Option Down) (id front : 
   pub stands : (f' : Leaves) (g' : Forks) → Shortens f g f' g' front id → (now : Option Shape) × StandsAs f' g' at_root now (without id pairs)
 
 module _ {V : Type 0} where
-  module _ (p : Pool (Node V)) (at_root : Option Down) (shape : Option Shape) (id : ℕ) (pairs : Pairs)
+  module _ (p : Pool (Node V)) (at_root : Option Down) (shape : Option Shape) (id : ℕ) (pairs : KeyList)
       (all : StandsAs (leaves_of p) (forks_of p) at_root shape pairs) (listed : Lists pairs id) where
     abbrev at : NodePlace (leaves_of p) (forks_of p) at_root id pairs
     at = node_place (leaves_of p) (forks_of p) at_root shape id pairs all listed

@@ -13,9 +13,9 @@ use Rattle.hx_ebtree.specs.declared.node.Node.{Node}
 use Rattle.hx_ebtree.specs.declared.seek.Seat.{Seat}
 use Rattle.hx_ebtree.specs.declared.seek.Seat.TheVariants.{Beside}
 use Rattle.hx_ebtree.specs.Bits.{bits_of, code_of, IsPrefix, split_of}
-use Rattle.hx_ebtree.specs.Pairs.{Pairs}
+use Rattle.hx_ebtree.specs.KeyList.{KeyList}
 use Rattle.hx_ebtree.specs.Shape.{Shape, leaf, fork, fronts, IsKeyed, LeafPart, Leaves, Forks, key_in, left_of, right_of, HangsAt}
-use Rattle.hx_ebtree.specs.Context.{root, on_left, on_right, hole_up, hole_shared}
+use Rattle.hx_ebtree.specs.ShapeContext.{root, on_left, on_right, hole_up, hole_shared}
 use Rattle.hx_ebtree.specs.Tree.{leaf_part, leaves_of, forks_of, StandsAs}
 use Rattle.hx_ebtree.specs.Seat.{split_before_of, side_of, leaf_seat_of, IsHole, Reaches, IsSeat}
 use Rattle.hx_ebtree.proofs.BitLemmas.{code_length}
@@ -118,7 +118,7 @@ module _ (f : Leaves) (g : Forks) where
         hangs_right = at.4;
       })
 
-  module _ (at_root : Option Down) (pairs : Pairs) (x : List Bool) where
+  module _ (at_root : Option Down) (pairs : KeyList) (x : List Bool) where
     pub seat_at_leaf : (up : Option Up) (id depth : ℕ) → Reaches f g at_root pairs x up (Leaf id) depth → (y : List Bool) → key_in f id ≡ Some y → (found : Option ℕ) → found ≡ split_of x y → (seat : Seat) → seat ≡ leaf_seat_of x id up found → IsSeat f g at_root pairs x (Some seat)
     seat_at_leaf up id depth r y seen found split seat is = by found split is
       where
@@ -296,7 +296,7 @@ module _ (f : Leaves) (g : Forks) where
 pub split_fits : (x y : List Bool) (at : ℕ) → split_of x y ≡ Some at → at < 2 * length x + 1
 split_fits x y at e = let p = split_parts x y at e in (parts_within x y at p.0 p.1).0
 
-module _ {V : Type 0} (p : Pool (Node V)) (at_root : Option Down) (pairs : Pairs) (x : List Bool) (up : Option Up) (id depth : ℕ) where
+module _ {V : Type 0} (p : Pool (Node V)) (at_root : Option Down) (pairs : KeyList) (x : List Bool) (up : Option Up) (id depth : ℕ) where
   pub leaf_is_live : Reaches (leaves_of p) (forks_of p) at_root pairs x up (Leaf id) depth → IsLive p id
   leaf_is_live r = let h = leaf_here (leaves_of p) (forks_of p) (hole_up r.context) r.here id r.hole.inside in key_live p id h.key h.seen
 

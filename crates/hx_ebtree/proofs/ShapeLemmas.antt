@@ -7,7 +7,7 @@ use Rattle.hx_ebtree.specs.declared.node.Down.{Down}
 use Rattle.hx_ebtree.specs.declared.node.Down.TheVariants.{Branch}
 use Rattle.hx_ebtree.specs.declared.node.Up.{Up}
 use Rattle.hx_ebtree.specs.Shape.{Shape, leaf, fork, gather, numbers, holders, all_of, first_of, none_of, nothing_of, only_of, Leaves, Forks, LeafPart, links_in, left_of, right_of, IsLeafAt, IsForkAt, HangsAt}
-use Rattle.hx_ebtree.specs.Context.{Context, root, on_left, on_right, plug, hole_up, around, SurroundsAt}
+use Rattle.hx_ebtree.specs.ShapeContext.{ShapeContext, root, on_left, on_right, plug, hole_up, around, SurroundsAt}
 use Rattle.hx_ebtree.specs.Tree.{HangsAtRoot}
 
 -- two lists of distinct numbers that share none
@@ -83,21 +83,21 @@ parted_in_right own xs ys zs p =
 
 module _ (at_leaf : ℕ → List ℕ → List ℕ) (at_fork : ℕ → List ℕ) where
   -- the numbers of a shape with a hole are those in the hole and those around it
-  pub plug_parted : (c : Context) (s : Shape) → AreDistinct (gather at_leaf at_fork (plug c s)) → AreParted (gather at_leaf at_fork s) (around at_leaf at_fork c)
+  pub plug_parted : (c : ShapeContext) (s : Shape) → AreDistinct (gather at_leaf at_fork (plug c s)) → AreParted (gather at_leaf at_fork s) (around at_leaf at_fork c)
   plug_parted root s d = record { first = d; second = tt; apart = λ k a b. b }
   plug_parted (on_left c h sh r) s d =
       parted_out (at_fork h) (gather at_leaf at_fork s) (gather at_leaf at_fork r) (around at_leaf at_fork c) (plug_parted c (fork h sh s r) d)
   plug_parted (on_right c h sh l) s d =
       parted_out_right (at_fork h) (gather at_leaf at_fork s) (gather at_leaf at_fork l) (around at_leaf at_fork c) (plug_parted c (fork h sh l s) d)
 
-  pub plug_distinct : (c : Context) (s : Shape) → AreParted (gather at_leaf at_fork s) (around at_leaf at_fork c) → AreDistinct (gather at_leaf at_fork (plug c s))
+  pub plug_distinct : (c : ShapeContext) (s : Shape) → AreParted (gather at_leaf at_fork s) (around at_leaf at_fork c) → AreDistinct (gather at_leaf at_fork (plug c s))
   plug_distinct root s p = p.first
   plug_distinct (on_left c h sh r) s p =
       plug_distinct c (fork h sh s r) (parted_in (at_fork h) (gather at_leaf at_fork s) (gather at_leaf at_fork r) (around at_leaf at_fork c) p)
   plug_distinct (on_right c h sh l) s p =
       plug_distinct c (fork h sh l s) (parted_in_right (at_fork h) (gather at_leaf at_fork s) (gather at_leaf at_fork l) (around at_leaf at_fork c) p)
 
-  pub plug_in : (c : Context) (s : Shape) (k : ℕ) → IsIn k (gather at_leaf at_fork s) ⊎ IsIn k (around at_leaf at_fork c) → IsIn k (gather at_leaf at_fork (plug c s))
+  pub plug_in : (c : ShapeContext) (s : Shape) (k : ℕ) → IsIn k (gather at_leaf at_fork s) ⊎ IsIn k (around at_leaf at_fork c) → IsIn k (gather at_leaf at_fork (plug c s))
   plug_in root s k (inl p) = p
   plug_in root s k (inr p) = absurd p
   plug_in (on_left c h sh r) s k (inl p) =
@@ -119,7 +119,7 @@ module _ (at_leaf : ℕ → List ℕ → List ℕ) (at_fork : ℕ → List ℕ) 
     ]
   ]
 
-  pub plug_either : (c : Context) (s : Shape) (k : ℕ) → IsIn k (gather at_leaf at_fork (plug c s)) → IsIn k (gather at_leaf at_fork s) ⊎ IsIn k (around at_leaf at_fork c)
+  pub plug_either : (c : ShapeContext) (s : Shape) (k : ℕ) → IsIn k (gather at_leaf at_fork (plug c s)) → IsIn k (gather at_leaf at_fork s) ⊎ IsIn k (around at_leaf at_fork c)
   plug_either root s k p = inl p
   plug_either (on_left c h sh r) s k p = elim (plug_either c (fork h sh s r) k p) [
     | inl q ↦ elim (in_either (at_fork h) (gather at_leaf at_fork s ++ gather at_leaf at_fork r) k q) [
@@ -166,16 +166,16 @@ hangs_frame f f' g g' up (fork h sh l r) down sf sg at = (
   hangs_frame f f' g g' (right_of h) r at.1 (λ k p. sf k (in_right (numbers l) (numbers r) k p)) (λ k p. sg k (inr (in_right (holders l) (holders r) k p))) at.4,
 )
 
-abbrev pub numbers_around : Context → List ℕ
+abbrev pub numbers_around : ShapeContext → List ℕ
 numbers_around = around all_of nothing_of
 
-abbrev pub fronts_around : Context → List ℕ
+abbrev pub fronts_around : ShapeContext → List ℕ
 fronts_around = around first_of nothing_of
 
-abbrev pub holders_around : Context → List ℕ
+abbrev pub holders_around : ShapeContext → List ℕ
 holders_around = around none_of only_of
 
-pub surrounds_frame : (f f' : Leaves) (g g' : Forks) (at : Option Down) (c : Context) (down : Down) → ((k : ℕ) → IsIn k (numbers_around c) → f' k ≡ f k) → ((k : ℕ) → IsIn k (holders_around c) → g' k ≡ g k) → SurroundsAt f g at c down → SurroundsAt f' g' at c down
+pub surrounds_frame : (f f' : Leaves) (g g' : Forks) (at : Option Down) (c : ShapeContext) (down : Down) → ((k : ℕ) → IsIn k (numbers_around c) → f' k ≡ f k) → ((k : ℕ) → IsIn k (holders_around c) → g' k ≡ g k) → SurroundsAt f g at c down → SurroundsAt f' g' at c down
 surrounds_frame f f' g g' at root down sf sg p = p
 surrounds_frame f f' g g' at (on_left c h sh r) down sf sg p = (
   p.0,
@@ -191,11 +191,11 @@ surrounds_frame f f' g g' at (on_right c h sh l) down sf sg p = (
 )
 
 -- a whole that hangs at the root is its surroundings and what hangs in the hole
-pub record Holds (f : Leaves) (g : Forks) (at : Option Down) (c : Context) (s : Shape) (down : Down) : Type 0 where
+pub record Holds (f : Leaves) (g : Forks) (at : Option Down) (c : ShapeContext) (s : Shape) (down : Down) : Type 0 where
   pub around : SurroundsAt f g at c down
   pub inside : HangsAt f g (hole_up c) s down
 
-pub plug_open : (f : Leaves) (g : Forks) (at : Option Down) (c : Context) (s : Shape) → HangsAtRoot f g at (Some (plug c s)) → (down : Down) × Holds f g at c s down
+pub plug_open : (f : Leaves) (g : Forks) (at : Option Down) (c : ShapeContext) (s : Shape) → HangsAtRoot f g at (Some (plug c s)) → (down : Down) × Holds f g at c s down
 plug_open f g at root s p = (p.0, record { around = p.1; inside = p.2 })
 plug_open f g at (on_left c h sh r) s p =
     let q = plug_open f g at c (fork h sh s r) p in
@@ -206,7 +206,7 @@ plug_open f g at (on_right c h sh l) s p =
     let i = q.1.inside in
     (i.1, record { around = (i.0, record { points = refl; here = i.2.here }, i.3, subst (SurroundsAt f g at c) i.2.points q.1.around); inside = i.4 })
 
-pub plug_close : (f : Leaves) (g : Forks) (at : Option Down) (c : Context) (s : Shape) (down : Down) → Holds f g at c s down → HangsAtRoot f g at (Some (plug c s))
+pub plug_close : (f : Leaves) (g : Forks) (at : Option Down) (c : ShapeContext) (s : Shape) (down : Down) → Holds f g at c s down → HangsAtRoot f g at (Some (plug c s))
 plug_close f g at root s down p = (down, p.around, p.inside)
 plug_close f g at (on_left c h sh r) s down p =
     let a = p.around in

@@ -9,9 +9,9 @@ use Rattle.hx_ebtree.specs.declared.node.Down.{Down}
 use Rattle.hx_ebtree.specs.declared.node.Down.TheVariants.{Leaf, Branch}
 use Rattle.hx_ebtree.specs.declared.node.Up.{Up}
 use Rattle.hx_ebtree.specs.Bits.{code_of, IsPrefix}
-use Rattle.hx_ebtree.specs.Pairs.{Pairs, numbers_of, ids_of, IsOff, is_same_key}
+use Rattle.hx_ebtree.specs.KeyList.{KeyList, numbers_of, ids_of, IsOff, is_same_key}
 use Rattle.hx_ebtree.specs.Shape.{Shape, leaf, pairs_of, numbers, holders, all_of, none_of, nothing_of, only_of, IsKeyed, LeafPart, Leaves, Forks, key_in, HangsAt}
-use Rattle.hx_ebtree.specs.Context.{plug, hole_up, hole_shared, SurroundsAt}
+use Rattle.hx_ebtree.specs.ShapeContext.{plug, hole_up, hole_shared, SurroundsAt}
 use Rattle.hx_ebtree.specs.Change.{PutsLeaf, Pushes, PutsFork}
 use Rattle.hx_ebtree.specs.Tree.{StandsAs}
 use Rattle.hx_ebtree.specs.Seat.{IsSame, IsBeside}
@@ -22,11 +22,11 @@ use Rattle.hx_ebtree.proofs.WholeLemmas.{holder_number, above_replace}
 use Rattle.hx_ebtree.proofs.InsertLemmas.{grown, grown_holds, grown_idle, grown_sound, grown_same}
 
 -- a number of the tree is listed
-pub number_listed : (f : Leaves) (g : Forks) (root : Option Down) (s : Shape) (pairs : Pairs) → StandsAs f g root (Some s) pairs → (k : ℕ) → IsIn k (numbers s) → IsIn k (ids_of pairs)
+pub number_listed : (f : Leaves) (g : Forks) (root : Option Down) (s : Shape) (pairs : KeyList) → StandsAs f g root (Some s) pairs → (k : ℕ) → IsIn k (numbers s) → IsIn k (ids_of pairs)
 number_listed f g root s pairs stands k p = listed_same (pairs_of s) pairs (λ key. sym (stands.same key)) k (subst (IsIn k) (sym (shape_ids s)) p)
 
 -- a tree goes on standing where its own numbers keep their parts
-pub stands_frame : (f f' : Leaves) (g g' : Forks) (root : Option Down) (shape : Option Shape) (pairs : Pairs) → ((k : ℕ) → IsIn k (ids_of pairs) → f' k ≡ f k) → ((k : ℕ) → IsIn k (ids_of pairs) → g' k ≡ g k) → StandsAs f g root shape pairs → StandsAs f' g' root shape pairs
+pub stands_frame : (f f' : Leaves) (g g' : Forks) (root : Option Down) (shape : Option Shape) (pairs : KeyList) → ((k : ℕ) → IsIn k (ids_of pairs) → f' k ≡ f k) → ((k : ℕ) → IsIn k (ids_of pairs) → g' k ≡ g k) → StandsAs f g root shape pairs → StandsAs f' g' root shape pairs
 stands_frame f f' g g' root None pairs sf sg stands = record { hangs = stands.hangs; sound = tt; idle = tt; same = stands.same }
 stands_frame f f' g g' root (Some s) pairs sf sg stands =
     let listed = number_listed f g root s pairs stands in
@@ -52,7 +52,7 @@ grown_numbers true id shared key s k p = elim (in_either (numbers s) (id ∷ [])
   | inr q ↦ elim q as (λ _. (k ≡ id) ⊎ IsIn k (numbers s)) [ inl e ↦ inl e | inr n ↦ absurd n ]
 ]
 
-module _ (f : Leaves) (g : Forks) (root : Option Down) (f' : Leaves) (g' : Forks) (root' : Option Down) (pairs : Pairs) (key : List Bool) (id : ℕ) (part : LeafPart) (here : f id ≡ Some part) (keyed : part.key ≡ key) (off : IsOff id pairs) where
+module _ (f : Leaves) (g : Forks) (root : Option Down) (f' : Leaves) (g' : Forks) (root' : Option Down) (pairs : KeyList) (key : List Bool) (id : ℕ) (part : LeafPart) (here : f id ≡ Some part) (keyed : part.key ≡ key) (off : IsOff id pairs) where
   seen : key_in f id ≡ Some key
   seen = ap (option_map (λ (p : LeafPart). p.key)) here ∙ ap Some keyed
 

@@ -3,7 +3,7 @@ use Rattle.std.proofs.Common.{ℕ, ◌++◌, sym, inl, inr}
 use Rattle.hx_pool.specs.Chain.{IsIn}
 use Rattle.hx_pool.proofs.ChainLemmas.{in_left, in_right, in_either, in_same}
 use Rattle.hx_ebtree.specs.Shape.{Shape, leaf, fork, numbers, fronts, holders, IsAbove}
-use Rattle.hx_ebtree.specs.Context.{Context, root, on_left, on_right, plug}
+use Rattle.hx_ebtree.specs.ShapeContext.{ShapeContext, root, on_left, on_right, plug}
 use Rattle.hx_ebtree.proofs.KeyedLemmas.{front_number}
 
 -- a node whose branch part is in use is the first of its chain
@@ -18,13 +18,13 @@ holder_front (fork h sh l r) k above (inr q) = elim (in_either (holders l) (hold
 pub holder_number : (s : Shape) (k : ℕ) → IsAbove s → IsIn k (holders s) → IsIn k (numbers s)
 holder_number s k above q = front_number s k (holder_front s k above q)
 
-pub above_hole : (c : Context) (s : Shape) → IsAbove (plug c s) → IsAbove s
+pub above_hole : (c : ShapeContext) (s : Shape) → IsAbove (plug c s) → IsAbove s
 above_hole root s a = a
 above_hole (on_left c h sh r) s a = (above_hole c (fork h sh s r) a).1
 above_hole (on_right c h sh l) s a = (above_hole c (fork h sh l s) a).2
 
 -- no first node is lost
-pub above_replace : (c : Context) (s t : Shape) → IsAbove (plug c s) → IsAbove t → ((k : ℕ) → IsIn k (fronts s) → IsIn k (fronts t)) → IsAbove (plug c t)
+pub above_replace : (c : ShapeContext) (s t : Shape) → IsAbove (plug c s) → IsAbove t → ((k : ℕ) → IsIn k (fronts s) → IsIn k (fronts t)) → IsAbove (plug c t)
 above_replace root s t a b sub = b
 above_replace (on_left c h sh r) s t a b sub =
     let old = above_hole c (fork h sh s r) a in

@@ -1,8 +1,8 @@
 pub mod Bits
-pub mod Pairs
+pub mod KeyList
 pub mod Node
 pub mod Shape
-pub mod Context
+pub mod ShapeContext
 pub mod Change
 pub mod Tree
 pub mod Seat

@@ -8,11 +8,11 @@ use Rattle.hx_ebtree.specs.declared.node.Down.{Down}
 use Rattle.hx_ebtree.specs.declared.node.Down.TheVariants.{Leaf, Branch}
 use Rattle.hx_ebtree.specs.declared.node.Up.{Up}
 use Rattle.hx_ebtree.specs.declared.node.Branch.{Branch as Fork}
-use Rattle.hx_ebtree.specs.Pairs.{Pairs, numbers_of}
+use Rattle.hx_ebtree.specs.KeyList.{KeyList, numbers_of}
 use Rattle.hx_ebtree.specs.Shape.{Shape, leaf, fork, pairs_of, numbers, fronts, holders}
 use Rattle.hx_ebtree.specs.Shape.{IsKeyed, IsSound, LeafPart, Leaves, Forks, links_in, key_in}
 use Rattle.hx_ebtree.specs.Shape.{left_of, right_of}
-use Rattle.hx_ebtree.specs.Context.{Context, plug, hole_up, SurroundsAt}
+use Rattle.hx_ebtree.specs.ShapeContext.{ShapeContext, plug, hole_up, SurroundsAt}
 use Rattle.hx_ebtree.specs.Change.{up_in, SetsUp, SetsDown, SetsBranch, PutsChain, SetsFirst}
 use Rattle.hx_ebtree.specs.Tree.{HangsAtRoot, IsIdle, StandsAs}
 
@@ -83,15 +83,15 @@ other_of true part = part.left
 
 -- the node is the first of its key in a tree that stands for the pairs
 pub record IsFirst (f : Leaves) (g : Forks) (root : Option Down)
-    (id : ℕ) (pairs : Pairs) : Type 0 where
+    (id : ℕ) (pairs : KeyList) : Type 0 where
   pub whole : Shape
   pub stands : StandsAs f g root (Some whole) pairs
   pub first : IsIn id (fronts whole)
 
 -- what is around the leaf of `id` hangs at the root, and the leaf, which is alone, hung at `up`
 pub record IsGap (f : Leaves) (g : Forks) (root : Option Down)
-    (id : ℕ) (up : Option Up) (pairs : Pairs) : Type 0 where
-  pub context : Context
+    (id : ℕ) (up : Option Up) (pairs : KeyList) : Type 0 where
+  pub context : ShapeContext
   pub key : List Bool
   pub up_is : up ≡ hole_up context
   pub around : SurroundsAt f g root context (Leaf id)
@@ -109,7 +109,7 @@ IsAboveBy place (fork h shared l r) = IsIn (place h) (fronts l ++ fronts r)
 -- the shape lies in the slots for the pairs, without the leaf of `id`. The branch part of `id` is
 -- still in use if it was. It stands where that of `y` may stand, which is not in use
 pub record IsDetached (f : Leaves) (g : Forks) (root : Option Down)
-    (id y : ℕ) (s : Shape) (pairs : Pairs) : Type 0 where
+    (id y : ℕ) (s : Shape) (pairs : KeyList) : Type 0 where
   pub hangs : HangsAtRoot f g root (Some s)
   pub keyed : IsKeyed [] s
   pub distinct : AreDistinct (numbers s)
@@ -124,7 +124,7 @@ pub record IsDetached (f : Leaves) (g : Forks) (root : Option Down)
   pub same : (k : List Bool) → numbers_of k pairs ≡ numbers_of k (pairs_of s)
 
 -- the same, or an empty tree, and no branch part of `id` in use
-abbrev pub IsWithout : Leaves → Forks → Option Down → ℕ → ℕ → Option Shape → Pairs → Type 0
+abbrev pub IsWithout : Leaves → Forks → Option Down → ℕ → ℕ → Option Shape → KeyList → Type 0
 IsWithout f g root id y None pairs =
     (root ≡ None) × (g id ≡ None) × ((k : List Bool) → numbers_of k pairs ≡ [])
 IsWithout f g root id y (Some s) pairs = IsDetached f g root id y s pairs

@@ -8,9 +8,9 @@ use Rattle.hx_ebtree.specs.declared.node.Branch.{Branch as Fork}
 use Rattle.hx_ebtree.specs.declared.seek.Seat.{Seat}
 use Rattle.hx_ebtree.specs.declared.seek.Seat.TheVariants.{Same, Beside}
 use Rattle.hx_ebtree.specs.Bits.{code_of, IsPrefix}
-use Rattle.hx_ebtree.specs.Pairs.{Pairs}
+use Rattle.hx_ebtree.specs.KeyList.{KeyList}
 use Rattle.hx_ebtree.specs.Shape.{Shape, leaf, IsKeyed, Leaves, Forks, HangsAt}
-use Rattle.hx_ebtree.specs.Context.{Context, plug, hole_up, hole_shared, SurroundsAt}
+use Rattle.hx_ebtree.specs.ShapeContext.{ShapeContext, plug, hole_up, hole_shared, SurroundsAt}
 use Rattle.hx_ebtree.specs.Tree.{StandsAs}
 
 -- where two codes part, if it is before `limit`
@@ -27,7 +27,7 @@ leaf_seat_of key id up None = Same id
 leaf_seat_of key id up (Some bit) = Beside (Leaf id) up bit (slice_index_or (code_of key) bit false)
 
 -- a shape of the tree, with a hole that `up` is the place of and that `at` points into
-pub record IsHole (f : Leaves) (g : Forks) (root : Option Down) (pairs : Pairs) (c : Context)
+pub record IsHole (f : Leaves) (g : Forks) (root : Option Down) (pairs : KeyList) (c : ShapeContext)
     (s : Shape) (up : Option Up) (at : Down) : Type 0 where
   pub stands : StandsAs f g root (Some (plug c s)) pairs
   pub around : SurroundsAt f g root c at
@@ -35,27 +35,27 @@ pub record IsHole (f : Leaves) (g : Forks) (root : Option Down) (pairs : Pairs) 
   pub up_is : up ≡ hole_up c
 
 -- the search for a key came to a hole
-pub record Reaches (f : Leaves) (g : Forks) (root : Option Down) (pairs : Pairs) (key : List Bool)
+pub record Reaches (f : Leaves) (g : Forks) (root : Option Down) (pairs : KeyList) (key : List Bool)
     (up : Option Up) (at : Down) (depth : ℕ) : Type 0 where
-  pub context : Context
+  pub context : ShapeContext
   pub here : Shape
   pub hole : IsHole f g root pairs context here up at
   pub leads : IsPrefix (hole_shared context) (code_of key)
   pub deep : depth ≡ length (hole_shared context)
 
 -- the leaf of the key
-pub record IsSame (f : Leaves) (g : Forks) (root : Option Down) (pairs : Pairs) (key : List Bool)
+pub record IsSame (f : Leaves) (g : Forks) (root : Option Down) (pairs : KeyList) (key : List Bool)
     (front : ℕ) : Type 0 where
-  pub context : Context
+  pub context : ShapeContext
   pub more : List ℕ
   pub up : Option Up
   pub at : Down
   pub hole : IsHole f g root pairs context (leaf key front more) up at
 
 -- the place of the key's own leaf, beside what is there
-pub record IsBeside (f : Leaves) (g : Forks) (root : Option Down) (pairs : Pairs) (key : List Bool)
-    (at : Down) (up : Option Up) (bit : ℕ) (right : Bool) : Type 0 where
-  pub context : Context
+pub record IsBeside (f : Leaves) (g : Forks) (root : Option Down) (pairs : KeyList)
+    (key : List Bool) (at : Down) (up : Option Up) (bit : ℕ) (right : Bool) : Type 0 where
+  pub context : ShapeContext
   pub here : Shape
   pub hole : IsHole f g root pairs context here up at
   pub shared : List Bool
@@ -64,7 +64,7 @@ pub record IsBeside (f : Leaves) (g : Forks) (root : Option Down) (pairs : Pairs
   pub keyed : IsKeyed (shared ++ not right ∷ []) here
   pub under : IsPrefix (hole_shared context) shared
 
-abbrev pub IsSeat : Leaves → Forks → Option Down → Pairs → List Bool → Option Seat → Type 0
+abbrev pub IsSeat : Leaves → Forks → Option Down → KeyList → List Bool → Option Seat → Type 0
 IsSeat f g root pairs key None = StandsAs f g root None pairs
 IsSeat f g root pairs key (Some (Same front)) = IsSame f g root pairs key front
 IsSeat f g root pairs key (Some (Beside at up bit right)) =

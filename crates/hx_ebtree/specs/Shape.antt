@@ -9,7 +9,7 @@ use Rattle.hx_ebtree.specs.declared.node.Down.TheVariants.{Leaf, Branch}
 use Rattle.hx_ebtree.specs.declared.node.Up.{Up}
 use Rattle.hx_ebtree.specs.declared.node.Branch.{Branch as Fork}
 use Rattle.hx_ebtree.specs.Bits.{code_of, IsPrefix}
-use Rattle.hx_ebtree.specs.Pairs.{Pairs}
+use Rattle.hx_ebtree.specs.KeyList.{KeyList}
 
 pub data Shape : Type 0 where
   -- the key, the number of the first node of it, and those of the others, the older first
@@ -17,12 +17,12 @@ pub data Shape : Type 0 where
   -- the node whose branch part it is, what the codes below begin with, and the two sides
   fork : ℕ → List Bool → Shape → Shape → Shape
 
-abbrev pub with_key : List Bool → List ℕ → Pairs
+abbrev pub with_key : List Bool → List ℕ → KeyList
 with_key key [] = []
 with_key key (id ∷ ids) = (key, id) ∷ with_key key ids
 
 -- the pairs of the leaves
-abbrev pub pairs_of : Shape → Pairs
+abbrev pub pairs_of : Shape → KeyList
 pairs_of (leaf key id more) = with_key key (id ∷ more)
 pairs_of (fork h shared l r) = pairs_of l ++ pairs_of r
 

@@ -7,7 +7,7 @@ use Rattle.hx_ebtree.specs.declared.node.Down.{Down}
 use Rattle.hx_ebtree.specs.declared.node.Node.{Node}
 use Rattle.hx_ebtree.specs.declared.tree.Tree.{Tree}
 use Rattle.hx_ebtree.specs.Node.{key_of, entry_of, value_of}
-use Rattle.hx_ebtree.specs.Pairs.{Pairs, numbers_of}
+use Rattle.hx_ebtree.specs.KeyList.{KeyList, numbers_of}
 use Rattle.hx_ebtree.specs.Shape.{Shape, pairs_of, numbers, holders, IsSound, LeafPart, Leaves, Forks, HangsAt}
 
 module _ {V : Type 0} where
@@ -25,7 +25,7 @@ abbrev pub HangsAtRoot : Leaves → Forks → Option Down → Option Shape → T
 HangsAtRoot f g root None = root ≡ None
 HangsAtRoot f g root (Some s) = (down : Down) × (root ≡ Some down) × HangsAt f g None s down
 
-abbrev pub all_pairs : Option Shape → Pairs
+abbrev pub all_pairs : Option Shape → KeyList
 all_pairs None = []
 all_pairs (Some s) = pairs_of s
 
@@ -40,7 +40,7 @@ IsIdle g (Some s) = (k : ℕ) → IsIn k (numbers s) → (IsIn k (holders s) →
 
 -- a shape lies in the slots, is sound, and has for each key the numbers of the pairs in their order
 pub record StandsAs (f : Leaves) (g : Forks) (root : Option Down) (shape : Option Shape)
-    (pairs : Pairs) : Type 0 where
+    (pairs : KeyList) : Type 0 where
   pub hangs : HangsAtRoot f g root shape
   pub sound : IsSoundOrNone shape
   pub idle : IsIdle g shape
@@ -48,12 +48,12 @@ pub record StandsAs (f : Leaves) (g : Forks) (root : Option Down) (shape : Optio
 
 -- the tree stands in these parts for the pairs, and for each list that differs from them in the
 -- order of unequal keys alone
-pub record StandsIn (f : Leaves) (g : Forks) (t : Tree) (pairs : Pairs) : Type 0 where
+pub record StandsIn (f : Leaves) (g : Forks) (t : Tree) (pairs : KeyList) : Type 0 where
   pub shape : Option Shape
   pub stands : StandsAs f g t.root shape pairs
 
 -- the tree stands in the pool for the pairs
-abbrev pub Stands : {V : Type 0} → Pool (Node V) → Tree → Pairs → Type 0
+abbrev pub Stands : {V : Type 0} → Pool (Node V) → Tree → KeyList → Type 0
 Stands p t pairs = StandsIn (leaves_of p) (forks_of p) t pairs
 
 -- key, entry and value of two nodes are the same

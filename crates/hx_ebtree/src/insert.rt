@@ -8,7 +8,7 @@ ghost use Rattle.hx_ebtree.specs.declared.node.Node.{Node as Entry};
 ghost use Rattle.hx_ebtree.specs.declared.tree.Tree.{Tree as Other};
 ghost use Rattle.hx_ebtree.specs.declared.node.Up.{Up as Place};
 ghost use Rattle.hx_ebtree.specs.Node.{key_of, links_of};
-ghost use Rattle.hx_ebtree.specs.Pairs.{Pairs, IsOff, Lists};
+ghost use Rattle.hx_ebtree.specs.KeyList.{KeyList, IsOff, Lists};
 ghost use Rattle.hx_ebtree.specs.Shape.{LeafPart, links_in};
 ghost use Rattle.hx_ebtree.specs.Tree.{leaves_of, forks_of, KeepsNodes, Stands};
 ghost use Rattle.hx_ebtree.specs.Change.{node_of, fork_of, SetsLeaf, PutsLeaf, Pushes, PutsFork};
@@ -149,18 +149,18 @@ impl Tree {
         steps: &mut Steps<L>,
     )
         requires live { IsLive pool.old id }
-        requires stands { (pairs : Pairs) × Stands pool.old self.old pairs × IsOff id pairs }
-        ensures stands { (pairs : Pairs) (node : Entry V) → Stands pool.old self.old pairs
+        requires stands { (pairs : KeyList) × Stands pool.old self.old pairs × IsOff id pairs }
+        ensures stands { (pairs : KeyList) (node : Entry V) → Stands pool.old self.old pairs
             → IsOff id pairs → get pool.old id ≡ Some node
             → Stands pool.new self.new (pairs ++ (key_of node, id) ∷ []) }
         ensures kept { KeepsNodes pool.old pool.new }
-        ensures others { (pairs : Pairs) → Stands pool.old self.old pairs → IsOff id pairs
+        ensures others { (pairs : KeyList) → Stands pool.old self.old pairs → IsOff id pairs
             → (k : ℕ) → IsOff k pairs → k ≢ id → get pool.new k ≡ get pool.old k }
-        ensures other_trees { (pairs others : Pairs) (t : Other) → Stands pool.old self.old pairs
+        ensures other_trees { (pairs others : KeyList) (t : Other) → Stands pool.old self.old pairs
             → IsOff id pairs → Stands pool.old t others
             → ((k : ℕ) → Lists others k → IsOff k pairs × (k ≢ id)) → Stands pool.new t others }
-        ensures chains { (pairs : Pairs) (c : Links) (xs : List ℕ) → Stands pool.old self.old pairs
-            → IsOff id pairs → LiesIn links_of pool.old c xs
+        ensures chains { (pairs : KeyList) (c : Links) (xs : List ℕ)
+            → Stands pool.old self.old pairs → IsOff id pairs → LiesIn links_of pool.old c xs
             → ((k : ℕ) → IsIn k xs → IsOff k pairs × (k ≢ id)) → LiesIn links_of pool.new c xs }
         ensures cost { (node : Entry V) → get pool.old id ≡ Some node
             → steps.new ≤ steps.old + 2 * length (key_of node) + 9 }

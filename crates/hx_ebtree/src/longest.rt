@@ -1,7 +1,7 @@
 //! The longest prefix of a key.
 ghost use Rattle.std.specs.Prelude.{◌≡◌, ◌+◌, ◌*◌, ◌≤◌, length};
 ghost use Rattle.hx_ebtree.specs.Bits.{bits_of, split_of};
-ghost use Rattle.hx_ebtree.specs.Pairs.{Pairs, longest_of};
+ghost use Rattle.hx_ebtree.specs.KeyList.{KeyList, longest_of};
 ghost use Rattle.hx_ebtree.specs.Tree.{leaves_of, forks_of, Stands};
 ghost use Rattle.hx_ebtree.specs.Seat.{split_before_of, side_of, better_of, leaf_longest_of};
 
@@ -54,8 +54,8 @@ impl Tree {
         steps: &mut Steps<L>,
     ) -> Option<usize>
         requires bits { bits ≤ 8 * length key.now }
-        requires stands { (pairs : Pairs) × Stands pool.now self.now pairs }
-        ensures found { (pairs : Pairs) → Stands pool.now self.now pairs
+        requires stands { (pairs : KeyList) × Stands pool.now self.now pairs }
+        ensures found { (pairs : KeyList) → Stands pool.now self.now pairs
             → result ≡ longest_of pairs (bits_of key.now bits) }
         ensures cost { steps.new ≤ steps.old + 2 * bits + 2 }
     {

@@ -5,7 +5,7 @@ ghost use Rattle.hx_pool.specs.Chain.{IsIn, LiesIn};
 ghost use Rattle.hx_pool.specs.declared.chain.Chain.{Chain};
 ghost use Rattle.hx_ebtree.specs.declared.tree.Tree.{Tree as Other};
 ghost use Rattle.hx_ebtree.specs.Node.{links_of};
-ghost use Rattle.hx_ebtree.specs.Pairs.{Pairs, IsOff, Lists, without};
+ghost use Rattle.hx_ebtree.specs.KeyList.{KeyList, IsOff, Lists, without};
 ghost use Rattle.hx_ebtree.specs.Tree.{KeepsNodes, Stands};
 ghost use Rattle.hx_ebtree.specs.Change.{node_of};
 
@@ -32,20 +32,21 @@ impl Tree {
         pool: &mut Pool<Node<V>>,
         steps: &mut Steps<L>,
     ) -> Option<usize>
-        requires { (pairs : Pairs) × Stands pool.old self.old pairs }
-        ensures none { (pairs : Pairs) → Stands pool.old self.old pairs → result ≡ None
+        requires { (pairs : KeyList) × Stands pool.old self.old pairs }
+        ensures none { (pairs : KeyList) → Stands pool.old self.old pairs → result ≡ None
             → (pairs ≡ []) × Stands pool.new self.new [] }
-        ensures some { (pairs : Pairs) (id : ℕ) → Stands pool.old self.old pairs → result ≡ Some id
+        ensures some { (pairs : KeyList) (id : ℕ)
+            → Stands pool.old self.old pairs → result ≡ Some id
             → Lists pairs id × Stands pool.new self.new (without id pairs) }
         ensures kept { KeepsNodes pool.old pool.new }
-        ensures others { (pairs : Pairs) → Stands pool.old self.old pairs
+        ensures others { (pairs : KeyList) → Stands pool.old self.old pairs
             → (k : ℕ) → IsOff k pairs → get pool.new k ≡ get pool.old k }
-        ensures other_trees { (pairs others : Pairs) (t : Other) → Stands pool.old self.old pairs
+        ensures other_trees { (pairs others : KeyList) (t : Other) → Stands pool.old self.old pairs
             → Stands pool.old t others → ((k : ℕ) → Lists others k → IsOff k pairs)
             → Stands pool.new t others }
-        ensures chains { (pairs : Pairs) (c : Chain) (xs : List ℕ) → Stands pool.old self.old pairs
-            → LiesIn links_of pool.old c xs → ((k : ℕ) → IsIn k xs → IsOff k pairs)
-            → LiesIn links_of pool.new c xs }
+        ensures chains { (pairs : KeyList) (c : Chain) (xs : List ℕ)
+            → Stands pool.old self.old pairs → LiesIn links_of pool.old c xs
+            → ((k : ℕ) → IsIn k xs → IsOff k pairs) → LiesIn links_of pool.new c xs }
         ensures cost { steps.new ≤ steps.old + 16 }
     {
         match self.root {

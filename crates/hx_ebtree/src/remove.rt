@@ -7,7 +7,7 @@ ghost use Rattle.hx_pool.specs.declared.chain.Chain.{Chain as LinkChain};
 ghost use Rattle.hx_ebtree.specs.declared.tree.Tree.{Tree as Other};
 ghost use Rattle.hx_ebtree.specs.Node.{links_of};
 ghost use Rattle.hx_ebtree.specs.declared.node.Up.{Up as Place};
-ghost use Rattle.hx_ebtree.specs.Pairs.{Pairs, IsOff, Lists, without};
+ghost use Rattle.hx_ebtree.specs.KeyList.{KeyList, IsOff, Lists, without};
 ghost use Rattle.hx_ebtree.specs.Shape.{Shape, LeafPart, links_in};
 ghost use Rattle.hx_ebtree.specs.Tree.{leaves_of, forks_of, KeepsNodes, Stands};
 ghost use Rattle.hx_ebtree.specs.Change.{node_of};
@@ -172,15 +172,15 @@ impl Tree {
         steps: &mut Steps<L>,
     ) -> usize
         requires live { IsLive pool.old id }
-        requires gap { (pairs : Pairs)
+        requires gap { (pairs : KeyList)
             × IsGap (leaves_of pool.old) (forks_of pool.old) self.old.root id up pairs }
-        ensures without { (pairs : Pairs)
+        ensures without { (pairs : KeyList)
             → IsGap (leaves_of pool.old) (forks_of pool.old) self.old.root id up pairs
             → (shape : Option Shape) × IsWithout (leaves_of pool.new) (forks_of pool.new)
             self.new.root id result shape (without id pairs) }
         ensures live { IsLive pool.new result }
         ensures kept { KeepsNodes pool.old pool.new }
-        ensures others { (pairs : Pairs)
+        ensures others { (pairs : KeyList)
             → IsGap (leaves_of pool.old) (forks_of pool.old) self.old.root id up pairs
             → (k : ℕ) → IsOff k pairs → get pool.new k ≡ get pool.old k }
         ensures cost { steps.new ≤ steps.old + 4 }
@@ -209,15 +209,15 @@ impl Tree {
         id: usize,
         steps: &mut Steps<L>,
     ) -> usize
-        requires { (pairs : Pairs)
+        requires { (pairs : KeyList)
             × IsFirst (leaves_of pool.old) (forks_of pool.old) self.old.root id pairs }
-        ensures without { (pairs : Pairs)
+        ensures without { (pairs : KeyList)
             → IsFirst (leaves_of pool.old) (forks_of pool.old) self.old.root id pairs
             → (shape : Option Shape) × IsWithout (leaves_of pool.new) (forks_of pool.new)
             self.new.root id result shape (without id pairs) }
         ensures live { IsLive pool.new result }
         ensures kept { KeepsNodes pool.old pool.new }
-        ensures others { (pairs : Pairs)
+        ensures others { (pairs : KeyList)
             → IsFirst (leaves_of pool.old) (forks_of pool.old) self.old.root id pairs
             → (k : ℕ) → IsOff k pairs → get pool.new k ≡ get pool.old k }
         ensures cost { steps.new ≤ steps.old + 9 }
@@ -243,13 +243,13 @@ impl Tree {
     )
         requires a { IsLive pool.old a }
         requires b { IsLive pool.old b }
-        requires without { (shape : Option Shape) × (pairs : Pairs)
+        requires without { (shape : Option Shape) × (pairs : KeyList)
             × IsWithout (leaves_of pool.old) (forks_of pool.old) self.old.root a b shape pairs }
-        ensures stands { (shape : Option Shape) (pairs : Pairs)
+        ensures stands { (shape : Option Shape) (pairs : KeyList)
             → IsWithout (leaves_of pool.old) (forks_of pool.old) self.old.root a b shape pairs
             → Stands pool.new self.new pairs }
         ensures kept { KeepsNodes pool.old pool.new }
-        ensures others { (shape : Option Shape) (pairs : Pairs)
+        ensures others { (shape : Option Shape) (pairs : KeyList)
             → IsWithout (leaves_of pool.old) (forks_of pool.old) self.old.root a b shape pairs
             → (k : ℕ) → IsOff k pairs → k ≢ a → get pool.new k ≡ get pool.old k }
         ensures cost { steps.new ≤ steps.old + 6 }
@@ -267,13 +267,13 @@ impl Tree {
         id: usize,
         steps: &mut Steps<L>,
     )
-        requires { (pairs : Pairs)
+        requires { (pairs : KeyList)
             × IsFirst (leaves_of pool.old) (forks_of pool.old) self.old.root id pairs }
-        ensures stands { (pairs : Pairs)
+        ensures stands { (pairs : KeyList)
             → IsFirst (leaves_of pool.old) (forks_of pool.old) self.old.root id pairs
             → Stands pool.new self.new (without id pairs) }
         ensures kept { KeepsNodes pool.old pool.new }
-        ensures others { (pairs : Pairs)
+        ensures others { (pairs : KeyList)
             → IsFirst (leaves_of pool.old) (forks_of pool.old) self.old.root id pairs
             → (k : ℕ) → IsOff k pairs → get pool.new k ≡ get pool.old k }
         ensures cost { steps.new ≤ steps.old + 15 }
@@ -289,16 +289,16 @@ impl Tree {
         id: usize,
         steps: &mut Steps<L>,
     )
-        requires { (pairs : Pairs) × Stands pool.old self.old pairs × Lists pairs id }
-        ensures stands { (pairs : Pairs) → Stands pool.old self.old pairs → Lists pairs id
+        requires { (pairs : KeyList) × Stands pool.old self.old pairs × Lists pairs id }
+        ensures stands { (pairs : KeyList) → Stands pool.old self.old pairs → Lists pairs id
             → Stands pool.new self.new (without id pairs) }
         ensures kept { KeepsNodes pool.old pool.new }
-        ensures others { (pairs : Pairs) → Stands pool.old self.old pairs → Lists pairs id
+        ensures others { (pairs : KeyList) → Stands pool.old self.old pairs → Lists pairs id
             → (k : ℕ) → IsOff k pairs → get pool.new k ≡ get pool.old k }
-        ensures other_trees { (pairs others : Pairs) (t : Other) → Stands pool.old self.old pairs
+        ensures other_trees { (pairs others : KeyList) (t : Other) → Stands pool.old self.old pairs
             → Lists pairs id → Stands pool.old t others
             → ((k : ℕ) → Lists others k → IsOff k pairs) → Stands pool.new t others }
-        ensures chains { (pairs : Pairs) (c : LinkChain) (xs : List ℕ)
+        ensures chains { (pairs : KeyList) (c : LinkChain) (xs : List ℕ)
             → Stands pool.old self.old pairs → Lists pairs id → LiesIn links_of pool.old c xs
             → ((k : ℕ) → IsIn k xs → IsOff k pairs) → LiesIn links_of pool.new c xs }
     {

@@ -2,7 +2,7 @@
 ghost use Rattle.std.specs.Prelude.{◌≡◌, ◌+◌, ◌*◌, ◌<◌, ◌≤◌, List, Bool, ℕ, None, length};
 ghost use Rattle.std.specs.Option.{ForSome};
 ghost use Rattle.hx_ebtree.specs.Bits.{bits_of, split_of};
-ghost use Rattle.hx_ebtree.specs.Pairs.{Pairs};
+ghost use Rattle.hx_ebtree.specs.KeyList.{KeyList};
 ghost use Rattle.hx_ebtree.specs.Tree.{leaves_of, forks_of, Stands};
 ghost use Rattle.hx_ebtree.specs.Seat.{split_before_of, side_of, leaf_seat_of, IsSeat};
 
@@ -80,8 +80,8 @@ impl Tree {
         steps: &mut Steps<L>,
     ) -> Option<Seat>
         requires bits { bits ≤ 8 * length key.now }
-        requires stands { (pairs : Pairs) × Stands pool.now self.now pairs }
-        ensures seat { (pairs : Pairs) → Stands pool.now self.now pairs
+        requires stands { (pairs : KeyList) × Stands pool.now self.now pairs }
+        ensures seat { (pairs : KeyList) → Stands pool.now self.now pairs
             → IsSeat (leaves_of pool.now) (forks_of pool.now) self.now.root pairs
             (bits_of key.now bits) result }
         ensures cost { steps.new ≤ steps.old + 2 * bits + 2 }

@@ -19,14 +19,14 @@ struct Entries {
 
 impl Model for Entries {
     ghost use Rattle.std.specs.Prelude.{ℕ};
-    ghost use Rattle.hx_ebtree.specs.Pairs.{Pairs};
+    ghost use Rattle.hx_ebtree.specs.KeyList.{KeyList};
     ghost use Rattle.hx_ebtree.specs.Tree.{Stands};
 
     ghost Value = { ℕ };
 
     ghost view = { λ entries. entries.pool.spare };
 
-    ghost invariant = { λ entries. (pairs : Pairs) × Stands entries.pool entries.tree pairs };
+    ghost invariant = { λ entries. (pairs : KeyList) × Stands entries.pool entries.tree pairs };
 }
 
 impl Entries {

@@ -1,6 +1,6 @@
 ghost use Rattle.std.specs.Prelude.{◌≡◌, ◌+◌, ◌*◌, ◌≤◌, [], length};
 ghost use Rattle.hx_ebtree.specs.Bits.{bits_of};
-ghost use Rattle.hx_ebtree.specs.Pairs.{Pairs, exact_of};
+ghost use Rattle.hx_ebtree.specs.KeyList.{KeyList, exact_of};
 ghost use Rattle.hx_ebtree.specs.Shape.{Leaves, Forks};
 ghost use Rattle.hx_ebtree.specs.Tree.{Stands, StandsIn};
 ghost use Rattle.hx_ebtree.specs.Seat.{seat_id};
@@ -53,8 +53,8 @@ impl Tree {
         steps: &mut Steps<L>,
     ) -> Option<usize>
         requires bits { bits ≤ 8 * length key.now }
-        requires stands { (pairs : Pairs) × Stands pool.now self.now pairs }
-        ensures found { (pairs : Pairs) → Stands pool.now self.now pairs
+        requires stands { (pairs : KeyList) × Stands pool.now self.now pairs }
+        ensures found { (pairs : KeyList) → Stands pool.now self.now pairs
             → result ≡ exact_of pairs (bits_of key.now bits) }
         ensures cost { steps.new ≤ steps.old + 2 * bits + 2 }
     {

@@ -1,6 +1,6 @@
 use Rattle.std.proofs.Common.{◌++◌, ◌∷◌, [], None}
 use Rattle.hx_ebtree.specs.Node.{key_of}
-use Rattle.hx_ebtree.specs.Pairs.{without}
+use Rattle.hx_ebtree.specs.KeyList.{without}
 use Rattle.hx_ebtree.specs.Tree.{Stands}
 use Rattle.hx_ebtree.proofs.NodeLemmas.{kept_live}
 use Rattle.hx_ebtree.proofs.FrameLemmas.{tree_frame, tree_updated, free_off, listed_live, gone_off, last_listed}

@@ -1,5 +1,5 @@
 use Rattle.std.proofs.Common.{None}
-use Rattle.hx_ebtree.specs.Pairs.{without}
+use Rattle.hx_ebtree.specs.KeyList.{without}
 use Rattle.hx_ebtree.proofs.NodeLemmas.{kept_live}
 use Rattle.hx_ebtree.proofs.FrameLemmas.{tree_updated, listed_live, gone_off}
 use Rattle.hx_ebtree.proofs.tests.Entries.pop.Goals as goal

@@ -1,6 +1,6 @@
 use Rattle.std.proofs.Common.{None, sym, ◌∙◌}
 use Rattle.hx_ebtree.specs.Bits.{bits_of}
-use Rattle.hx_ebtree.specs.Pairs.{without}
+use Rattle.hx_ebtree.specs.KeyList.{without}
 use Rattle.hx_ebtree.proofs.NodeLemmas.{kept_live}
 use Rattle.hx_ebtree.proofs.FrameLemmas.{tree_updated, listed_live, exact_listed, gone_off}
 use Rattle.hx_ebtree.proofs.tests.Entries.take_out.Goals as goal

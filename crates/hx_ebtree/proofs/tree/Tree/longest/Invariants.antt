@@ -1,13 +1,13 @@
 use Rattle.std.proofs.Common.{◌+◌, ◌-◌, ◌*◌, ◌≤◌}
 use Rattle.hx_ebtree.specs.Bits.{bits_of}
-use Rattle.hx_ebtree.specs.Pairs.{Pairs}
+use Rattle.hx_ebtree.specs.KeyList.{KeyList}
 use Rattle.hx_ebtree.specs.Tree.{leaves_of, forks_of, Stands}
 use Rattle.hx_ebtree.proofs.LongestSteps.{IsOnWay}
 use Rattle.hx_ebtree.proofs.tree.Tree.longest.Given as goal
 
 abbrev pub invariant-loop-at : goal.invariant-loop-at
 invariant-loop-at g l = record {
-  reached : (pairs : Pairs) → Stands l.pool l.self pairs → IsOnWay (leaves_of l.pool) (forks_of l.pool) l.self.root pairs (bits_of l.key l.bits) l.at l.depth l.best;
+  reached : (pairs : KeyList) → Stands l.pool l.self pairs → IsOnWay (leaves_of l.pool) (forks_of l.pool) l.self.root pairs (bits_of l.key l.bits) l.at l.depth l.best;
   depth : l.depth ≤ 2 * l.bits + 1;
   cost : l.steps ≤ l.fn.steps + l.depth;
 }

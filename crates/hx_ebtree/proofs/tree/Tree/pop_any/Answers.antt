@@ -1,5 +1,5 @@
 use Rattle.std.proofs.Common.{◌≡◌, None, refl, subst}
-use Rattle.hx_ebtree.specs.Pairs.{Lists, without}
+use Rattle.hx_ebtree.specs.KeyList.{Lists, without}
 use Rattle.hx_ebtree.specs.Tree.{Stands}
 use Rattle.hx_ebtree.proofs.NodeLemmas.{kept_self}
 use Rattle.hx_ebtree.proofs.DetachLemmas.{first_listed}

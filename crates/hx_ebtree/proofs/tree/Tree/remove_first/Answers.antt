@@ -1,5 +1,5 @@
 use Rattle.std.proofs.Common.{◌∙◌}
-use Rattle.hx_ebtree.specs.Pairs.{without}
+use Rattle.hx_ebtree.specs.KeyList.{without}
 use Rattle.hx_ebtree.proofs.NodeLemmas.{kept_on, kept_live}
 use Rattle.hx_ebtree.proofs.RemoveLemmas.{off_without}
 use Rattle.hx_ebtree.proofs.DetachLemmas.{first_lies, first_other, leaf_live}
