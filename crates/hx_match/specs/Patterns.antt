@@ -11,6 +11,7 @@ use Rattle.hx_outside.specs.declared.pattern_fault.PatFault.{PatFault}
 use Rattle.hx_outside.specs.declared.pattern_fault.PatFault.TheVariants.{BadInt, BadRange, BadAddress, BadHex, BadRegex, TooLarge, NotUtf8, NoMemory}
 use Rattle.hx_text.specs.declared.kinds.By.{By}
 use Rattle.hx_text.specs.declared.kinds.By.TheVariants as by
+use Rattle.hx_text.specs.declared.network.Net.{Net}
 use Rattle.hx_text.specs.Network.{net_of}
 use Rattle.hx_sample.specs.Keys.{Range, range_of}
 
@@ -19,6 +20,11 @@ pub record PatternText : Type 0 where
   pub by : By
   pub ci : Bool
   pub text : List ℕ
+
+-- the network that the text of a pattern writes, by the method that looks at addresses
+abbrev pub pattern_network : By → List ℕ → Option Net
+pattern_network by.Ip text = net_of text
+pattern_network _ text = None
 
 -- ---- why a text is no pattern
 

@@ -1,5 +1,8 @@
+ghost use Rattle.std.specs.Prelude.{◌≡◌};
+ghost use Rattle.hx_match.specs.Patterns.{pattern_network};
+
 use crate::form::Form;
-use hx_text::Octets;
+use hx_text::{Net, Octets};
 use std::marker::Model;
 
 /// A text as a pattern of a match method, read once. Contracts see it as its method, its case and
@@ -25,4 +28,17 @@ impl Model for Pattern {
     } };
 
     ghost invariant = { λ pattern. IsRead pattern.ci pattern.text pattern.form };
+}
+
+impl Pattern {
+    /// The network that the text of a pattern of `Ip` writes. None exactly for a pattern of another
+    /// method.
+    pub fn network(&self) -> Option<Net>
+        ensures { result ≡ pattern_network self.now.by self.now.text }
+    {
+        match &self.form {
+            Form::Ip(net) => Some(*net),
+            _ => None,
+        }
+    }
 }
