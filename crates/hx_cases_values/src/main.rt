@@ -5,14 +5,16 @@
 mod expressions;
 mod makers;
 mod mapped;
-mod maps;
+mod methods;
 mod patterns;
+mod references;
 mod texts;
 
 use crate::expressions::{compile_case, conv_case, statement_case, value_case};
 use crate::makers::{expand_case, large_case, make_case, makes_case, pattern_codes_case};
 use crate::mapped::mapped_case;
 use crate::patterns::hits_case;
+use crate::references::added_case;
 use crate::texts::texts_case;
 use hx_cases_base::{Calls, CaseFault, State, answers, connection_case, request_case, vars_case};
 use hx_outside::{StdSink, StdSource, read_to_end, write_all};
@@ -63,6 +65,7 @@ fn maker_call(
         b"pattern_codes" => pattern_codes_case(out, args),
         b"texts" => texts_case(out, args),
         b"hits" => hits_case(alloc, out, args),
+        b"added" => added_case(alloc, out, args),
         _ => Err(CaseFault::UnknownCall),
     }
 }

@@ -1,34 +1,11 @@
 //! Calls of hx_match.
 
-ghost use Rattle.std.specs.Prelude.{◌≢◌, IfOk};
-
 use crate::makers::show_fault;
+use crate::methods::method;
 use hx_cases_base::{CaseFault, sample};
 use hx_match::{Pattern, hits, parse};
 use hx_outside::PlainMaker;
-use hx_text::By;
 use std::alloc::Global;
-
-/// The match method of patterns that is named so.
-fn method(text: &[u8]) -> Result<By, CaseFault>
-    ensures found { IfOk result (λ by. by ≢ By.Found) }
-    ensures bool { IfOk result (λ by. by ≢ By.Bool) }
-{
-    match text {
-        b"int" => Ok(By::Int),
-        b"len" => Ok(By::Len),
-        b"ip" => Ok(By::Ip),
-        b"bin" => Ok(By::Bin),
-        b"str" => Ok(By::Str),
-        b"beg" => Ok(By::Beg),
-        b"end" => Ok(By::End),
-        b"sub" => Ok(By::Sub),
-        b"dir" => Ok(By::Dir),
-        b"dom" => Ok(By::Dom),
-        b"reg" => Ok(By::Reg),
-        _ => Err(CaseFault::BadArguments),
-    }
-}
 
 fn show_hits(
     alloc: Global,

@@ -1,0 +1,175 @@
+-- What the code keeps of references stays as it is kept, and is shown as it is changed.
+use Rattle.std.proofs.Common.{◌≡◌, ◌≢◌, ℕ, ◌<◌, ◌==◌, Bool, true, false, List, [], ◌∷◌, ◌++◌, length, refl, ap, ◌∙◌, arith, inl, inr, length-append, length-set}
+use Rattle.std.specs.Prelude.{Option, None, Some, is_some, option_map, slice_get, slice_index_or, slice_set}
+use Rattle.std.proofs.lemmas.Bool.{cases_Bool, eqb-true, eqb-false, cases_lt}
+use Rattle.std.proofs.lemmas.List.{map-set}
+use Rattle.std.proofs.Math.Seq.{map-set_same}
+use Rattle.std.proofs.lemmas.Option.{slice_get-map, slice_get_past, slice_get_read, get_or_from_slice_get}
+use Rattle.hx_text.specs.declared.kinds.By.{By}
+use Rattle.hx_text.specs.declared.kinds.By.TheVariants as by
+use Rattle.hx_match.specs.Patterns.{PatternText}
+use Rattle.hx_sample.specs.declared.sample.Value.{Value}
+use Rattle.hx_sample.specs.Find.{found_entry, Entry}
+use Rattle.hx_sample.specs.Tables.{found_at, TableHead}
+use Rattle.hx_refs.specs.Kept.{kept_uses, shown_entries, shown_references, AreKept, AreRead, AreReadAt, IsKept, Kept, TakePatterns}
+use Rattle.hx_refs.specs.References.{changed_at, searched_lists, version_entries, Reference}
+use Rattle.hx_refs.specs.declared.limits.Limits.{Limits}
+use Rattle.hx_refs.specs.Uses.{use_with, uses_of, Use}
+use Rattle.hx_refs.specs.declared.stored.Stored.{Stored}
+use Rattle.hx_refs.proofs.ListLemmas.{get_last, get_more, get_past, get_set_other, get_set_same}
+use Rattle.hx_refs.proofs.UseLemmas.{known_use, use_is, uses_of_more, uses_of_others}
+
+-- ---- uses
+
+more_methods : (uses : List Use) (u : Use) → u.by ≢ by.Found → u.by ≢ by.Bool → TakePatterns uses
+    → TakePatterns (uses ++ u ∷ [])
+more_methods [] u found bool methods = (found, bool, tt)
+more_methods (v ∷ uses) u found bool methods =
+    (methods.0, methods.1, more_methods uses u found bool methods.2)
+
+none_read : (uses : List Use) (entries : List Stored) → shown_entries entries ≡ [] → AreRead uses entries
+none_read uses [] none = tt
+none_read uses (stored ∷ entries) none = absurd (cc)
+
+-- a use may be added where there is no entry
+pub kept_with_use : (uses : List Use) (entries : List Stored) (u : Use) → u.by ≢ by.Found → u.by ≢ by.Bool
+    → shown_entries entries ≡ [] → IsKept uses entries → IsKept (uses ++ u ∷ []) entries
+kept_with_use uses entries u found bool none kept = record {
+  methods = more_methods uses u found bool kept.methods;
+  read = none_read (uses ++ u ∷ []) entries none;
+}
+
+-- the patterns at the place of a use are by its method and with its case
+pub read_at : (uses : List Use) (place : ℕ) (u : Use) (entries : List Stored) → slice_get uses place ≡ Some u
+    → AreRead uses entries → AreReadAt (record { by = u.by; ci = u.ci; place = place }) entries
+read_at uses place u [] is read = tt
+read_at uses place u (stored ∷ entries) is read =
+    (rw (read.0, slice_get-map {A = Use} {B = PatternText} (λ v. record { by = v.by; ci = v.ci; text = stored.key }) uses place, is) refl, read_at uses place u entries is read.1)
+
+pub search_reads : (uses : List Use) (entries : List Stored) (method : By) (ci : Bool) (place : ℕ)
+    → is_some (use_with method ci uses) ≡ true → slice_get uses place ≡ use_with method ci uses
+    → AreRead uses entries → AreReadAt (record { by = method; ci = ci; place = place }) entries
+search_reads uses entries method ci place some is read = go (use_with method ci uses) refl some
+  where
+    go : (found : Option Use) → use_with method ci uses ≡ found → is_some found ≡ true
+        → AreReadAt (record { by = method; ci = ci; place = place }) entries
+    go None here none = absurd (cc)
+    go (Some u) here _ =
+        let same = use_is method ci uses u here in
+        rw (same.0, same.1) at (read_at uses place u entries (is ∙ here) read)
+
+-- ---- the reference at a position
+
+-- a change of a reference is shown as one
+pub changed_shown : (kept : List Kept) (r : ℕ) (k new : Kept) (change : Reference → Reference)
+    → r < length kept → k ≡ slice_index_or kept r k → new.shown ≡ change k.shown
+    → shown_references (slice_set kept r new) ≡ changed_at r change (shown_references kept)
+changed_shown kept r k new change within is same =
+    let found : slice_get kept r ≡ Some k = slice_get_read kept (length kept) r k refl within is in
+    rw (map-set (λ l. l.shown) kept r new, slice_get-map (λ l. l.shown) kept r, found, same) refl
+
+-- a change that isn't shown
+pub shown_same : (kept : List Kept) (r : ℕ) (k new : Kept) → k ≡ slice_index_or kept r k → new.shown ≡ k.shown
+    → shown_references (slice_set kept r new) ≡ shown_references kept
+shown_same kept r k new is same =
+    map-set_same (λ l. l.shown) kept r new k (same ∙ ap (λ l. l.shown) is)
+
+-- the reference of a head keeps a use of it
+pub known_at : (heads : List TableHead) (kept : List Kept) (i : ℕ) (h : TableHead) (k : Kept) → AreKept heads kept
+    → i < length heads → h ≡ slice_index_or heads i h → k ≡ slice_index_or kept h.list k
+    → (slice_get kept h.list ≡ Some k) × (is_some (use_with h.by h.ci k.uses) ≡ true)
+known_at heads kept i h k all within read is = go (slice_get kept h.list) refl
+  where
+    some : is_some (use_with h.by h.ci (kept_uses kept h.list)) ≡ true
+    some =
+        rw (all.uses h.list) at (known_use 0 heads i h (slice_get_read heads (length heads) i h refl within read))
+
+    impossible : false ≡ true → ⊥
+    impossible e = cc
+
+    go : (found : Option Kept) → slice_get kept h.list ≡ found
+        → (slice_get kept h.list ≡ Some k) × (is_some (use_with h.by h.ci k.uses) ≡ true)
+    go None none = absurd (impossible (rw none at some))
+    go (Some other) here =
+        let same : k ≡ other = is ∙ get_or_from_slice_get kept h.list other k here in
+        rw same (here, rw here at some)
+
+pub reference_within : (heads : List TableHead) (kept : List Kept) (i : ℕ) (h : TableHead) → AreKept heads kept
+    → i < length heads → h ≡ slice_index_or heads i h → h.list < length kept
+reference_within heads kept i h all within read =
+    elim (cases_lt h.list (length kept)) [
+      | inl inside ↦ inside
+      | inr past ↦ absurd (impossible (rw (slice_get_past kept h.list past) at some))
+    ]
+  where
+    some : is_some (use_with h.by h.ci (kept_uses kept h.list)) ≡ true
+    some =
+        rw (all.uses h.list) at (known_use 0 heads i h (slice_get_read heads (length heads) i h refl within read))
+
+    impossible : false ≡ true → ⊥
+    impossible e = cc
+
+pub found_here : (limits : Limits) (heads : List TableHead) (kept : List Kept) (i : ℕ) (h : TableHead) (k : Kept) (v : Value)
+    → i < length heads → h ≡ slice_index_or heads i h → slice_get kept h.list ≡ Some k
+    → found_entry h.by h.ci (version_entries k.shown None) v
+    ≡ found_at heads (searched_lists (record { limits = limits; heads = heads; references = shown_references kept })) i v
+found_here limits heads kept i h k v within read is =
+    let head : slice_get heads i ≡ Some h = slice_get_read heads (length heads) i h refl within read in
+    rw (head, slice_get-map {A = Reference} {B = List Entry} (λ reference. version_entries reference None) (shown_references kept) h.list, slice_get-map {A = Kept} {B = Reference} (λ l. l.shown) kept h.list, is) refl
+
+-- a use that the reference doesn't keep isn't one
+pub no_use : (heads : List TableHead) (kept : List Kept) (r : ℕ) (k : Kept) (method : By) (ci : Bool)
+    → AreKept heads kept → r < length kept → k ≡ slice_index_or kept r k
+    → None ≡ option_map (λ u. u.head) (use_with method ci k.uses) → use_with method ci (uses_of heads r) ≡ None
+no_use heads kept r k method ci all within read none =
+    let found : slice_get kept r ≡ Some k = slice_get_read kept (length kept) r k refl within read in
+    let same : uses_of heads r ≡ k.uses = rw found at (all.uses r) in
+    rw same (go (use_with method ci k.uses) none)
+  where
+    go : (u : Option Use) → None ≡ option_map (λ v. v.head) u → u ≡ None
+    go None e = refl
+    go (Some v) e = absurd (cc)
+
+-- ---- one more reference, one more use
+
+pub kept_with_new : (heads : List TableHead) (kept : List Kept) (new : Kept) → length kept < 65536 → new.uses ≡ []
+    → AreKept heads kept → AreKept heads (kept ++ new ∷ [])
+kept_with_new heads kept new few none all = record {
+  few = rw (length-append kept (new ∷ [])) (omega arith);
+  uses = uses;
+}
+  where
+    uses : (r : ℕ) → uses_of heads r ≡ kept_uses (kept ++ new ∷ []) r
+    uses r = elim (cases_lt r (length kept)) [
+      | inl within ↦ rw (get_more kept new r within) (all.uses r)
+      | inr past ↦ elim (cases_lt (length kept) r) [
+        | inl beyond ↦ rw (get_past kept new r beyond) (rw (slice_get_past kept r past) at (all.uses r))
+        | inr least ↦
+            let here : r ≡ length kept = omega arith in
+            rw here
+            (rw (get_last kept new, none) (rw (slice_get_past kept (length kept) (omega arith)) at (all.uses (length kept))))
+      ]
+    ]
+
+pub kept_after_use : (heads : List TableHead) (kept : List Kept) (r : ℕ) (k new : Kept) (method : By) (ci : Bool)
+    → r < length kept → k ≡ slice_index_or kept r k
+    → new.uses ≡ k.uses ++ record { by = method; ci = ci; head = length heads } ∷ []
+    → AreKept heads kept
+    → AreKept (heads ++ record { by = method; ci = ci; list = r } ∷ []) (slice_set kept r new)
+kept_after_use heads kept r k new method ci within is more all = record {
+  few = rw (length-set kept r new) all.few;
+  uses = uses;
+}
+  where
+    found : slice_get kept r ≡ Some k
+    found = slice_get_read kept (length kept) r k refl within is
+
+    uses : (q : ℕ) → uses_of (heads ++ record { by = method; ci = ci; list = r } ∷ []) q ≡ kept_uses (slice_set kept r new) q
+    uses q = elim (cases_Bool (r == q)) [
+      | inl same ↦
+          let is_q : r ≡ q = eqb-true r q same in
+          rw (uses_of_more heads (record { by = method; ci = ci; list = r }) q, same, ← is_q, all.uses r, found, get_set_same kept r k new found, more) refl
+      | inr other ↦
+          rw (uses_of_others heads (record { by = method; ci = ci; list = r }) q other, get_set_other kept r q new (eqb-false r q other))
+          (all.uses q)
+    ]

@@ -1,0 +1,5 @@
+pub mod ListLemmas
+pub mod UseLemmas
+pub mod KeptLemmas
+pub mod AdditionLemmas
+pub mod LineLemmas

@@ -1,0 +1,25 @@
+use Rattle.std.proofs.Common.{◌≡◌, ◌+◌, ◌++◌, length}
+use Rattle.hx_outside.specs.Makers.{ExpressionText}
+use Rattle.hx_refs.specs.Additions.{new_entries, pairs_fault, PairsAskFor}
+use Rattle.hx_refs.specs.Kept.{kept_demands, shown_entries, AreRead}
+use Rattle.hx_refs.proofs.judging.new_entries.Given as goal
+
+abbrev pub invariant-loop-rest : goal.invariant-loop-rest
+invariant-loop-rest g l =
+    let demands = kept_demands l.reference l.limits in
+    record {
+      entries : shown_entries l.entries.items ++ new_entries 0 l.serial l.rest ≡ new_entries 0 l.fn.serial l.pairs;
+      serial : l.serial + length l.rest ≡ l.fn.serial + length l.pairs;
+      read : AreRead l.reference.uses l.entries.items;
+      fault :
+          pairs_fault demands (record { count = l.count; serial = l.serial }) l.rest
+          ≡ pairs_fault demands (record { count = l.fn.count; serial = l.fn.serial }) l.pairs;
+      asked : (text : ExpressionText)
+          → PairsAskFor demands (record { count = l.count; serial = l.serial }) l.rest text
+          → PairsAskFor demands (record { count = l.fn.count; serial = l.fn.serial }) l.pairs text;
+      too_large : g.M.ReMaker.too_large l.maker ≡ g.M.ReMaker.too_large l.fn.maker;
+      large : g.M.ReMaker.large l.maker ≡ g.M.ReMaker.large l.fn.maker;
+    }
+
+abbrev pub decreases-loop-rest : goal.decreases-loop-rest
+decreases-loop-rest g l = length l.rest

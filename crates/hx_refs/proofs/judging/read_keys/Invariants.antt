@@ -1,0 +1,18 @@
+use Rattle.std.proofs.Common.{◌≡◌, ◌++◌, length}
+use Rattle.hx_outside.specs.Makers.{ExpressionText}
+use Rattle.hx_refs.specs.Additions.{refuses_key, IsReadAs}
+use Rattle.hx_refs.specs.Kept.{pattern_texts, TakePatterns}
+use Rattle.hx_refs.proofs.judging.read_keys.Given as goal
+
+abbrev pub invariant-loop-rest : goal.invariant-loop-rest
+invariant-loop-rest g l = record {
+  methods : TakePatterns l.rest;
+  parsed : l.patterns.items ++ pattern_texts l.rest l.key ≡ pattern_texts l.uses l.key;
+  refused : refuses_key l.rest l.key ≡ refuses_key l.uses l.key;
+  asked : (text : ExpressionText) → IsReadAs l.rest l.key text → IsReadAs l.uses l.key text;
+  too_large : g.M.ReMaker.too_large l.maker ≡ g.M.ReMaker.too_large l.fn.maker;
+  large : g.M.ReMaker.large l.maker ≡ g.M.ReMaker.large l.fn.maker;
+}
+
+abbrev pub decreases-loop-rest : goal.decreases-loop-rest
+decreases-loop-rest g l = length l.rest

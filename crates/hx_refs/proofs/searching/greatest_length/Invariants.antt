@@ -1,0 +1,17 @@
+use Rattle.std.proofs.Common.{◌≡◌, length, max}
+use Rattle.hx_sample.specs.Find.{greatest}
+use Rattle.hx_sample.specs.Seen.{value_of}
+use Rattle.hx_refs.specs.Kept.{hitting, AreReadAt}
+use Rattle.hx_refs.proofs.searching.greatest_length.Given as goal
+
+-- the greatest so far and that of what is left make that of all
+abbrev pub invariant-loop-rest : goal.invariant-loop-rest
+invariant-loop-rest l = record {
+  read : AreReadAt l.search l.rest;
+  found :
+      max l.most (greatest (λ entry. length entry.key) (hitting l.search l.rest (value_of l.sample)))
+      ≡ greatest (λ entry. length entry.key) (hitting l.search l.entries (value_of l.sample));
+}
+
+abbrev pub decreases-loop-rest : goal.decreases-loop-rest
+decreases-loop-rest l = length l.rest

@@ -1,0 +1,7 @@
+-- what callers need
+pub mod References
+pub mod Uses
+pub mod Additions
+pub mod FileLines
+-- views of the code, for the contracts of private functions
+pub mod Kept

@@ -1,0 +1,149 @@
+-- What the references of a configuration are: lists of patterns and maps, with their versions and
+-- entries (HAProxy management guide 2.4, section 9.3, `add acl`, `add map`, `prepare acl`).
+use Rattle.std.specs.Prelude.{◌≡◌, ℕ, ◌+◌, ◌-◌, ◌*◌, ◌^◌, ◌&&◌, nat_le, Bool, true, false, List, [], ◌∷◌, ◌++◌, length, map, sum, slice_get, slice_set, Option, None, Some, IfSome, option_and_then, if◌then◌else◌, ⊤}
+use Rattle.std.specs.Option.{option_map_or}
+use Rattle.hx_text.specs.declared.kinds.Out.{Out}
+use Rattle.hx_text.specs.declared.kinds.Out.TheVariants as out
+use Rattle.hx_sample.specs.Find.{Entry}
+use Rattle.hx_sample.specs.Tables.{TableHead}
+use Rattle.hx_refs.specs.declared.limits.Limits.{Limits}
+use Rattle.hx_refs.specs.declared.info.RefInfo.{RefInfo}
+
+-- the types, beside strings, in which the values of a map are read; any value is a string
+pub record Outputs : Type 0 where
+  pub as_int : Bool
+  pub as_ip : Bool
+
+-- a version of a list: the serial number of the entry that was added last, 0 before the first, and
+-- the entries
+pub record Version : Type 0 where
+  pub serial : ℕ
+  pub entries : List Entry
+
+-- A reference: its number; its file, if it has one; whether its entries have values; whether an ACL
+-- uses it; how its values are read; the number of the version that is searched, and that of the
+-- last one that was prepared; and the versions from the one to the other.
+pub record Reference : Type 0 where
+  pub id : ℕ
+  pub file : Option (List ℕ)
+  pub two_column : Bool
+  pub acl : Bool
+  pub outputs : Outputs
+  pub curr : ℕ
+  pub next : ℕ
+  pub versions : List Version
+
+-- the references in their order, with the heads through which they are searched, and limits
+pub record References : Type 0 where
+  pub limits : Limits
+  pub heads : List TableHead
+  pub references : List Reference
+
+-- ---- parts of a reference
+
+abbrev pub no_outputs : Outputs
+no_outputs = record { as_int = false; as_ip = false }
+
+-- a version to which nothing was added
+abbrev pub empty_version : Version
+empty_version = record { serial = 0; entries = [] }
+
+-- nothing was added to any of the versions
+abbrev pub AreEmpty : List Version → Type 0
+AreEmpty [] = ⊤
+AreEmpty (version ∷ versions) = (version ≡ empty_version) × AreEmpty versions
+
+-- the number of an entry, of its version and its serial number
+abbrev pub entry_number : ℕ → ℕ → ℕ
+entry_number version serial = version * 2 ^ 32 + serial
+
+-- where a version stands among those of a reference: that of a number, or without one that which is
+-- searched; none for a number outside those of its versions
+abbrev pub version_place : Reference → Option ℕ → Option ℕ
+version_place reference None = Some 0
+version_place reference (Some number) =
+    if nat_le reference.curr number && nat_le number reference.next
+    then Some (number - reference.curr) else None
+
+abbrev pub version_of : Reference → Option ℕ → Option Version
+version_of reference number =
+    option_and_then (λ place. slice_get reference.versions place) (version_place reference number)
+
+-- the entries of a version, and none where the reference has no such version
+abbrev pub version_entries : Reference → Option ℕ → List Entry
+version_entries reference number =
+    option_map_or (λ version. version.entries) (version_of reference number) []
+
+-- what is told of a reference; its entries are counted in all versions
+abbrev pub info_of : Reference → RefInfo
+info_of reference = record {
+  id = reference.id;
+  two_column = reference.two_column;
+  acl = reference.acl;
+  curr = reference.curr;
+  next = reference.next;
+  count = sum (map (λ version. length version.entries) reference.versions);
+}
+
+-- ---- parts of the references
+
+-- the entries that are searched, of each reference
+abbrev pub searched_lists : References → List (List Entry)
+searched_lists refs = map (λ reference. version_entries reference None) refs.references
+
+-- the entries of a version of the reference at a position
+abbrev pub entries_in : References → ℕ → Option ℕ → List Entry
+entries_in refs r number =
+    option_map_or (λ reference. version_entries reference number) (slice_get refs.references r) []
+
+-- the file of the reference at a position
+abbrev pub file_of : References → ℕ → Option (List ℕ)
+file_of refs r = option_and_then (λ reference. reference.file) (slice_get refs.references r)
+
+-- nothing was added to the reference at a position
+abbrev pub HasHadNone : References → ℕ → Type 0
+HasHadNone refs r =
+    IfSome (slice_get refs.references r) (λ reference. AreEmpty reference.versions)
+
+-- ---- what additions make of them
+
+-- no references
+abbrev pub no_references : Limits → References
+no_references limits = record { limits = limits; heads = []; references = [] }
+
+-- a reference without outputs and entries
+abbrev pub new_reference : ℕ → Option (List ℕ) → Bool → Bool → Reference
+new_reference id file two_column acl = record {
+  id = id;
+  file = file;
+  two_column = two_column;
+  acl = acl;
+  outputs = no_outputs;
+  curr = 0;
+  next = 0;
+  versions = empty_version ∷ [];
+}
+
+-- the references with one more
+abbrev pub with_new : References → ℕ → Option (List ℕ) → Bool → Bool → References
+with_new refs id file two_column acl =
+    record refs { references = refs.references ++ new_reference id file two_column acl ∷ [] }
+
+-- the list with its item at a position changed
+abbrev pub changed_at : {A : Type 0} → ℕ → (A → A) → List A → List A
+changed_at at change xs = option_map_or (λ x. slice_set xs at (change x)) (slice_get xs at) xs
+
+-- the outputs with one more
+abbrev pub with_output : Out → Outputs → Outputs
+with_output out.Str outputs = outputs
+with_output out.Int outputs = record outputs { as_int = true }
+with_output out.Ip outputs = record outputs { as_ip = true }
+
+-- the references, with one more output of the one at a position
+abbrev pub after_output : References → ℕ → Out → References
+after_output refs r out =
+    record refs {
+      references = changed_at r
+          (λ reference. record reference { outputs = with_output out reference.outputs })
+          refs.references;
+    }
