@@ -1,0 +1,6 @@
+pub mod HoldsLemmas
+pub mod KeyLemmas
+pub mod HeadLemmas
+pub mod LocalLemmas
+pub mod PredefinedLemmas
+pub mod TextLemmas

@@ -1,0 +1,15 @@
+use Rattle.std.specs.Prelude.{◌≡◌, length}
+use Rattle.std.specs.List.{list_any}
+use Rattle.hx_fetch.specs.World.{context_of}
+use Rattle.hx_acl.specs.Matching.{finds_entry, occurrence_matches, test_matches}
+use Rattle.hx_acl.proofs.test.Test.matches.Given as goal
+
+-- an occurrence that is left matches exactly where one of all does
+abbrev pub invariant-loop-occurrence : goal.invariant-loop-occurrence
+invariant-loop-occurrence g l =
+    let heads = g.T.Tables.heads l.tables in
+    let lists = g.T.Tables.lists l.tables in
+    list_any (occurrence_matches l.self.by (finds_entry heads lists l.self.heads)) l.values ≡ test_matches (context_of l.world) heads lists l.self
+
+abbrev pub decreases-loop-occurrence : goal.decreases-loop-occurrence
+decreases-loop-occurrence g l = length l.values

@@ -1,0 +1,86 @@
+-- When a condition holds (HAProxy configuration manual 2.4, section 7.2).
+use Rattle.std.specs.Prelude.{ℕ, Bool, not, ◌&&◌, List, map, if◌then◌else◌, ⊤}
+use Rattle.std.specs.List.{All, list_all, list_any}
+use Rattle.std.specs.Str.{bytes_eq}
+use Rattle.hx_ast.specs.declared.statement.AclUse.{AclUse}
+use Rattle.hx_ast.specs.declared.statement.AclUse.TheVariants as acl_use
+use Rattle.hx_ast.specs.declared.statement.Term.{Term}
+use Rattle.hx_fetch.specs.World.{Context}
+use Rattle.hx_sample.specs.Find.{Entry}
+use Rattle.hx_sample.specs.Tables.{TableHead}
+use Rattle.hx_acl.specs.declared.term.TermAcl.{TermAcl}
+use Rattle.hx_acl.specs.declared.term.TermAcl.TheVariants.{Named, Own}
+use Rattle.hx_acl.specs.declared.term.TestTerm.{TestTerm}
+use Rattle.hx_acl.specs.Matching.{test_matches}
+use Rattle.hx_acl.specs.Predefined.{predefined_matches}
+use Rattle.hx_acl.specs.Tests.{AclTest, HasTestHeads, test_of}
+
+-- ---- conditions
+
+-- the terms of a condition, each with what its ACL tests
+abbrev pub acl_of_use : AclUse → TermAcl
+acl_of_use (acl_use.Named name) = Named name
+acl_of_use (acl_use.Own decl) = Own (test_of decl)
+
+abbrev pub term_of : Term → TestTerm
+term_of term = record { negated = term.negated; acl = acl_of_use term.acl }
+
+abbrev pub terms_of : List (List Term) → List (List TestTerm)
+terms_of cond = map (map term_of) cond
+
+-- the heads of the tests that stand in a condition itself are among these
+abbrev pub HasAclHeads : List TableHead → TermAcl → Type 0
+HasAclHeads heads (Named name) = ⊤
+HasAclHeads heads (Own test) = HasTestHeads heads test
+
+abbrev pub HasCondHeads : List TableHead → List (List TestTerm) → Type 0
+HasCondHeads heads cond = All (All (λ term. HasAclHeads heads term.acl)) cond
+
+-- ---- names
+
+-- a test of the ACL of this name
+abbrev pub is_of : List ℕ → List ℕ × AclTest → Bool
+is_of name declared = bytes_eq declared.0 name
+
+-- whether the ACL of this name is declared
+abbrev pub is_declared : List (List ℕ × AclTest) → List ℕ → Bool
+is_declared acls name = list_any (is_of name) acls
+
+-- whether one of the tests of the ACL of this name matches
+abbrev pub declared_matches :
+    Context → List TableHead → List (List Entry) → List (List ℕ × AclTest) → List ℕ → Bool
+declared_matches context heads lists acls name =
+    list_any (λ declared. is_of name declared && test_matches context heads lists declared.1) acls
+
+-- Whether the ACL of this name holds: one of its tests matches. A name that isn't declared is that
+-- of a predefined ACL.
+abbrev pub name_holds :
+    Context → List TableHead → List (List Entry) → List (List ℕ × AclTest) → List ℕ → Bool
+name_holds context heads lists acls name =
+    if is_declared acls name then declared_matches context heads lists acls name
+    else predefined_matches context name
+
+-- the heads of all tests are among these
+abbrev pub HasAclsHeads : List TableHead → List (List ℕ × AclTest) → Type 0
+HasAclsHeads heads acls = All (λ declared. HasTestHeads heads declared.1) acls
+
+-- ---- what holds
+
+abbrev pub acl_holds :
+    Context → List TableHead → List (List Entry) → List (List ℕ × AclTest) → TermAcl → Bool
+acl_holds context heads lists acls (Named name) = name_holds context heads lists acls name
+acl_holds context heads lists acls (Own test) = test_matches context heads lists test
+
+-- a term holds where its ACL does, and one that is negated where its ACL doesn't
+abbrev pub term_holds :
+    Context → List TableHead → List (List Entry) → List (List ℕ × AclTest) → TestTerm → Bool
+term_holds context heads lists acls term =
+    if term.negated then not (acl_holds context heads lists acls term.acl)
+    else acl_holds context heads lists acls term.acl
+
+-- a condition holds where all terms of one of its conjunctions hold
+abbrev pub cond_holds :
+    Context → List TableHead → List (List Entry) → List (List ℕ × AclTest) → List (List TestTerm)
+    → Bool
+cond_holds context heads lists acls cond =
+    list_any (list_all (term_holds context heads lists acls)) cond

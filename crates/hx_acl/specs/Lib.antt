@@ -1,0 +1,9 @@
+-- what callers need
+pub mod Tests
+pub mod Matching
+pub mod Predefined
+pub mod Holds
+pub mod Typing
+pub mod Expressions
+-- views of the code, for the contracts of private functions
+pub mod PredefinedView

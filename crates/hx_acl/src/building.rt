@@ -1,0 +1,78 @@
+ghost use Rattle.std.specs.Prelude.{◌≡◌, IfOk, OnOk, IsErrOf, true, false, map};
+ghost use Rattle.hx_acl.specs.Expressions.{cond_has_expressions, cond_texts, conj_has_expressions, conj_texts, use_has_expressions, use_texts};
+ghost use Rattle.hx_acl.specs.Holds.{acl_of_use, term_of, terms_of};
+ghost use Rattle.hx_acl.specs.Typing.{is_cond_typed, is_conj_typed, is_use_typed};
+ghost use Rattle.hx_expr.specs.Faults.{CompileCountsLarge, CompileNamesLarge};
+
+use crate::term::{TermAcl, TestTerm};
+use crate::test::build_test;
+use hx_ast::{AclUse, Conj, Items, Term};
+use hx_expr::PlanFault;
+use hx_outside::ReMaker;
+use hx_text::Octets;
+use std::alloc::Global;
+
+/// The ACL of a term, built.
+fn build_acl<M: ReMaker>(alloc: Global, acl: &AclUse, maker: &mut M) -> Result<TermAcl, PlanFault>
+    requires { is_use_typed acl.now ≡ true }
+    ensures built { IfOk result (λ built. built ≡ acl_of_use acl.now) }
+    ensures expressions { OnOk result (use_has_expressions acl.now ≡ true) }
+    ensures typed { ¬ (IsErrOf result PlanFault.BadType) }
+    ensures bad { IsErrOf result PlanFault.BadPattern → use_has_expressions acl.now ≡ false }
+    ensures counted { CompileCountsLarge result (M.too_large maker.old) (M.too_large maker.new) }
+    ensures large { CompileNamesLarge result (use_texts acl.now) (M.large maker.old)
+        (M.large maker.new) }
+{
+    match acl {
+        AclUse::Named(name) => Ok(TermAcl::Named(Octets::copy(alloc, name.as_slice())?)),
+        AclUse::Own(decl) => Ok(TermAcl::Own(build_test(alloc, decl, maker)?)),
+    }
+}
+
+/// The terms of a conjunction, each built, in their order.
+fn build_conj<M: ReMaker>(
+    alloc: Global,
+    conj: &[Term],
+    maker: &mut M,
+) -> Result<Items<TestTerm>, PlanFault>
+    requires { is_conj_typed conj.now ≡ true }
+    ensures built { IfOk result (λ built. built ≡ map term_of conj.now) }
+    ensures expressions { OnOk result (conj_has_expressions conj.now ≡ true) }
+    ensures typed { ¬ (IsErrOf result PlanFault.BadType) }
+    ensures bad { IsErrOf result PlanFault.BadPattern → conj_has_expressions conj.now ≡ false }
+    ensures counted { CompileCountsLarge result (M.too_large maker.old) (M.too_large maker.new) }
+    ensures large { CompileNamesLarge result (conj_texts conj.now) (M.large maker.old)
+        (M.large maker.new) }
+{
+    let mut built = Items::new(alloc);
+    for term in conj {
+        let acl = build_acl(alloc, &term.acl, maker)?;
+        built.push(TestTerm {
+            negated: term.negated,
+            acl,
+        })?;
+    }
+    Ok(built)
+}
+
+/// The conjunctions of a condition, each built, in their order.
+pub(crate) fn build_cond<M: ReMaker>(
+    alloc: Global,
+    cond: &[Conj],
+    maker: &mut M,
+) -> Result<Items<Items<TestTerm>>, PlanFault>
+    requires { is_cond_typed cond.now ≡ true }
+    ensures built { IfOk result (λ built. built ≡ terms_of cond.now) }
+    ensures expressions { OnOk result (cond_has_expressions cond.now ≡ true) }
+    ensures typed { ¬ (IsErrOf result PlanFault.BadType) }
+    ensures bad { IsErrOf result PlanFault.BadPattern → cond_has_expressions cond.now ≡ false }
+    ensures counted { CompileCountsLarge result (M.too_large maker.old) (M.too_large maker.new) }
+    ensures large { CompileNamesLarge result (cond_texts cond.now) (M.large maker.old)
+        (M.large maker.new) }
+{
+    let mut built = Items::new(alloc);
+    for conj in cond {
+        built.push(build_conj(alloc, conj.as_slice(), maker)?)?;
+    }
+    Ok(built)
+}

@@ -1,0 +1,27 @@
+//! ACLs and conditions: what declarations test, and when the conditions of rules hold.
+//!
+//! `specs/Matching.antt` says when a test matches, `specs/Predefined.antt` which ACLs are
+//! predefined, and `specs/Holds.antt` when a condition holds, as the function `cond_holds`.
+//!
+//! ```
+//! let mut acls = AclSet::new(alloc);
+//! acls.declare(b"api", &decl, &mut maker)?; // path_beg /api
+//! let condition = Condition::build(alloc, &cond, &mut maker)?; // api !METH_GET
+//! let world = World { message: &message, conn: &conn, vars: &vars };
+//! let holds = condition.holds(alloc, &acls, &world, &tables, &mut steps)?; // true for a POST
+//! ```
+#![tactic(auto)]
+
+mod acl_set;
+mod building;
+mod condition;
+pub mod laws;
+mod matching;
+mod predefined;
+mod term;
+mod test;
+mod typing;
+
+pub use acl_set::AclSet;
+pub use condition::Condition;
+pub use predefined::is_predefined;

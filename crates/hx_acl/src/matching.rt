@@ -1,0 +1,122 @@
+ghost use Rattle.std.specs.Prelude.{◌≡◌, Bool, false, IfOk};
+ghost use Rattle.std.specs.List.{All};
+ghost use Rattle.std.specs.Option.{option_map_or};
+ghost use Rattle.hx_acl.specs.Matching.{accepts_cast, finds_entry, occurrence_matches, test_matches};
+ghost use Rattle.hx_acl.specs.Tests.{HasTestHeads, TakesHead};
+ghost use Rattle.hx_expr.specs.Values.{IsHeadBy};
+ghost use Rattle.hx_fetch.specs.World.{context_of};
+ghost use Rattle.hx_sample.specs.Cast.{cast_of};
+ghost use Rattle.hx_sample.specs.Keys.{kind_by};
+ghost use Rattle.hx_sample.specs.Seen.{occurrence_value, value_of};
+ghost use Rattle.hx_sample.specs.declared.sample.Value.{Value};
+
+use crate::test::Test;
+use hx_expr::{eval_all, kind_by};
+use hx_fetch::World;
+use hx_pool::Steps;
+use hx_sample::{Sample, Tables, cast};
+use hx_text::{By, Kind, NoMemory};
+use std::alloc::Global;
+use std::sync::ledger::Ledger;
+
+/// Whether an entry is found for the sample under some of the heads.
+fn finds_entry<T: Tables, L: Ledger>(
+    alloc: Global,
+    heads: &[u32],
+    sample: &Sample<'_>,
+    tables: &T,
+    steps: &mut Steps<L>,
+) -> Result<bool, NoMemory>
+    requires { All (TakesHead (T.heads tables.now) (value_of sample.now)) heads.now }
+    ensures { IfOk result (λ found. found
+        ≡ finds_entry (T.heads tables.now) (T.lists tables.now) heads.now (value_of sample.now)) }
+{
+    for head in heads {
+        if tables.find(alloc, *head, sample, steps)?.is_some() {
+            return Ok(true);
+        }
+    }
+    Ok(false)
+}
+
+/// Whether the sample is true, as a boolean.
+fn is_true(alloc: Global, sample: Sample<'_>) -> Result<bool, NoMemory>
+    ensures { (is_hit : Value → Bool) → IfOk result (λ holds. holds
+        ≡ accepts_cast By.Bool is_hit (cast_of (value_of sample.entry) Kind.Bool)) }
+{
+    match cast(alloc, sample, Kind::Bool)? {
+        Some(Sample::Bool(b)) => Ok(b),
+        _ => Ok(false),
+    }
+}
+
+impl Test {
+    /// Whether an entry is found for the sample, as the type that the method looks at.
+    fn finds<T: Tables, L: Ledger>(
+        &self,
+        alloc: Global,
+        sample: Sample<'_>,
+        tables: &T,
+        steps: &mut Steps<L>,
+    ) -> Result<bool, NoMemory>
+        requires { All (λ position. IsHeadBy (T.heads tables.now) position self.now.by)
+            self.now.heads }
+        ensures { IfOk result (λ found. found
+            ≡ option_map_or (finds_entry (T.heads tables.now) (T.lists tables.now) self.now.heads)
+            (cast_of (value_of sample.entry) (kind_by self.now.by)) false) }
+    {
+        match cast(alloc, sample, kind_by(self.by))? {
+            Some(input) => finds_entry(alloc, self.heads.as_slice(), &input, tables, steps),
+            None => Ok(false),
+        }
+    }
+
+    /// Whether the occurrence matches.
+    fn accepts<T: Tables, L: Ledger>(
+        &self,
+        alloc: Global,
+        occurrence: Option<Sample<'_>>,
+        tables: &T,
+        steps: &mut Steps<L>,
+    ) -> Result<bool, NoMemory>
+        requires { All (λ position. IsHeadBy (T.heads tables.now) position self.now.by)
+            self.now.heads }
+        ensures { IfOk result (λ matches. matches
+            ≡ occurrence_matches self.now.by
+            (finds_entry (T.heads tables.now) (T.lists tables.now) self.now.heads)
+            (occurrence_value occurrence.entry)) }
+    {
+        let Some(sample) = occurrence else {
+            return Ok(false);
+        };
+        match self.by {
+            By::Found => Ok(true),
+            By::Bool => is_true(alloc, sample),
+            By::Int | By::Ip | By::Bin | By::Len => self.finds(alloc, sample, tables, steps),
+            By::Str | By::Beg | By::End | By::Sub => self.finds(alloc, sample, tables, steps),
+            By::Dir | By::Dom | By::Reg => self.finds(alloc, sample, tables, steps),
+        }
+    }
+
+    /// Whether some occurrence of the expression matches. The rest are left once one does.
+    pub(crate) fn matches<'w, T: Tables, L: Ledger>(
+        &self,
+        alloc: Global,
+        world: &World<'w>,
+        tables: &'w T,
+        steps: &mut Steps<L>,
+    ) -> Result<bool, NoMemory>
+        requires { HasTestHeads (T.heads tables.now) self.now }
+        ensures { IfOk result (λ matches. matches
+            ≡ test_matches (context_of world.now) (T.heads tables.now) (T.lists tables.now)
+            self.now) }
+    {
+        let mut values = eval_all(alloc, &self.plan, world, tables, steps)?;
+        while let Some(occurrence) = values.take() {
+            if self.accepts(alloc, occurrence, tables, steps)? {
+                return Ok(true);
+            }
+        }
+        Ok(false)
+    }
+}
