@@ -5,3 +5,7 @@ pub mod RoomLemmas
 pub mod ReadBackLemmas
 pub mod HeadLemmas
 pub mod TargetLemmas
+pub mod ExtendLemmas
+pub mod LineLemmas
+pub mod PlaceLemmas
+pub mod TargetEditLemmas

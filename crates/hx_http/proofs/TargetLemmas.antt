@@ -42,7 +42,7 @@ pub query_first : (target : List ℕ)
 query_first target = (cut_at_query target).first
 
 -- the cut is the only one
-query_only : (before : List ℕ) (query : Option (List ℕ))
+pub query_only : (before : List ℕ) (query : Option (List ℕ))
     → list_any (λ b. b == question_mark) before ≡ false
     → (before_query (before ++ query_text query) ≡ before)
     × (query_of (before ++ query_text query) ≡ query)
@@ -55,7 +55,7 @@ query_only before (Some query) first =
 
 -- ---- the path
 
-starts_slash : (path : List ℕ) → starts_with nat_eq path (codes "/") ≡ true
+pub starts_slash : (path : List ℕ) → starts_with nat_eq path (codes "/") ≡ true
     → path ≡ slash ∷ drop 1 path
 starts_slash path starts = (starts_is Decides-eqb path (codes "/") _ refl).0 starts
 

@@ -37,3 +37,43 @@ impl From<NoMemory> for HeadFault {
         HeadFault::NoMemory
     }
 }
+
+/// Why an edit of a message was refused.
+#[derive(Clone, Copy, Debug, PartialEq, Eq, Error)]
+pub enum EditFault {
+    /// The text has a byte that may not stand where it is to stand, or isn't of the form that it
+    /// needs there.
+    #[error("bytes that are not allowed")]
+    BadBytes,
+    /// The message would have more header lines than the limit of 101.
+    #[error("more than 101 header lines")]
+    TooMany,
+    /// The target has no path, and isn't `*`.
+    #[error("the target has no path")]
+    NoPath,
+    /// An allocation was refused.
+    #[error("out of memory")]
+    NoMemory,
+}
+
+impl From<AllocError> for EditFault {
+    ghost use Rattle.std.specs.Prelude.{◌≡◌};
+    ghost use Rattle.hx_http.specs.declared.fault.EditFault.TheVariants.{NoMemory};
+
+    ghost from_gives = { λ _ fault. fault ≡ NoMemory };
+
+    fn from(_: AllocError) -> EditFault {
+        EditFault::NoMemory
+    }
+}
+
+impl From<NoMemory> for EditFault {
+    ghost use Rattle.std.specs.Prelude.{◌≡◌};
+    ghost use Rattle.hx_http.specs.declared.fault.EditFault.TheVariants.{NoMemory};
+
+    ghost from_gives = { λ _ fault. fault ≡ NoMemory };
+
+    fn from(_: NoMemory) -> EditFault {
+        EditFault::NoMemory
+    }
+}

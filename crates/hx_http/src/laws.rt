@@ -1,8 +1,9 @@
 //! Laws of the definitions that the contracts of this crate cite, each the contract of a function
 //! that does nothing.
-ghost use Rattle.std.specs.Prelude.{◌≡◌, ℕ, List, ◌++◌, Option, Some, ◌==◌, true, false, nat_eq, codes};
+ghost use Rattle.std.specs.Prelude.{◌≡◌, ℕ, ◌<◌, List, ◌++◌, length, Option, Some, IsSome, IsTrue, ◌==◌, true, false, nat_eq, codes};
 ghost use Rattle.std.specs.List.{list_any, starts_with};
 ghost use Rattle.hx_base.specs.Bytes.{question_mark};
+ghost use Rattle.hx_http.specs.Edits.{is_path, takes_path, target_with_path, target_with_query};
 ghost use Rattle.hx_http.specs.Head.{head_of, GivesHeads, GivesOnlyHeads};
 ghost use Rattle.hx_http.specs.Target.{before_query, query_of, query_text, path_of, HasPath};
 
@@ -35,4 +36,25 @@ pub fn another_path_in_a_target(target: &[u8], path: &[u8])
         → starts_with nat_eq path.now (codes "/") ≡ true
         → list_any (λ b. b == question_mark) path.now ≡ false
         → HasPath (prefix ++ (path.now ++ query_text query)) prefix path.now query }
+{}
+
+/// Another path in a target that has one: what stands before the old path, the new path, and `?` and
+/// the query where there are these. The path that the target then has is the new one up to its first
+/// `?`, and the same is so where the target was `*`.
+pub fn target_with_another_path(target: &[u8], path: &[u8])
+    ensures parts { (prefix old : List ℕ) (query : Option (List ℕ))
+        → HasPath target.now prefix old query
+        → target_with_path path.now target.now ≡ prefix ++ (path.now ++ query_text query) }
+    ensures path { IsTrue (is_path path.now) → IsTrue (takes_path target.now)
+        → path_of (target_with_path path.now target.now) ≡ Some (before_query path.now) }
+{}
+
+/// Another query in a target leaves its path, and is the query that it then has, but where there was
+/// none and the new one is empty.
+pub fn target_with_another_query(target: &[u8], query: &[u8])
+    ensures path { path_of (target_with_query query.now target.now) ≡ path_of target.now }
+    ensures some { IsSome (query_of target.now)
+        → query_of (target_with_query query.now target.now) ≡ Some query.now }
+    ensures added { 0 < length query.now
+        → query_of (target_with_query query.now target.now) ≡ Some query.now }
 {}

@@ -12,8 +12,10 @@ use std::marker::Model;
 /// and header lines. Each part is lent from the bytes that the message owns.
 #[derive(Debug, Drop)]
 pub struct Message {
-    bytes: Octets,
-    spans: HeadSpans,
+    pub(crate) bytes: Vec<u8>,
+    pub(crate) spans: HeadSpans,
+    /// With more bytes than so many, an edit drops those that are no part.
+    pub(crate) limit: usize,
 }
 
 impl Model for Message {
@@ -23,9 +25,15 @@ impl Model for Message {
 
     ghost Value = { Parts };
 
-    ghost view = { λ m. parts_at m.bytes m.spans };
+    ghost view = { λ m. parts_at m.bytes.items m.spans };
 
-    ghost invariant = { λ m. AreWithin (length m.bytes) m.spans };
+    ghost invariant = { λ m. AreWithin (length m.bytes.items) m.spans };
+}
+
+/// The limit of a message that begins with so many bytes. It is several times as many, so that edits
+/// wrote more than is copied when bytes are dropped.
+pub(crate) fn limit_after(len: usize) -> usize {
+    len.saturating_mul(4).max(1024)
 }
 
 impl Message {
@@ -34,7 +42,13 @@ impl Message {
         requires { AreWithin (length bytes) spans }
         ensures { result ≡ parts_at bytes spans }
     {
-        Message { bytes, spans }
+        let bytes = bytes.into_vec();
+        let limit = limit_after(bytes.len());
+        Message {
+            bytes,
+            spans,
+            limit,
+        }
     }
 
     /// The method, such as `GET` (RFC 9110, section 9).

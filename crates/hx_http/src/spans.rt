@@ -4,12 +4,12 @@ ghost use Rattle.hx_http.specs.Head.{message, many, none, header_limit, IsHead, 
 ghost use Rattle.hx_http.specs.Spans.{parts_at, AreWithin};
 
 use crate::fault::HeadFault;
-use httparse::spans::{EMPTY_HEADER_SPAN, HeaderSpan, RequestSpans, parse_request};
+use httparse::spans::{EMPTY_HEADER_SPAN, HeaderSpan, RequestSpans, Span, parse_request};
 use httparse::{Error, Status};
 use std::alloc::{AllocError, Global};
 
 /// The most header lines that a message may have.
-const MAX_HEADERS: usize = 101;
+pub(crate) const MAX_HEADERS: usize = 101;
 
 /// How many header lines most heads have at most. Slots for so many are cleared for each head.
 const COMMON_HEADERS: usize = 16;
@@ -19,6 +19,23 @@ const COMMON_HEADERS: usize = 16;
 pub(crate) struct HeadSpans {
     pub head: RequestSpans,
     pub lines: Vec<HeaderSpan>,
+}
+
+impl HeadSpans {
+    /// How many bytes the spans have, which says how much memory a copy of them takes.
+    pub(crate) fn total_len(&self) -> usize {
+        let mut len = len_of(self.head.method).saturating_add(len_of(self.head.path));
+        for line in &self.lines {
+            len = len
+                .saturating_add(len_of(line.name))
+                .saturating_add(len_of(line.value));
+        }
+        len
+    }
+}
+
+fn len_of(span: Span) -> usize {
+    span.end.saturating_sub(span.start)
 }
 
 /// The spans of the head that `bytes` begin with. Memory is taken for the header lines alone.
