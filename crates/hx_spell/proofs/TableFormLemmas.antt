@@ -32,7 +32,7 @@ abbrev IsNotZero : ℤ → Type 0
 IsNotZero n = ¬ (n ≡ pos 0)
 
 -- what is read of a text is such
-abbrev ReadsSuch : {A : Type 0} → (A → Type 0) → (List ℕ → Option A) → Type 0
+abbrev pub ReadsSuch : {A : Type 0} → (A → Type 0) → (List ℕ → Option A) → Type 0
 ReadsSuch {A} P read = (text : List ℕ) (x : A) → read text ≡ Some x → P x
 
 -- where anything will do
@@ -57,7 +57,7 @@ given_gives : {A : Type 0} (P : A → Type 0) (found : Option A) (n : ℕ)
 given_gives P None n such = tt
 given_gives P (Some x) n such = such x refl
 
-optional_gives : {A : Type 0} (P : A → Type 0) (read : List ℕ → Option A) (n : ℕ)
+pub optional_gives : {A : Type 0} (P : A → Type 0) (read : List ℕ → Option A) (n : ℕ)
     → ReadsSuch P read → (given : Option (List ℕ))
     → Gives (λ v. IfSome v P) (optional read (spell.Code n) given)
 optional_gives P read n such None = tt
@@ -68,7 +68,7 @@ by_count : {A : Type 0} (P : A → Type 0) (b : Bool) (read : Result A SpellFaul
 by_count P true read such = such
 by_count P false read such = tt
 
-counted_gives : {A : Type 0} (P : A → Type 0) (least most : ℕ) (args : List (List ℕ))
+pub counted_gives : {A : Type 0} (P : A → Type 0) (least most : ℕ) (args : List (List ℕ))
     (read : Result A SpellFault) → Gives P read → Gives P (counted least most args read)
 counted_gives P least most args read such = by_count P (is_count least most (length args)) read such
 
@@ -231,7 +231,7 @@ mask_such args =
 
 -- the first of several facts, and the others
 infixr 4 ◌&◌
-◌&◌ : {A B : Type 0} → A → B → A × B
+pub ◌&◌ : {A B : Type 0} → A → B → A × B
 first & rest = (first, rest)
 
 abbrev EachRow : {A : Type 0} → (A → Type 0) → Table (Maker A) → Type 0

@@ -7,7 +7,7 @@ use Rattle.hx_spell.specs.declared.conv_table.TheConstants.{CONVS}
 use Rattle.hx_spell.specs.TableView.{fetch_maker, conv_maker}
 use Rattle.hx_spell.specs.Tables.{entry_at, fetch_table, conv_table}
 
-abbrev rows_with : {A B : Type 0} → (A → B) → List (List ℕ × A) → List (List ℕ × B)
+abbrev pub rows_with : {A B : Type 0} → (A → B) → List (List ℕ × A) → List (List ℕ × B)
 rows_with f rows = map (λ row. (row.0, f row.1)) rows
 
 cond_map : {A B : Type 0} (f : A → B) (b : Bool) (x : A) (o : Option A) (p : Option B)
@@ -16,7 +16,7 @@ cond_map : {A B : Type 0} (f : A → B) (b : Bool) (x : A) (o : Option A) (p : O
 cond_map f true x o p same = refl
 cond_map f false x o p same = same
 
-entry_at_map : {A B : Type 0} (f : A → B) (rows : List (List ℕ × A)) (name : List ℕ)
+pub entry_at_map : {A B : Type 0} (f : A → B) (rows : List (List ℕ × A)) (name : List ℕ)
     → entry_at (rows_with f rows) name ≡ option_map f (entry_at rows name)
 entry_at_map f [] name = refl
 entry_at_map f (row ∷ rows) name =

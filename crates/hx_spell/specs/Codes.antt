@@ -17,6 +17,26 @@ bad_argument = spell.Code 10
 abbrev pub bad_name : SpellFault
 bad_name = spell.Code 12
 
+-- a condition that names an ACL which is neither declared before nor predefined
+abbrev pub unknown_acl : SpellFault
+unknown_acl = spell.Code 13
+
+-- words that are no condition
+abbrev pub bad_condition : SpellFault
+bad_condition = spell.Code 14
+
+-- a file that is used with one column and with two
+abbrev pub file_kind : SpellFault
+file_kind = spell.Code 17
+
+-- a statement that stands where it may not
+abbrev pub misplaced : SpellFault
+misplaced = spell.Code 19
+
+-- one reference more than a configuration may have
+abbrev pub too_many_references : SpellFault
+too_many_references = spell.Code 23
+
 -- what is wrong with the form of a call
 abbrev pub form_fault : ArgFault → SpellFault
 form_fault Unclosed = spell.Code 5

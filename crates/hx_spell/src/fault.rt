@@ -14,6 +14,21 @@ pub(crate) const BAD_ARGUMENT: u32 = 10;
 /// The code of the name of a header or of a variable that isn't of its form.
 pub(crate) const BAD_NAME: u32 = 12;
 
+/// The code of a condition that names an ACL which is neither declared before nor predefined.
+pub(crate) const UNKNOWN_ACL: u32 = 13;
+
+/// The code of words that are no condition.
+pub(crate) const BAD_CONDITION: u32 = 14;
+
+/// The code of a file that is used with one column and with two.
+pub(crate) const FILE_KIND: u32 = 17;
+
+/// The code of a statement that stands where it may not.
+pub(crate) const MISPLACED: u32 = 19;
+
+/// The code of one reference more than a configuration may have.
+pub(crate) const TOO_MANY_REFERENCES: u32 = 23;
+
 /// Why words spell no statement.
 #[derive(Clone, Copy, Debug, PartialEq, Eq, Error)]
 pub enum SpellFault {

@@ -2,33 +2,44 @@
 //!
 //! ```
 //! let mut speller = Speller::new(alloc)?;
-//! let words = split(alloc, &env, b"http-request deny if { path,lower -m str /admin }")?;
-//! match speller.line(1, &words)? {
-//!     Statement::Rule(rule) => rules.push(rule)?,
-//!     Statement::Plain => {}
-//! }
+//! let words = split(alloc, &env, b"acl admin path -m beg /admin")?;
+//! let admin = speller.line(1, &words)?;
+//! let words = split(alloc, &env, b"http-request deny if admin !{ src -f office.lst }")?;
+//! let rule = speller.line(2, &words)?;
+//! let tables = speller.tables();
 //! ```
 //!
-//! `Spells` is the relation between a statement and its words, `statement_of` the same as a
-//! function with the codes of other words, and `laws::statement_law` says that they agree. Of the
-//! statements `http-request deny if|unless { EXPR [-m str] VALUE .. }` is supported, beside a line
-//! without words. The expressions have all fetches and converters of `hx_ast` but those that look
-//! up in a map.
+//! A frontend's lines declare ACLs and deny requests; other lines change nothing or are refused. A
+//! `Speller` keeps what the lines so far bring: the references, which are the files and the inline
+//! patterns, the heads, which are the ways in which references are searched, and the names of ACLs.
+//! `SpellLine` is the relation between a line's statement and its words, and `line_of` the same as a
+//! function with the codes of other words.
 #![tactic(auto)]
 
 mod arguments;
+mod conditions;
 mod conv_table;
 mod convs;
+mod criteria;
+mod declarations;
+mod derived_table;
 mod expression;
 mod fault;
 mod fetch_table;
 mod fetches;
+mod flag_table;
+mod flags;
+mod known;
 pub mod laws;
+mod line;
 mod lookup;
+mod map_table;
+mod patterns;
 mod speller;
-mod statement;
+mod table_specs;
 mod values;
 mod variables;
 
 pub use fault::SpellFault;
 pub use speller::Speller;
+pub use table_specs::{HeadSpec, MapOutput, TableSpec, TableSpecs};

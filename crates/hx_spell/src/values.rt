@@ -107,7 +107,7 @@ pub(crate) fn boolean(text: &[u8]) -> Option<bool>
     }
 }
 
-fn is_among(bytes: &[u8], byte: u8) -> bool
+pub(crate) fn is_among(bytes: &[u8], byte: u8) -> bool
     ensures { result ≡ is_among bytes.now byte }
 {
     bytes.iter().any(|other| *other == byte)

@@ -1,9 +1,12 @@
-use Rattle.hx_spell.proofs.CodeLemmas.{statement_never_lacks}
-use Rattle.hx_spell.proofs.OneStatementLemmas.{one_statement}
+use Rattle.std.proofs.Common.{ℕ}
+use Rattle.hx_ast.specs.declared.Statement.{Statement}
+use Rattle.hx_spell.specs.Known.{Known, Reading}
+use Rattle.hx_spell.specs.Lines.{line_of}
+use Rattle.hx_spell.proofs.LineLemmas.{line_law, line_never_lacks}
 use Rattle.hx_spell.proofs.laws.statement_law.Goals as goal
 
 pub returns : goal.returns
 returns c = record {
-  spelled = one_statement c.args.words.now c.calls_at.ensures.calls;
-  never = statement_never_lacks c.args.words.now c.calls_at.ensures.never;
+  spelled = λ number before read. line_law number c.args.words.now before read;
+  never = λ number before. line_never_lacks number c.args.words.now before;
 }

@@ -1,23 +1,26 @@
-use Rattle.std.proofs.Common.{ℕ, List, subst}
-use Rattle.hx_spell.specs.Codes.{AnswersAs}
-use Rattle.hx_spell.specs.Statements.{statement_of}
-use Rattle.hx_spell.proofs.OneStatementLemmas.{AreReadAsSpelled}
-use Rattle.hx_spell.proofs.StatementFormLemmas.{answer_spelled, answer_refused, answer_allowed, answer_uses_no_map}
+use Rattle.std.proofs.Common.{List, ℕ, subst, sym}
+use Rattle.hx_spell.specs.Known.{ReadsAs}
+use Rattle.hx_spell.specs.Lines.{line_of}
+use Rattle.hx_spell.proofs.LineLemmas.{answer_allowed, answer_nothing, answer_spelled}
+use Rattle.hx_spell.proofs.SoundLineLemmas.{answer_grown, answer_heads}
 use Rattle.hx_spell.proofs.speller.Speller.line.Goals as goal
 
 pub returns : goal.returns
 returns c =
-    let answer = c.statement_of.result in
+    let answer = c.read.result in
     let line = c.args.number in
     let words = c.args.words.now in
-    let read : AnswersAs answer (statement_of line words) =
-    subst (λ (w : List (List ℕ)). AnswersAs answer (statement_of line w)) c.as_slice-words.ensures c.statement_of.ensures in
-    let law : AreReadAsSpelled words =
-    subst (λ (w : List (List ℕ)). AreReadAsSpelled w) c.as_slice-words.ensures c.statement_law.ensures.spelled in
+    let before = c.args.self.now in
+    let after = c.read.new.self in
+    let read : ReadsAs answer after (line_of line words before) =
+    subst (λ (w : List (List ℕ)). ReadsAs answer after (line_of line w before))
+    c.as_slice.ensures c.read.ensures.answers in
     record {
       answers = read;
-      ok = answer_spelled line words answer law read;
-      refused = answer_refused line words answer law read;
-      allowed = answer_allowed line words answer law read;
-      no_map = answer_uses_no_map line words answer law read;
+      kept = c.read.ensures.kept;
+      spelled = answer_spelled line words before after answer read;
+      nothing = answer_nothing line words before after answer read;
+      allowed = answer_allowed line words before after answer read;
+      heads = answer_heads line words before after answer read;
+      extends = (answer_grown line words before after answer read c.read.ensures.kept).heads;
     }

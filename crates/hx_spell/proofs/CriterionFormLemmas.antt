@@ -1,0 +1,307 @@
+-- What is read of a criterion is such as the syntax allows, or is refused by a code.
+use Rattle.std.proofs.Common.{◌≡◌, ◌≢◌, ℕ, Bool, true, false, cond, List, [], ◌∷◌, length, Option, None, Some, Ok, Err, refl, sym, ap, subst}
+use Rattle.std.specs.Prelude.{Result, IfSome, IsSome, nat_lt, codes, option_map, option_and_then, slice_get}
+use Rattle.std.specs.List.{AllByRecursion, list_all}
+use Rattle.std.specs.Option.{option_or}
+use Rattle.std.specs.Str.{bytes_eq}
+use Rattle.std.proofs.lemmas.List.Elements.{All-from_recursion}
+use Rattle.hx_base.specs.Bytes.{underscore}
+use Rattle.hx_text.specs.Address.{ip_of}
+use Rattle.hx_text.specs.Cut.{cut_of}
+use Rattle.hx_text.specs.Number.{int_of}
+use Rattle.hx_text.specs.declared.By.{By}
+use Rattle.hx_text.specs.declared.Out.{Out}
+use Rattle.hx_text.specs.declared.Out.TheVariants as output
+use Rattle.hx_words.specs.CallForm.{CallForm}
+use Rattle.hx_words.specs.Calls.{Step, calls_of_steps, longer_calls}
+use Rattle.hx_words.specs.Calls.Step.{Last, More, Faulty}
+use Rattle.hx_words.specs.declared.ArgFault.{ArgFault}
+use Rattle.hx_words.specs.declared.ArgFault.TheVariants as arg
+use Rattle.hx_ast.specs.declared.Conv.{Conv}
+use Rattle.hx_ast.specs.declared.Fetch.{Fetch}
+use Rattle.hx_ast.specs.Acls.{takes_patterns}
+use Rattle.hx_ast.specs.Convs.{IsConv, IsExpr, IsReadableAs, is_map_method}
+use Rattle.hx_ast.specs.Fetches.{IsFetch}
+use Rattle.hx_spell.specs.declared.fault.SpellFault.{SpellFault}
+use Rattle.hx_spell.specs.declared.fault.SpellFault.TheVariants as spell
+use Rattle.hx_spell.specs.Arguments.{◌>>=◌, optional}
+use Rattle.hx_spell.specs.Codes.{bad_argument, form_fault}
+use Rattle.hx_spell.specs.Criteria.{Criterion, FetchWay, MapWay, MethodFetch, conv_by, conv_call, conv_fault_by, convs_after, criterion, criterion_of_steps, derived_fetches, derived_methods, derived_of_parts, derived_way, fetch_by, fetch_fault_by, fetch_way, map_arguments, map_file, map_table, plain_conv, plain_way, value_of_map}
+use Rattle.hx_spell.specs.Expressions.{call_meaning, fault_of, made_of}
+use Rattle.hx_spell.specs.Known.{Known, Reading, ReferenceForm, file_form, file_or_new, has_columns, most_references, nothing_known, with_file, with_reference}
+use Rattle.hx_spell.specs.Tables.{Maker, Table, conv_table, entry_at, fetch_table}
+use Rattle.hx_spell.proofs.CallTextLemmas.{IsReading}
+use Rattle.hx_spell.proofs.ResultLemmas.{Gives, both, some_map, then_gives}
+use Rattle.hx_spell.proofs.TableFormLemmas.{◌&◌, IsPlainConv, MakesSuch, ReadsSuch, conv_gives, counted_gives, fetch_gives, optional_gives}
+
+-- it has a value, or a code
+abbrev pub IsCoded : {A : Type 0} → Result A SpellFault → Type 0
+IsCoded r = Gives (λ x. Unit {0}) r
+
+-- ---- references
+
+either_coded : {A : Type 0} (b : Bool) (x : A) (n : ℕ)
+    → IsCoded (cond b (Ok x) (Err (spell.Code n)))
+either_coded true x n = tt
+either_coded false x n = tt
+
+pub reference_coded : (form : ReferenceForm) (known : Known) → IsCoded (with_reference form known)
+reference_coded form known =
+    either_coded (nat_lt (length known.references) most_references) _ 23
+
+found_coded : (form : ReferenceForm) (known : Known) (place : Option ℕ)
+    → IsCoded (file_or_new form known place)
+found_coded form known (Some place) =
+    either_coded (has_columns known place form.two_column) _ 17
+found_coded form known None = reference_coded form known
+
+pub file_coded : (line : ℕ) (name : List ℕ) (two : Bool) (known : Known)
+    → IsCoded (with_file line name two known)
+file_coded line name two known = found_coded (file_form line name two) known _
+
+-- ---- tables
+
+entry_by : {A : Type 0} (P : A → Type 0) (b : Bool) (first : A) (later : Option A) → P first
+    → IfSome later P → IfSome (cond b (Some first) later) P
+entry_by P true first later such others = such
+entry_by P false first later such others = others
+
+-- what stands in each row is such
+abbrev EachEntry : {A : Type 0} → (A → Type 0) → Table A → Type 0
+EachEntry P [] = Unit {0}
+EachEntry P (row ∷ rows) = P row.1 × EachEntry P rows
+
+entry_such : {A : Type 0} (P : A → Type 0) (table : Table A) → EachEntry P table
+    → (name : List ℕ) → IfSome (entry_at table name) P
+entry_such P [] each name = tt
+entry_such P (row ∷ rows) each name =
+    entry_by P (bytes_eq row.0 name) row.1 (entry_at rows name) each.0
+    (entry_such P rows each.1 name)
+
+each_passes : {A : Type 0} (test : A → Bool) (table : Table A)
+    → list_all (λ row. test row.1) table ≡ true → EachEntry (λ x. test x ≡ true) table
+each_passes test [] all = tt
+each_passes test (row ∷ rows) all =
+    let (first, others) = both (test row.1) (list_all (λ row. test row.1) rows) all in
+    (first, each_passes test rows others)
+
+-- ---- maps
+
+abbrev pub IsMapWay : MapWay → Type 0
+IsMapWay way = is_map_method way.by ≡ true
+
+each_map : EachEntry IsMapWay map_table
+unfolding map_table
+each_map = each_passes (λ (way : MapWay). is_map_method way.by) map_table refl
+
+-- the converters that look up in a map have a method for it
+pub map_entry : (name : List ℕ) → IfSome (entry_at map_table name) IsMapWay
+map_entry name = entry_such IsMapWay map_table each_map name
+
+map_value_such : (out : Out) → ReadsSuch (IsReadableAs out) (value_of_map out)
+map_value_such output.Str text x is = tt
+map_value_such output.Int text x is =
+    let (n, read, same) = some_map (λ n. text) (int_of text) x is in
+    subst (λ (t : List ℕ). IsSome (int_of t)) same (rw read refl)
+map_value_such output.Ip text x is =
+    let (ip, read, same) = some_map (λ ip. text) (ip_of text) x is in
+    subst (λ (t : List ℕ). IsSome (ip_of t)) same (rw read refl)
+
+-- the converter that is read is such
+abbrev pub ReadsConv : Reading Conv → Type 0
+ReadsConv read = IsConv read.value
+
+map_file_coded : (line : ℕ) (name : Option (List ℕ)) (known : Known)
+    → IsCoded (map_file line name known)
+map_file_coded line None known = tt
+map_file_coded line (Some name) known = file_coded line name true known
+
+map_gives : (line : ℕ) (way : MapWay) → IsMapWay way → (args : List (List ℕ)) (known : Known)
+    → Gives ReadsConv (map_arguments line way args known)
+map_gives line way such args known =
+    counted_gives ReadsConv 1 2 args _
+    (then_gives (λ file. Unit {0}) ReadsConv (map_file line (slice_get args 0) known) _
+    (map_file_coded line (slice_get args 0) known)
+    (λ file any. then_gives (λ v. IfSome v (IsReadableAs way.out)) ReadsConv
+    (optional (value_of_map way.out) bad_argument (slice_get args 1)) _
+    (optional_gives (IsReadableAs way.out) (value_of_map way.out) 10 (map_value_such way.out)
+    (slice_get args 1))
+    (λ default readable. record { method = such; default = readable })))
+
+-- ---- converters
+
+conv_by_gives : (line : ℕ) (way : Option MapWay) → IfSome way IsMapWay → (call : CallForm)
+    (known : Known) → Gives ReadsConv (conv_by line way call known)
+conv_by_gives line (Some way) such call known = map_gives line way such call.args known
+conv_by_gives line None such call known =
+    then_gives IsPlainConv ReadsConv (call_meaning conv_table call) (λ c. Ok (plain_conv known c))
+    (conv_gives call) (λ c plain. plain.0)
+
+conv_call_gives : (line : ℕ) (call : CallForm) (known : Known)
+    → Gives ReadsConv (conv_call line call known)
+conv_call_gives line call known =
+    conv_by_gives line (entry_at map_table call.name)
+    (map_entry call.name) call known
+
+fault_gives : {A : Type 0} (P : A → Type 0) (fault : ArgFault) → fault ≢ arg.NoMemory
+    → Gives P (Err (form_fault fault))
+fault_gives P arg.Unclosed never = tt
+fault_gives P arg.AfterClose never = tt
+fault_gives P arg.BadEscape never = tt
+fault_gives P arg.OpenQuote never = tt
+fault_gives P arg.NoMemory never = never refl
+
+plain_fault_gives : {A B : Type 0} (P : B → Type 0) (found : Option (Maker A)) (fault : ArgFault)
+    (f : A → Result B SpellFault) → fault ≢ arg.NoMemory → Gives P (fault_of found fault >>= f)
+plain_fault_gives P None fault f never = tt
+plain_fault_gives P (Some make) fault f never = fault_gives P fault never
+
+-- what is read of a fault is no value
+conv_fault_gives : (way : Option MapWay) (name : List ℕ) (fault : ArgFault)
+    → fault ≢ arg.NoMemory → Gives (λ c. ⊥) (conv_fault_by way name fault)
+conv_fault_gives (Some way) name fault never = fault_gives (λ (c : Reading Conv). ⊥) fault never
+conv_fault_gives None name fault never =
+    plain_fault_gives (λ c. ⊥) (entry_at conv_table name) fault
+    (λ c. Ok (plain_conv nothing_known c)) never
+
+abbrev pub ReadsConvs : Reading (List Conv) → Type 0
+ReadsConvs read = AllByRecursion IsConv read.value
+
+abbrev pub with_first : Reading Conv → Reading (List Conv) → Result (Reading (List Conv)) SpellFault
+with_first first others =
+    Ok (record { value = first.value ∷ others.value; known = others.known })
+
+none_gives : (line : ℕ) (steps : List Step) (known : Known) → steps ≡ []
+    → Gives ReadsConvs (convs_after line steps known)
+none_gives line [] known is = tt
+none_gives line (step ∷ steps) known is = absurd (let never : ⊥ = cc in never)
+
+first_gives : (line : ℕ) (steps : List Step) (read : Result (Reading Conv) SpellFault)
+    → Gives ReadsConv read → ((known : Known) → Gives ReadsConvs (convs_after line steps known))
+    → Gives ReadsConvs
+    (read >>= (λ first. convs_after line steps first.known >>= (λ others. with_first first others)))
+first_gives line steps read such later =
+    then_gives ReadsConv ReadsConvs read _ such
+    (λ first fits. then_gives ReadsConvs ReadsConvs (convs_after line steps first.known)
+    (with_first first) (later first.known) (λ others all. (fits, all)))
+
+convs_give : (line : ℕ) (steps : List Step) (known : Known) → IsReading steps
+    → calls_of_steps steps ≢ Err arg.NoMemory → Gives ReadsConvs (convs_after line steps known)
+convs_give line [] known reading never = tt
+convs_give line (Last call rest ∷ steps) known reading never =
+    first_gives line steps (conv_call line call known) (conv_call_gives line call known)
+    (λ k. none_gives line steps k reading)
+convs_give line (More call rest ∷ steps) known reading never =
+    first_gives line steps (conv_call line call known) (conv_call_gives line call known)
+    (λ k. convs_give line steps k reading (λ is. never (ap (λ r. longer_calls call r) is)))
+convs_give line (Faulty name fault ∷ steps) known reading never =
+    then_gives (λ c. ⊥) ReadsConvs (conv_fault_by (entry_at map_table name) name fault) _
+    (conv_fault_gives (entry_at map_table name) name fault (λ is. never (ap (λ f. Err f) is)))
+    (λ c no. absurd no)
+
+-- ---- fetches
+
+abbrev pub TakesPatterns : By → Type 0
+TakesPatterns by = takes_patterns by ≡ true
+
+abbrev IsFetchWay : FetchWay → Type 0
+IsFetchWay way = MakesSuch IsFetch way.make × IfSome way.by TakesPatterns
+
+abbrev IsMethodFetch : MethodFetch → Type 0
+IsMethodFetch found = IsFetch found.fetch × IfSome found.by TakesPatterns
+
+named_such : (name : List ℕ) → MakesSuch IsFetch (made_of (entry_at fetch_table name))
+named_such name args = fetch_gives (record { name = name; args = args })
+
+each_derived : EachEntry (MakesSuch IsFetch) derived_fetches
+unfolding derived_fetches
+each_derived =
+    named_such (codes "base")
+    & named_such (codes "cook")
+    & named_such (codes "hdr")
+    & named_such (codes "path")
+    & named_such (codes "url")
+    & named_such (codes "urlp")
+    & tt
+
+each_method : EachEntry TakesPatterns derived_methods
+unfolding derived_methods
+each_method = each_passes takes_patterns derived_methods refl
+
+both_such : (make : Option (Maker Fetch)) (by : Option By) → IfSome make (MakesSuch IsFetch)
+    → IfSome by TakesPatterns
+    → IfSome (option_and_then (λ make. option_map (derived_way make) by) make) IsFetchWay
+both_such None by makes takes = tt
+both_such (Some make) None makes takes = tt
+both_such (Some make) (Some by) makes takes = (makes, takes)
+
+parts_such : (parts : Option (List ℕ × List ℕ))
+    → IfSome (option_and_then derived_of_parts parts) IsFetchWay
+parts_such None = tt
+parts_such (Some parts) =
+    both_such (entry_at derived_fetches parts.0) (entry_at derived_methods parts.1)
+    (entry_such (MakesSuch IsFetch) derived_fetches each_derived parts.0)
+    (entry_such TakesPatterns derived_methods each_method parts.1)
+
+way_by : (name : List ℕ) (found : Option (Maker Fetch)) → found ≡ entry_at fetch_table name
+    → IfSome (option_or (option_map plain_way found)
+    (option_and_then derived_of_parts (cut_of underscore name))) IsFetchWay
+way_by name None is = parts_such (cut_of underscore name)
+way_by name (Some make) is = (
+  subst (λ (m : Option (Maker Fetch)). MakesSuch IsFetch (made_of m)) (sym is) (named_such name),
+  tt,
+)
+
+way_such : (name : List ℕ) → IfSome (fetch_way name) IsFetchWay
+way_such name = way_by name (entry_at fetch_table name) refl
+
+fetch_by_gives : (way : Option FetchWay) → IfSome way IsFetchWay → (args : List (List ℕ))
+    → Gives IsMethodFetch (fetch_by way args)
+fetch_by_gives None such args = tt
+fetch_by_gives (Some way) such args =
+    then_gives IsFetch IsMethodFetch (way.make args) _ (such.0 args) (λ f fits. (fits, such.1))
+
+named_gives : (call : CallForm) → Gives IsMethodFetch (fetch_by (fetch_way call.name) call.args)
+named_gives call = fetch_by_gives (fetch_way call.name) (way_such call.name) call.args
+
+fetch_fault_gives : (way : Option FetchWay) (fault : ArgFault) → fault ≢ arg.NoMemory
+    → Gives (λ found. ⊥) (fetch_fault_by way fault)
+fetch_fault_gives None fault never = tt
+fetch_fault_gives (Some way) fault never = fault_gives (λ (found : MethodFetch). ⊥) fault never
+
+-- ---- criteria
+
+-- the criterion that is read is such: its expression is one, and its method takes patterns
+abbrev pub ReadsCriterion : Reading Criterion → Type 0
+ReadsCriterion read = IsExpr read.value.expr × IfSome read.value.by TakesPatterns
+
+criterion_such : (found : MethodFetch) (convs : Reading (List Conv)) → IsMethodFetch found
+    → ReadsConvs convs → ReadsCriterion (criterion found convs)
+criterion_such found convs such all = (
+  record { fetch = such.0; convs = All-from_recursion IsConv convs.value all },
+  such.1,
+)
+
+with_convs_give : (line : ℕ) (steps : List Step) (known : Known) (call : CallForm)
+    → Gives ReadsConvs (convs_after line steps known)
+    → Gives ReadsCriterion (fetch_by (fetch_way call.name) call.args >>= (λ first.
+    convs_after line steps known >>= (λ convs. Ok (criterion first convs))))
+with_convs_give line steps known call later =
+    then_gives IsMethodFetch ReadsCriterion (fetch_by (fetch_way call.name) call.args) _
+    (named_gives call)
+    (λ first such. then_gives ReadsConvs ReadsCriterion (convs_after line steps known) _ later
+    (λ convs all. criterion_such first convs such all))
+
+pub steps_give : (line : ℕ) (steps : List Step) (known : Known) → IsReading steps
+    → calls_of_steps steps ≢ Err arg.NoMemory
+    → Gives ReadsCriterion (criterion_of_steps line steps known)
+steps_give line [] known reading never = tt
+steps_give line (Last call rest ∷ steps) known reading never =
+    with_convs_give line steps known call (none_gives line steps known reading)
+steps_give line (More call rest ∷ steps) known reading never =
+    with_convs_give line steps known call
+    (convs_give line steps known reading (λ is. never (ap (λ r. longer_calls call r) is)))
+steps_give line (Faulty name fault ∷ steps) known reading never =
+    then_gives (λ found. ⊥) ReadsCriterion (fetch_fault_by (fetch_way name) fault) _
+    (fetch_fault_gives (fetch_way name) fault (λ is. never (ap (λ f. Err f) is)))
+    (λ found no. absurd no)

@@ -1,0 +1,257 @@
+-- A text that writes a criterion is read as it, so it writes one at most; another is refused by a
+-- code.
+use Rattle.std.proofs.Common.{◌≡◌, ◌≢◌, ◌↔◌, ℕ, true, List, [], ◌∷◌, Option, None, Some, Ok, Err, refl, sym, ◌∙◌, ap}
+use Rattle.std.specs.Prelude.{Result, IfSome}
+use Rattle.hx_words.specs.CallForm.{CallForm}
+use Rattle.hx_words.specs.Calls.{Step, steps_of, calls_of_steps, longer_calls}
+use Rattle.hx_words.specs.Calls.Step.{Last, More, Faulty}
+use Rattle.hx_words.specs.Spelling.{SpellsCalls}
+use Rattle.hx_words.specs.declared.ArgFault.{ArgFault}
+use Rattle.hx_ast.specs.declared.Conv.{Conv}
+use Rattle.hx_ast.specs.Acls.{takes_patterns}
+use Rattle.hx_ast.specs.Convs.{IsExpr}
+use Rattle.hx_spell.specs.declared.fault.SpellFault.{SpellFault}
+use Rattle.hx_spell.specs.declared.fault.SpellFault.TheVariants as spell
+use Rattle.hx_spell.specs.Arguments.{◌>>=◌}
+use Rattle.hx_spell.specs.Codes.{unsupported}
+use Rattle.hx_spell.specs.Criteria.{Criterion, FetchWay, MapWay, MethodFetch, conv_call, conv_fault_by, convs_after, criterion, criterion_of, criterion_of_steps, fetch_by, fetch_fault_by, fetch_way, map_table, plain_conv}
+use Rattle.hx_spell.specs.Expressions.{fault_of}
+use Rattle.hx_spell.specs.Known.{Known, Reading, nothing_known}
+use Rattle.hx_spell.specs.Relation.{WriteConvs, WritesCriterion}
+use Rattle.hx_spell.specs.Tables.{Maker, conv_table, entry_at}
+use Rattle.hx_spell.proofs.CallTextLemmas.{AreOf, IsReading, is_reading, longer_is, read_as, same_calls, spelled_steps, steps_never_lack, steps_spelled}
+use Rattle.hx_spell.proofs.CriterionFormLemmas.{ReadsCriterion, steps_give, with_first}
+use Rattle.hx_spell.proofs.ResultLemmas.{Gives, and_then_ok, given_value, never_without_memory, then_ok}
+
+then_same : {A B : Type 0} (r : Result A SpellFault) (f g : A → Result B SpellFault)
+    → ((x : A) → f x ≡ g x) → (r >>= f) ≡ (r >>= g)
+then_same (Ok x) f g same = same x
+then_same (Err fault) f g same = refl
+
+-- ---- converters
+
+-- the converters of calls
+abbrev convs_of_calls : ℕ → List CallForm → Known → Result (Reading (List Conv)) SpellFault
+convs_of_calls line [] known = Ok (record { value = []; known = known })
+convs_of_calls line (call ∷ calls) known =
+    conv_call line call known >>= (λ first. convs_of_calls line calls first.known >>=
+    with_first first)
+
+-- steps that are of these calls
+convs_by_calls : (line : ℕ) (steps : List Step) (calls : List CallForm) (rest : List ℕ)
+    (known : Known) → IsReading steps → calls_of_steps steps ≡ read_as calls rest
+    → convs_after line steps known ≡ convs_of_calls line calls known
+convs_by_calls line [] calls rest known reading is =
+    ap (λ c. convs_of_calls line c known) (same_calls [] calls [] rest is)
+convs_by_calls line (Last call left ∷ steps) calls rest known reading is =
+    ap (λ s. conv_call line call known >>= (λ first. convs_after line s first.known >>=
+    with_first first)) reading
+    ∙ ap (λ c. convs_of_calls line c known) (same_calls (call ∷ []) calls left rest is)
+convs_by_calls line (More call left ∷ steps) calls rest known reading is =
+    let (more, found, all) = longer_is call (calls_of_steps steps) calls rest is in
+    then_same (conv_call line call known)
+    (λ first. convs_after line steps first.known >>= with_first first)
+    (λ first. convs_of_calls line more first.known >>= with_first first)
+    (λ first. ap (λ r. r >>= with_first first)
+    (convs_by_calls line steps more rest first.known reading found))
+    ∙ ap (λ c. convs_of_calls line c known) all
+convs_by_calls line (Faulty name fault ∷ steps) calls rest known reading is =
+    absurd (let no : ⊥ = cc in no)
+
+no_fault : {A B : Type 0} (found : Option (Maker A)) (fault : ArgFault)
+    (f : A → Result B SpellFault) (y : B) → (fault_of found fault >>= f) ≡ Ok y → ⊥
+no_fault None fault f y is = cc
+no_fault (Some make) fault f y is = cc
+
+no_conv : (way : Option MapWay) (name : List ℕ) (fault : ArgFault) (x : Reading Conv)
+    → conv_fault_by way name fault ≡ Ok x → ⊥
+no_conv (Some way) name fault x is = cc
+no_conv None name fault x is =
+    no_fault (entry_at conv_table name) fault (λ c. Ok (plain_conv nothing_known c)) x is
+
+-- the steps are of calls
+abbrev Called : List Step → Type 0
+Called steps = (calls : List CallForm) × AreOf calls steps
+
+longer_called : (call : CallForm) (rest : List ℕ) (steps : List Step) → Called steps
+    → Called (More call rest ∷ steps)
+longer_called call rest steps (calls, (left, are)) =
+    (call ∷ calls, (left, ap (λ r. longer_calls call r) are))
+
+-- steps that are read as converters have no fault
+convs_called : (line : ℕ) (steps : List Step) (known : Known) (convs : Reading (List Conv))
+    → convs_after line steps known ≡ Ok convs → Called steps
+convs_called line [] known convs is = ([], ([], refl))
+convs_called line (Last call rest ∷ steps) known convs is = (call ∷ [], (rest, refl))
+convs_called line (More call rest ∷ steps) known convs is =
+    let (first, made, after) =
+    and_then_ok (conv_call line call known)
+    (λ first. convs_after line steps first.known >>= with_first first) convs is in
+    let (others, read, whole) =
+    and_then_ok (convs_after line steps first.known) (with_first first) convs after in
+    longer_called call rest steps (convs_called line steps first.known others read)
+convs_called line (Faulty name fault ∷ steps) known convs is =
+    let (first, made, after) =
+    and_then_ok (conv_fault_by (entry_at map_table name) name fault)
+    (λ first. convs_after line steps first.known >>= with_first first) convs is in
+    absurd (no_conv (entry_at map_table name) name fault first made)
+
+convs_written : (line : ℕ) (calls : List CallForm) (known : Known) (convs : Reading (List Conv))
+    → convs_of_calls line calls known ≡ Ok convs → WriteConvs line known calls convs
+convs_written line [] known convs is = cc
+convs_written line (call ∷ calls) known convs is =
+    let (first, made, after) =
+    and_then_ok (conv_call line call known)
+    (λ first. convs_of_calls line calls first.known >>= with_first first) convs is in
+    let (others, read, whole) =
+    and_then_ok (convs_of_calls line calls first.known) (with_first first) convs after in
+    (first, others, cc, made, convs_written line calls first.known others read)
+
+convs_read : (line : ℕ) (calls : List CallForm) (known : Known) (convs : Reading (List Conv))
+    → WriteConvs line known calls convs → convs_of_calls line calls known ≡ Ok convs
+convs_read line [] known convs is = ap (λ c. Ok c) (sym is)
+convs_read line (call ∷ calls) known convs (first, others, is, made, write) =
+    then_ok (conv_call line call known)
+    (λ first. convs_of_calls line calls first.known >>= with_first first) first convs made
+    (then_ok (convs_of_calls line calls first.known) (with_first first) others convs
+    (convs_read line calls first.known others write) (ap (λ c. Ok c) (sym is)))
+
+-- ---- criteria
+
+abbrev with_convs :
+    Result (Reading (List Conv)) SpellFault → MethodFetch → Result (Reading Criterion) SpellFault
+with_convs convs first = convs >>= (λ c. Ok (criterion first c))
+
+-- the criterion of calls
+abbrev criterion_of_calls : ℕ → List CallForm → Known → Result (Reading Criterion) SpellFault
+criterion_of_calls line [] known = Err unsupported
+criterion_of_calls line (call ∷ calls) known =
+    fetch_by (fetch_way call.name) call.args >>= with_convs (convs_of_calls line calls known)
+
+criterion_by_calls : (line : ℕ) (steps : List Step) (calls : List CallForm) (rest : List ℕ)
+    (known : Known) → IsReading steps → calls_of_steps steps ≡ read_as calls rest
+    → criterion_of_steps line steps known ≡ criterion_of_calls line calls known
+criterion_by_calls line [] calls rest known reading is =
+    ap (λ c. criterion_of_calls line c known) (same_calls [] calls [] rest is)
+criterion_by_calls line (Last call left ∷ steps) calls rest known reading is =
+    ap (λ s. fetch_by (fetch_way call.name) call.args >>= with_convs (convs_after line s known))
+    reading
+    ∙ ap (λ c. criterion_of_calls line c known) (same_calls (call ∷ []) calls left rest is)
+criterion_by_calls line (More call left ∷ steps) calls rest known reading is =
+    let (more, found, all) = longer_is call (calls_of_steps steps) calls rest is in
+    ap (λ r. fetch_by (fetch_way call.name) call.args >>= with_convs r)
+    (convs_by_calls line steps more rest known reading found)
+    ∙ ap (λ c. criterion_of_calls line c known) all
+criterion_by_calls line (Faulty name fault ∷ steps) calls rest known reading is =
+    absurd (let no : ⊥ = cc in no)
+
+no_fetch : (way : Option FetchWay) (fault : ArgFault) (x : MethodFetch)
+    → fetch_fault_by way fault ≡ Ok x → ⊥
+no_fetch None fault x is = cc
+no_fetch (Some way) fault x is = cc
+
+criterion_called : (line : ℕ) (steps : List Step) (known : Known) (read : Reading Criterion)
+    → criterion_of_steps line steps known ≡ Ok read → Called steps
+criterion_called line [] known read is = ([], ([], refl))
+criterion_called line (Last call rest ∷ steps) known read is = (call ∷ [], (rest, refl))
+criterion_called line (More call rest ∷ steps) known read is =
+    let (first, fetched, after) =
+    and_then_ok (fetch_by (fetch_way call.name) call.args)
+    (with_convs (convs_after line steps known)) read is in
+    let (convs, converted, whole) =
+    and_then_ok (convs_after line steps known) (λ c. Ok (criterion first c)) read after in
+    longer_called call rest steps (convs_called line steps known convs converted)
+criterion_called line (Faulty name fault ∷ steps) known read is =
+    let (first, fetched, after) =
+    and_then_ok (fetch_fault_by (fetch_way name) fault)
+    (with_convs (convs_after line steps known)) read is in
+    absurd (no_fetch (fetch_way name) fault first fetched)
+
+criterion_of_whole : (line : ℕ) (text : List ℕ) (known : Known) (calls : List CallForm)
+    → AreOf calls (steps_of None text)
+    → criterion_of line text known ≡ criterion_of_calls line calls known
+unfolding criterion_of
+criterion_of_whole line text known calls (rest, are) =
+    criterion_by_calls line (steps_of None text) calls rest known (is_reading text) are
+
+written : (line : ℕ) (text : List ℕ) (before : Known) (calls : List CallForm)
+    (read : Reading Criterion) → SpellsCalls None calls text
+    → criterion_of_calls line calls before ≡ Ok read → WritesCriterion line before text read
+written line text before [] read spelled is = absurd (let no : ⊥ = cc in no)
+written line text before (first ∷ others) read spelled is =
+    let (fetch, fetched, after) =
+    and_then_ok (fetch_by (fetch_way first.name) first.args)
+    (with_convs (convs_of_calls line others before)) read is in
+    let (convs, converted, whole) =
+    and_then_ok (convs_of_calls line others before) (λ c. Ok (criterion fetch c)) read after in
+    record {
+      first = first;
+      others = others;
+      spelled = spelled;
+      fetch = fetch;
+      fetched = fetched;
+      convs = convs;
+      converted = convs_written line others before convs converted;
+      is = cc;
+    }
+
+criterion_calls : (line : ℕ) (text : List ℕ) (before : Known) (read : Reading Criterion)
+    → criterion_of line text before ≡ Ok read → Called (steps_of None text)
+unfolding criterion_of
+criterion_calls line text before read is =
+    criterion_called line (steps_of None text) before read is
+
+criterion_writes : (line : ℕ) (text : List ℕ) (before : Known) (read : Reading Criterion)
+    → criterion_of line text before ≡ Ok read → WritesCriterion line before text read
+criterion_writes line text before read is =
+    let (calls, are) = criterion_calls line text before read is in
+    written line text before calls read (steps_spelled text calls are)
+    (sym (criterion_of_whole line text before calls are) ∙ is)
+
+criterion_read : (line : ℕ) (text : List ℕ) (before : Known) (read : Reading Criterion)
+    → WritesCriterion line before text read → criterion_of line text before ≡ Ok read
+criterion_read line text before read w =
+    criterion_of_whole line text before (w.first ∷ w.others)
+    (spelled_steps text (w.first ∷ w.others) w.spelled)
+    ∙ then_ok (fetch_by (fetch_way w.first.name) w.first.args)
+    (with_convs (convs_of_calls line w.others before)) w.fetch read w.fetched
+    (then_ok (convs_of_calls line w.others before) (λ c. Ok (criterion w.fetch c)) w.convs read
+    (convs_read line w.others before w.convs w.converted) (ap (λ c. Ok c) (sym w.is)))
+
+-- a text is read as the criterion that it writes, and as no other
+pub criterion_law : (line : ℕ) (text : List ℕ) (before : Known) (read : Reading Criterion)
+    → (criterion_of line text before ≡ Ok read) ↔ WritesCriterion line before text read
+criterion_law line text before read =
+    (criterion_writes line text before read, criterion_read line text before read)
+
+criterion_gives : (line : ℕ) (text : List ℕ) (before : Known)
+    → Gives ReadsCriterion (criterion_of line text before)
+unfolding criterion_of
+criterion_gives line text before =
+    steps_give line (steps_of None text) before (is_reading text) (steps_never_lack text)
+
+-- a text that is refused is refused by a code
+pub criterion_coded : (line : ℕ) (text : List ℕ) (before : Known)
+    → criterion_of line text before ≢ Err spell.NoMemory
+criterion_coded line text before =
+    never_without_memory ReadsCriterion (criterion_of line text before)
+    (criterion_gives line text before)
+
+criterion_such : (line : ℕ) (text : List ℕ) (before : Known) (read : Reading Criterion)
+    → WritesCriterion line before text read → ReadsCriterion read
+criterion_such line text before read writes =
+    given_value ReadsCriterion (criterion_of line text before) read
+    (criterion_gives line text before) (criterion_read line text before read writes)
+
+-- the expression of a criterion is one
+pub criterion_is_expr : (line : ℕ) (text : List ℕ) (before : Known) (read : Reading Criterion)
+    → WritesCriterion line before text read → IsExpr read.value.expr
+criterion_is_expr line text before read writes =
+    (criterion_such line text before read writes).0
+
+-- the method in the name of a fetch takes patterns
+pub criterion_takes_patterns : (line : ℕ) (text : List ℕ) (before : Known)
+    (read : Reading Criterion) → WritesCriterion line before text read
+    → IfSome read.value.by (λ by. takes_patterns by ≡ true)
+criterion_takes_patterns line text before read writes =
+    (criterion_such line text before read writes).1

@@ -1,0 +1,60 @@
+-- Loops over files and over inline patterns, which read on after what is read so far.
+use Rattle.std.proofs.Common.{◌≡◌, ℕ, List, [], ◌∷◌, ◌++◌, Some, None, refl, ap, sym, append_assoc}
+use Rattle.hx_spell.specs.declared.declarations.Way.{Way}
+use Rattle.hx_spell.specs.declared.flag_table.Searched.{Searched}
+use Rattle.hx_spell.specs.declared.patterns.Keys.{Keys}
+use Rattle.hx_spell.specs.declared.patterns.Operator.{Operator}
+use Rattle.hx_spell.specs.Codes.{bad_argument}
+use Rattle.hx_spell.specs.Declarations.{file_heads, ignores_case}
+use Rattle.hx_spell.specs.Known.{Known, Reading, with_head}
+use Rattle.hx_spell.specs.Patterns.{number_keys, word_key}
+use Rattle.hx_spell.specs.Tables.{entry_at}
+use Rattle.hx_spell.specs.Patterns.{operator_table}
+
+-- ---- heads of files
+
+-- these heads, and those that are read after them
+abbrev pub longer_heads : List ℕ → Reading (List ℕ) → Reading (List ℕ)
+longer_heads before after = record { value = before ++ after.value; known = after.known }
+
+pub one_more_head : (way : Way) (before : List ℕ) (file : Searched) (files : List Searched)
+    (known after : Known) (head : ℕ)
+    → with_head (record { table = file.table; by = way.by; ci = ignores_case way file.ci }) known
+    ≡ record { value = head; known = after }
+    → longer_heads before (file_heads way (file ∷ files) known)
+    ≡ longer_heads (before ++ head ∷ []) (file_heads way files after)
+one_more_head way before file files known after head is =
+    let others = file_heads way files after in
+    rw is (ap (λ heads. record { value = heads; known = others.known })
+    (sym (append_assoc before (head ∷ []) others.value)))
+
+-- ---- keys of words
+
+abbrev pub longer_keys : List (List ℕ) → Keys → Keys
+longer_keys before after = record { keys = before ++ after.keys; fault = after.fault }
+
+pub after_operator : (before : List (List ℕ)) (operator next : Operator) (word : List ℕ)
+    (words : List (List ℕ))
+    → entry_at operator_table word ≡ Some next
+    → longer_keys before (number_keys operator (word ∷ words))
+    ≡ longer_keys before (number_keys next words)
+after_operator before operator next word words is = rw is refl
+
+pub one_more_key : (before : List (List ℕ)) (operator : Operator) (word key : List ℕ)
+    (words : List (List ℕ))
+    → entry_at operator_table word ≡ None → word_key operator word ≡ Some key
+    → longer_keys before (number_keys operator (word ∷ words))
+    ≡ longer_keys (before ++ key ∷ []) (number_keys operator words)
+one_more_key before operator word key words none is =
+    let others = number_keys operator words in
+    rw (none, is) (ap (λ keys. record { keys = keys; fault = others.fault })
+    (sym (append_assoc before (key ∷ []) others.keys)))
+
+pub no_more_keys : (before : List (List ℕ)) (operator : Operator) (word : List ℕ)
+    (words : List (List ℕ))
+    → entry_at operator_table word ≡ None → word_key operator word ≡ None
+    → longer_keys before (number_keys operator (word ∷ words))
+    ≡ longer_keys before (record { keys = []; fault = Some bad_argument })
+no_more_keys before operator word words none is = rw (none, is) refl
+
+pub ruleset read_on = (one_more_head, after_operator, one_more_key, no_more_keys)

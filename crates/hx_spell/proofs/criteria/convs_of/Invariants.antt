@@ -1,0 +1,15 @@
+use Rattle.std.proofs.Common.{◌≡◌, None, length}
+use Rattle.hx_words.specs.Calls.{steps_of}
+use Rattle.hx_spell.specs.Criteria.{convs_after}
+use Rattle.hx_spell.specs.Known.{Extends}
+use Rattle.hx_spell.proofs.CriterionSteps.{longer_reading}
+use Rattle.hx_spell.proofs.criteria.convs_of.Given as goal
+
+abbrev pub invariant-calls : goal.invariant-calls
+invariant-calls l =
+    Extends l.fn.known l.known
+    × (convs_after l.fn.line (steps_of None l.fn.text) l.fn.known
+    ≡ longer_reading l.convs (convs_after l.fn.line (steps_of None l.rest) l.known))
+
+abbrev pub decreases-calls : goal.decreases-calls
+decreases-calls l = length l.rest

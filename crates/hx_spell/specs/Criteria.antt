@@ -1,0 +1,199 @@
+-- The criterion of an ACL: an expression, whose fetch may have the match method in its name, as
+-- `path_beg` (HAProxy configuration manual 2.4, sections 7.1.3, 7.3 and 7.3.1). Its converters may
+-- look values up in maps, whose files are references.
+use Rattle.std.specs.Prelude.{ℕ, false, true, List, [], ◌∷◌, ◌++◌, codes, slice_get, Option, Some, None, Result, Ok, Err, option_map, option_and_then}
+use Rattle.std.specs.Option.{option_or}
+use Rattle.hx_base.specs.Bytes.{underscore}
+use Rattle.hx_text.specs.declared.By.{By}
+use Rattle.hx_text.specs.declared.By.TheVariants as method
+use Rattle.hx_text.specs.declared.Out.{Out}
+use Rattle.hx_text.specs.declared.Out.TheVariants as output
+use Rattle.hx_text.specs.Address.{ip_of}
+use Rattle.hx_text.specs.Cut.{cut_of}
+use Rattle.hx_text.specs.Number.{int_of}
+use Rattle.hx_words.specs.CallForm.{CallForm}
+use Rattle.hx_words.specs.Calls.{Step, steps_of}
+use Rattle.hx_words.specs.Calls.Step.{Last, More, Faulty}
+use Rattle.hx_words.specs.declared.ArgFault.{ArgFault}
+use Rattle.hx_ast.specs.declared.Conv.{Conv}
+use Rattle.hx_ast.specs.declared.Conv.TheVariants as conv
+use Rattle.hx_ast.specs.declared.Fetch.{Fetch}
+use Rattle.hx_spell.specs.declared.fault.SpellFault.{SpellFault}
+pub use Rattle.hx_spell.specs.declared.criteria.Criterion.{Criterion}
+pub use Rattle.hx_spell.specs.declared.criteria.MapWay.{MapWay}
+pub use Rattle.hx_spell.specs.declared.criteria.MethodFetch.{MethodFetch}
+use Rattle.hx_spell.specs.Codes.{bad_argument, form_fault, unsupported}
+use Rattle.hx_spell.specs.Arguments.{◌>>=◌, counted, optional}
+use Rattle.hx_spell.specs.Expressions.{call_meaning, fault_of, made_of}
+use Rattle.hx_spell.specs.Known.{Known, Reading, nothing_known, with_file, with_head, with_output}
+use Rattle.hx_spell.specs.Tables.{Maker, Table, conv_table, entry_at, fetch_table}
+
+-- ---- maps
+
+abbrev pub map_way : By → Out → MapWay
+map_way by out = record { by = by; out = out }
+
+-- the names of the converters that look up in a map: `map`, `map_MATCH` and `map_MATCH_OUT`
+abbrev pub map_rows : List ℕ → By → Table MapWay
+map_rows suffix by =
+    (codes "map_" ++ suffix, map_way by output.Str)
+    ∷ (codes "map_" ++ suffix ++ codes "_str", map_way by output.Str)
+    ∷ (codes "map_" ++ suffix ++ codes "_int", map_way by output.Int)
+    ∷ (codes "map_" ++ suffix ++ codes "_ip", map_way by output.Ip)
+    ∷ []
+
+unfoldable pub map_table : Table MapWay
+map_table =
+    (codes "map", map_way method.Str output.Str)
+    ∷ map_rows (codes "str") method.Str
+    ++ map_rows (codes "beg") method.Beg
+    ++ map_rows (codes "sub") method.Sub
+    ++ map_rows (codes "dir") method.Dir
+    ++ map_rows (codes "dom") method.Dom
+    ++ map_rows (codes "end") method.End
+    ++ map_rows (codes "reg") method.Reg
+    ++ map_rows (codes "int") method.Int
+    ++ map_rows (codes "ip") method.Ip
+
+-- a text that can be read as a map's value of this type
+abbrev pub value_of_map : Out → List ℕ → Option (List ℕ)
+value_of_map output.Str text = Some text
+value_of_map output.Int text = option_map (λ n. text) (int_of text)
+value_of_map output.Ip text = option_map (λ ip. text) (ip_of text)
+
+-- the head of a map, whose file is a reference with two columns
+abbrev pub map_head : MapWay → Reading ℕ → Reading ℕ
+map_head way file =
+    with_head (record { table = file.value; by = way.by; ci = false })
+    (with_output (record { table = file.value; out = way.out }) file.known)
+
+-- the reference of the file that the first argument names
+abbrev pub map_file : ℕ → Option (List ℕ) → Known → Result (Reading ℕ) SpellFault
+map_file line None known = Err bad_argument
+map_file line (Some name) known = with_file line name true known
+
+abbrev pub map_conv : MapWay → Option (List ℕ) → Reading ℕ → Reading Conv
+map_conv way default head = record {
+  value = conv.Map head.value way.by way.out default;
+  known = head.known;
+}
+
+-- FILE[,DEFAULT]: the file is judged before the default
+abbrev pub map_arguments : ℕ → MapWay → List (List ℕ) → Known → Result (Reading Conv) SpellFault
+map_arguments line way args known = counted 1 2 args (do
+  file ← map_file line (slice_get args 0) known
+  default ← optional (value_of_map way.out) bad_argument (slice_get args 1)
+  Ok (map_conv way default (map_head way file)))
+
+-- ---- converters
+
+abbrev pub plain_conv : Known → Conv → Reading Conv
+plain_conv known c = record { value = c; known = known }
+
+abbrev pub conv_by : ℕ → Option MapWay → CallForm → Known → Result (Reading Conv) SpellFault
+conv_by line (Some way) call known = map_arguments line way call.args known
+conv_by line None call known = call_meaning conv_table call >>= (λ c. Ok (plain_conv known c))
+
+-- the converter of a call
+abbrev pub conv_call : ℕ → CallForm → Known → Result (Reading Conv) SpellFault
+conv_call line call known = conv_by line (entry_at map_table call.name) call known
+
+abbrev pub conv_fault_by : Option MapWay → List ℕ → ArgFault → Result (Reading Conv) SpellFault
+conv_fault_by (Some way) name fault = Err (form_fault fault)
+conv_fault_by None name fault =
+    fault_of (entry_at conv_table name) fault >>= (λ c. Ok (plain_conv nothing_known c))
+
+-- the same of a call that is whole, or of one that has a fault after its name
+abbrev pub conv_step : ℕ → Step → Known → Result (Reading Conv) SpellFault
+conv_step line (Last call rest) known = conv_call line call known
+conv_step line (More call rest) known = conv_call line call known
+conv_step line (Faulty name fault) known =
+    conv_fault_by (entry_at map_table name) name fault
+
+-- the converters of calls, one after the other
+abbrev pub convs_after : ℕ → List Step → Known → Result (Reading (List Conv)) SpellFault
+convs_after line [] known = Ok (record { value = []; known = known })
+convs_after line (step ∷ steps) known = do
+  first ← conv_step line step known
+  others ← convs_after line steps first.known
+  Ok (record { value = first.value ∷ others.value; known = others.known })
+
+-- ---- fetches with a method in their names
+
+-- a fetch, and the match method that its name brings, if it brings one
+pub record FetchWay : Type 0 where
+  pub make : Maker Fetch
+  pub by : Option By
+
+-- the fetches that have such names
+unfoldable pub derived_fetches : Table (Maker Fetch)
+derived_fetches =
+    (codes "base", made_of (entry_at fetch_table (codes "base")))
+    ∷ (codes "cook", made_of (entry_at fetch_table (codes "cook")))
+    ∷ (codes "hdr", made_of (entry_at fetch_table (codes "hdr")))
+    ∷ (codes "path", made_of (entry_at fetch_table (codes "path")))
+    ∷ (codes "url", made_of (entry_at fetch_table (codes "url")))
+    ∷ (codes "urlp", made_of (entry_at fetch_table (codes "urlp")))
+    ∷ []
+
+-- the methods in names, after `_`
+unfoldable pub derived_methods : Table By
+derived_methods =
+    (codes "beg", method.Beg)
+    ∷ (codes "dir", method.Dir)
+    ∷ (codes "dom", method.Dom)
+    ∷ (codes "end", method.End)
+    ∷ (codes "len", method.Len)
+    ∷ (codes "reg", method.Reg)
+    ∷ (codes "sub", method.Sub)
+    ∷ []
+
+abbrev pub derived_way : Maker Fetch → By → FetchWay
+derived_way make by = record { make = make; by = Some by }
+
+abbrev pub plain_way : Maker Fetch → FetchWay
+plain_way make = record { make = make; by = None }
+
+-- the fetch and the method of a name that is a fetch's, `_` and a method's
+abbrev pub derived_of_parts : List ℕ × List ℕ → Option FetchWay
+derived_of_parts parts =
+    option_and_then (λ make. option_map (derived_way make) (entry_at derived_methods parts.1))
+    (entry_at derived_fetches parts.0)
+
+-- what the name of a fetch says in a criterion
+abbrev pub fetch_way : List ℕ → Option FetchWay
+fetch_way name =
+    option_or (option_map plain_way (entry_at fetch_table name))
+    (option_and_then derived_of_parts (cut_of underscore name))
+
+abbrev pub fetch_by : Option FetchWay → List (List ℕ) → Result MethodFetch SpellFault
+fetch_by None args = Err unsupported
+fetch_by (Some way) args =
+    way.make args >>= (λ f. Ok (record { fetch = f; by = way.by }))
+
+abbrev pub fetch_fault_by : Option FetchWay → ArgFault → Result MethodFetch SpellFault
+fetch_fault_by None fault = Err unsupported
+fetch_fault_by (Some way) fault = Err (form_fault fault)
+
+-- the fetch of the first call
+abbrev pub fetch_step : Step → Result MethodFetch SpellFault
+fetch_step (Last call rest) = fetch_by (fetch_way call.name) call.args
+fetch_step (More call rest) = fetch_by (fetch_way call.name) call.args
+fetch_step (Faulty name fault) = fetch_fault_by (fetch_way name) fault
+
+abbrev pub criterion : MethodFetch → Reading (List Conv) → Reading Criterion
+criterion first convs = record {
+  value = record { expr = record { fetch = first.fetch; convs = convs.value }; by = first.by };
+  known = convs.known;
+}
+
+abbrev pub criterion_of_steps : ℕ → List Step → Known → Result (Reading Criterion) SpellFault
+criterion_of_steps line [] known = Err unsupported
+criterion_of_steps line (step ∷ steps) known = do
+  first ← fetch_step step
+  convs ← convs_after line steps known
+  Ok (criterion first convs)
+
+-- the criterion that a text on this line writes, or the code of its first fault
+unfoldable pub criterion_of : ℕ → List ℕ → Known → Result (Reading Criterion) SpellFault
+criterion_of line text known = criterion_of_steps line (steps_of None text) known

@@ -1,0 +1,128 @@
+-- The flags of an ACL, between its criterion and its inline patterns (HAProxy configuration manual
+-- 2.4, section 7.1).
+use Rattle.std.specs.Prelude.{ℕ, ◌-◌, ◌^◌, ◌==◌, ◌&&◌, Bool, true, false, not, List, [], ◌∷◌, ◌++◌, codes, slice_index, Option, Some, None, is_none, Result, Ok, Err, if◌then◌else◌}
+use Rattle.std.specs.Option.{ok_or, option_map_or}
+use Rattle.std.specs.Char.{is_ascii_digit}
+use Rattle.hx_base.specs.Bytes.{hyphen}
+use Rattle.hx_text.specs.declared.By.{By}
+use Rattle.hx_text.specs.declared.By.TheVariants as method
+use Rattle.hx_text.specs.Network.{width_of}
+use Rattle.hx_ast.specs.Acls.{takes_patterns}
+use Rattle.hx_spell.specs.declared.fault.SpellFault.{SpellFault}
+pub use Rattle.hx_spell.specs.declared.flag_table.Flag.{Flag}
+pub use Rattle.hx_spell.specs.declared.flag_table.Flag.TheVariants.{IgnoreCase, TwoColumns, Numeric, File, Method, Number, End}
+pub use Rattle.hx_spell.specs.declared.flag_table.Flags.{Flags}
+pub use Rattle.hx_spell.specs.declared.flag_table.Searched.{Searched}
+use Rattle.hx_spell.specs.Codes.{bad_argument, unsupported}
+use Rattle.hx_spell.specs.Arguments.{◌>>=◌}
+use Rattle.hx_spell.specs.Known.{Known, Reading, with_acl, with_file}
+use Rattle.hx_spell.specs.Tables.{Table, entry_at}
+
+-- before the first flag
+abbrev pub no_flags : Option By → Flags
+no_flags by = record { ci = false; two = false; by = by; given = None; files = [] }
+
+unfoldable pub flag_table : Table Flag
+flag_table =
+    (codes "-i", IgnoreCase)
+    ∷ (codes "-M", TwoColumns)
+    ∷ (codes "-n", Numeric)
+    ∷ (codes "-f", File)
+    ∷ (codes "-m", Method)
+    ∷ (codes "-u", Number)
+    ∷ (codes "--", End)
+    ∷ []
+
+-- the match methods, as `-m` names them
+unfoldable pub method_table : Table By
+method_table =
+    (codes "found", method.Found)
+    ∷ (codes "bool", method.Bool)
+    ∷ (codes "int", method.Int)
+    ∷ (codes "ip", method.Ip)
+    ∷ (codes "bin", method.Bin)
+    ∷ (codes "len", method.Len)
+    ∷ (codes "str", method.Str)
+    ∷ (codes "beg", method.Beg)
+    ∷ (codes "end", method.End)
+    ∷ (codes "sub", method.Sub)
+    ∷ (codes "dir", method.Dir)
+    ∷ (codes "dom", method.Dom)
+    ∷ (codes "reg", method.Reg)
+    ∷ []
+
+-- a word that begins with `-` is a flag, unless a digit follows
+abbrev pub begins_as_flag : List ℕ → Bool
+begins_as_flag word =
+    slice_index word 0 == hyphen && not (is_ascii_digit (slice_index word 1))
+
+-- ---- one flag
+
+-- whether a flag that takes an argument may stand here: a method or a number once, and a file where
+-- the method isn't one without patterns
+abbrev pub may_stand : Flag → Flags → Bool
+may_stand Method flags = is_none flags.by
+may_stand Number flags = is_none flags.given
+may_stand File flags = option_map_or takes_patterns flags.by true
+may_stand flag flags = true
+
+abbrev pub with_searched : Flags → Reading ℕ → Reading Flags
+with_searched flags file = record {
+  value = record flags {
+    files = flags.files ++ record { table = file.value; ci = flags.ci } ∷ [];
+  };
+  known = with_acl file.value file.known;
+}
+
+-- what the argument of a flag says
+abbrev pub flag_argument :
+    ℕ → Flag → List ℕ → Flags → Known → Result (Reading Flags) SpellFault
+flag_argument line File name flags known =
+    with_file line name flags.two known >>= (λ file. Ok (with_searched flags file))
+flag_argument line Method name flags known =
+    ok_or (entry_at method_table name) unsupported
+    >>= (λ by. Ok (record { value = record flags { by = Some by }; known = known }))
+flag_argument line Number text flags known =
+    ok_or (width_of (2 ^ 32 - 1) text) bad_argument
+    >>= (λ n. Ok (record { value = record flags { given = Some n }; known = known }))
+flag_argument line flag text flags known = Ok (record { value = flags; known = known })
+
+-- ---- flags in order
+
+-- what the flags say, and the words after them
+pub record AfterFlags : Type 0 where
+  pub flags : Flags
+  pub words : List (List ℕ)
+
+abbrev pub flags_end : Flags → List (List ℕ) → Known → Result (Reading AfterFlags) SpellFault
+flags_end flags words known =
+    Ok (record { value = record { flags = flags; words = words }; known = known })
+
+-- what a word in the place of a flag says, with the words after it: the flags end, or go on,
+-- perhaps with the argument of a flag
+abbrev pub flag_word :
+    (Option Flag → Flags → Result (Reading AfterFlags) SpellFault) → Option Flag → List ℕ
+    → List (List ℕ) → Flags → Known → Result (Reading AfterFlags) SpellFault
+flag_word further (Some IgnoreCase) word words flags known =
+    further None (record flags { ci = true })
+flag_word further (Some TwoColumns) word words flags known =
+    further None (record flags { two = true })
+flag_word further (Some Numeric) word words flags known = further None flags
+flag_word further (Some End) word words flags known = flags_end flags words known
+flag_word further (Some flag) word words flags known =
+    if may_stand flag flags then further (Some flag) flags else Err bad_argument
+flag_word further None word words flags known =
+    if begins_as_flag word then Err unsupported else flags_end flags (word ∷ words) known
+
+-- The flags that words begin with, after those so far; with a flag whose argument is the next word,
+-- if there is one.
+abbrev pub flags_from : ℕ → Option Flag → List (List ℕ) → Flags → Known
+    → Result (Reading AfterFlags) SpellFault
+flags_from line None [] flags known = flags_end flags [] known
+flags_from line (Some flag) [] flags known = Err bad_argument
+flags_from line None (word ∷ words) flags known =
+    flag_word (λ awaits after. flags_from line awaits words after known) (entry_at flag_table word)
+    word words flags known
+flags_from line (Some flag) (word ∷ words) flags known =
+    flag_argument line flag word flags known
+    >>= (λ r. flags_from line None words r.value r.known)

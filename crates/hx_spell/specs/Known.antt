@@ -1,0 +1,194 @@
+-- What a configuration's lines bring, up to a place: the references, how they are searched and what
+-- for, and the names of ACLs. All stand in the order of their first appearance (HAProxy
+-- configuration manual 2.4, sections 7.1, 7.2 and 7.3.1, `map`; management guide 2.4, section 9.3).
+use Rattle.std.specs.Prelude.{◌≡◌, ◌≢◌, ℕ, ◌==◌, ◌&&◌, take, Bool, true, false, nat_lt, List, [], ◌∷◌, ◌++◌, length, Option, None, Some, Result, Ok, Err, if◌then◌else◌, position, slice_get}
+use Rattle.std.specs.Bool.{beq}
+use Rattle.std.specs.List.{list_any}
+use Rattle.std.specs.Option.{option_map_or}
+use Rattle.std.specs.Str.{bytes_eq}
+use Rattle.hx_text.specs.declared.By.{By}
+use Rattle.hx_text.specs.declared.By.TheVariants as method
+use Rattle.hx_text.specs.declared.Out.{Out}
+use Rattle.hx_text.specs.declared.Out.TheVariants as output
+use Rattle.hx_spell.specs.declared.fault.SpellFault.{SpellFault}
+use Rattle.hx_spell.specs.declared.fault.SpellFault.TheVariants as spell
+use Rattle.hx_spell.specs.declared.table_specs.HeadSpec.{HeadSpec}
+use Rattle.hx_spell.specs.declared.table_specs.MapOutput.{MapOutput}
+use Rattle.hx_spell.specs.declared.known.Lengths.{Lengths}
+use Rattle.hx_spell.specs.Codes.{file_kind, too_many_references}
+
+-- A reference as a configuration brings it: a file of patterns or of pairs, or the inline patterns
+-- of an ACL, which are no file. `line` is the line of its first appearance, and `given` the number
+-- that `-u` gives it.
+pub record ReferenceForm : Type 0 where
+  pub file : Option (List ℕ)
+  pub given : Option ℕ
+  pub two_column : Bool
+  pub line : ℕ
+  pub words : List (List ℕ)
+
+-- the references, the heads, which references are read as which type and which ACLs search, the
+-- names of ACLs that are declared, and whether there was a statement
+pub record Known : Type 0 where
+  pub references : List ReferenceForm
+  pub heads : List HeadSpec
+  pub outputs : List MapOutput
+  pub acls : List ℕ
+  pub names : List (List ℕ)
+  pub begun : Bool
+
+-- before the first line
+abbrev pub nothing_known : Known
+nothing_known = record {
+  references = [];
+  heads = [];
+  outputs = [];
+  acls = [];
+  names = [];
+  begun = false;
+}
+
+-- what is read, and what is known after it
+pub record Reading (A : Type 0) : Type 0 where
+  pub value : A
+  pub known : Known
+
+-- ---- which are the same
+
+abbrev pub method_number : By → ℕ
+method_number method.Found = 0
+method_number method.Bool = 1
+method_number method.Int = 2
+method_number method.Ip = 3
+method_number method.Bin = 4
+method_number method.Len = 5
+method_number method.Str = 6
+method_number method.Beg = 7
+method_number method.End = 8
+method_number method.Sub = 9
+method_number method.Dir = 10
+method_number method.Dom = 11
+method_number method.Reg = 12
+
+abbrev pub output_number : Out → ℕ
+output_number output.Str = 0
+output_number output.Int = 1
+output_number output.Ip = 2
+
+abbrev pub is_head : HeadSpec → HeadSpec → Bool
+is_head head other =
+    other.table == head.table && method_number other.by == method_number head.by
+    && beq other.ci head.ci
+
+abbrev pub is_output : MapOutput → MapOutput → Bool
+is_output output other =
+    other.table == output.table && output_number other.out == output_number output.out
+
+-- a reference of this file
+abbrev pub is_of_file : List ℕ → ReferenceForm → Bool
+is_of_file name form = option_map_or (bytes_eq name) form.file false
+
+-- ---- what a use of a reference brings
+
+-- the most references that a configuration may have
+abbrev pub most_references : ℕ
+most_references = 65536
+
+-- one more reference
+abbrev pub with_reference : ReferenceForm → Known → Result (Reading ℕ) SpellFault
+with_reference form known =
+    if nat_lt (length known.references) most_references
+    then Ok (record {
+      value = length known.references;
+      known = record known { references = known.references ++ form ∷ [] };
+    })
+    else Err too_many_references
+
+abbrev pub has_columns : Known → ℕ → Bool → Bool
+has_columns known place two =
+    option_map_or (λ form. beq form.two_column two) (slice_get known.references place) false
+
+-- a reference that is there, used with so many columns, or a new one
+abbrev pub file_or_new :
+    ReferenceForm → Known → Option ℕ → Result (Reading ℕ) SpellFault
+file_or_new form known (Some place) =
+    if has_columns known place form.two_column
+    then Ok (record { value = place; known = known }) else Err file_kind
+file_or_new form known None = with_reference form known
+
+abbrev pub file_form : ℕ → List ℕ → Bool → ReferenceForm
+file_form line name two = record {
+  file = Some name;
+  given = None;
+  two_column = two;
+  line = line;
+  words = [];
+}
+
+-- The position of the reference of a file, which is used on this line with one column or two. A
+-- file has one reference, however often it is named; it may not be used both ways.
+abbrev pub with_file : ℕ → List ℕ → Bool → Known → Result (Reading ℕ) SpellFault
+with_file line name two known =
+    file_or_new (file_form line name two) known (position (is_of_file name) known.references)
+
+abbrev pub head_or_new : HeadSpec → Known → Option ℕ → Reading ℕ
+head_or_new head known (Some number) = record { value = number; known = known }
+head_or_new head known None = record {
+  value = length known.heads;
+  known = record known { heads = known.heads ++ head ∷ [] };
+}
+
+-- the number of a head
+abbrev pub with_head : HeadSpec → Known → Reading ℕ
+with_head head known = head_or_new head known (position (is_head head) known.heads)
+
+-- a reference whose values are read as a type
+abbrev pub with_output : MapOutput → Known → Known
+with_output output known =
+    if list_any (is_output output) known.outputs then known
+    else record known { outputs = known.outputs ++ output ∷ [] }
+
+-- a reference that an ACL searches
+abbrev pub with_acl : ℕ → Known → Known
+with_acl table known =
+    if list_any (λ other. other == table) known.acls then known
+    else record known { acls = known.acls ++ table ∷ [] }
+
+-- the name of an ACL that is declared
+abbrev pub with_name : List ℕ → Known → Known
+with_name name known = record known { names = known.names ++ name ∷ [] }
+
+abbrev pub after_statement : Known → Known
+after_statement known = record known { begun = true }
+
+-- ---- reading
+
+-- A call reads what is expected: the same value, with the same known after it, or the same code.
+-- Where memory runs out, nothing is said.
+abbrev pub ReadsAs :
+    {A : Type 0} → Result A SpellFault → Known → Result (Reading A) SpellFault → Type 0
+ReadsAs (Ok x) after expected = expected ≡ Ok (record { value = x; known = after })
+ReadsAs (Err fault) after expected = fault ≢ spell.NoMemory → expected ≡ Err fault
+
+-- the list begins with these items
+abbrev pub BeginsWith : {A : Type 0} → List A → List A → Type 0
+BeginsWith items list = take (length items) list ≡ items
+
+-- references, heads and what they are used for are added after those that are known, and nothing
+-- else changes
+pub record Extends (before after : Known) : Type 0 where
+  pub references : BeginsWith before.references after.references
+  pub heads : BeginsWith before.heads after.heads
+  pub outputs : BeginsWith before.outputs after.outputs
+  pub acls : BeginsWith before.acls after.acls
+  pub names : after.names ≡ before.names
+  pub begun : after.begun ≡ before.begun
+
+-- how much is known: what a line that is refused brought is forgotten by it
+abbrev pub lengths_of : Known → Lengths
+lengths_of known = record {
+  references = length known.references;
+  heads = length known.heads;
+  outputs = length known.outputs;
+  acls = length known.acls;
+}

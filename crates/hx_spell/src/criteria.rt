@@ -1,0 +1,298 @@
+ghost use Rattle.std.specs.Prelude.{◌≡◌, ◌∷◌, None, Some, IfOk, if◌then◌else◌, slice_get};
+ghost use Rattle.std.specs.Prelude.{option_map};
+ghost use Rattle.hx_words.specs.Calls.{steps_of, further_steps};
+ghost use Rattle.hx_words.specs.StepView.{step_view};
+ghost use Rattle.hx_spell.specs.Arguments.{optional};
+ghost use Rattle.hx_spell.specs.Codes.{AnswersAs, bad_argument};
+ghost use Rattle.hx_spell.specs.Criteria.{conv_call, conv_fault_by, convs_after, criterion_of};
+ghost use Rattle.hx_spell.specs.Criteria.{criterion_of_steps, derived_fetches, derived_methods};
+ghost use Rattle.hx_spell.specs.Criteria.{derived_of_parts, fetch_by, fetch_fault_by, fetch_way};
+ghost use Rattle.hx_spell.specs.Criteria.{map_arguments, map_file, map_head, map_table};
+ghost use Rattle.hx_spell.specs.Criteria.{value_of_map};
+ghost use Rattle.hx_spell.specs.CriterionView.{fetch_way_view};
+ghost use Rattle.hx_spell.specs.Known.{Extends, ReadsAs};
+ghost use Rattle.hx_spell.specs.TableView.{fetch_maker};
+ghost use Rattle.hx_spell.specs.Tables.{entry_at};
+
+use crate::arguments::counted;
+use crate::derived_table::{DERIVED_FETCHES, DERIVED_METHODS};
+use crate::expression;
+use crate::fault::{BAD_ARGUMENT, SpellFault, UNSUPPORTED, form_fault};
+use crate::fetch_table::FetchName;
+use crate::fetches::fetch;
+use crate::known::Knowledge;
+use crate::lookup::lookup;
+use crate::map_table::MAPS;
+use crate::table_specs::{HeadSpec, MapOutput};
+use hx_ast::{Conv, Convs, Expr, Fetch, Items};
+use hx_text::{By, NoMemory, Octets, Out, cut_at, read_i64, read_ip};
+use hx_words::{ArgFault, Call, CallStep, laws, next_call};
+use std::alloc::Global;
+
+/// The criterion of an ACL: an expression, and the match method that the name of its fetch brings,
+/// if it brings one.
+#[derive(Drop)]
+pub(crate) struct Criterion {
+    pub(crate) expr: Expr,
+    pub(crate) by: Option<By>,
+}
+
+/// The fetch of a criterion, and the method of its name.
+#[derive(Drop)]
+pub(crate) struct MethodFetch {
+    pub(crate) fetch: Fetch,
+    pub(crate) by: Option<By>,
+}
+
+/// What the name of a fetch says in a criterion.
+#[derive(Clone, Copy)]
+pub(crate) struct FetchWay {
+    pub(crate) name: FetchName,
+    pub(crate) by: Option<By>,
+}
+
+/// How a map is searched, and the type of its values.
+#[derive(Clone, Copy)]
+pub(crate) struct MapWay {
+    pub(crate) by: By,
+    pub(crate) out: Out,
+}
+
+fn map_way(name: &[u8]) -> Option<MapWay>
+    ensures { result ≡ entry_at map_table name.now }
+{
+    match lookup(&MAPS, name) {
+        None => None,
+        Some((by, out)) => Some(MapWay { by, out }),
+    }
+}
+
+/// Whether a text can be read as a value of this type.
+fn is_map_value(out: Out, text: &[u8]) -> bool
+    ensures { value_of_map out text.now ≡ if result then Some text.now else None }
+{
+    match out {
+        Out::Str => true,
+        Out::Int => read_i64(text).is_some(),
+        Out::Ip => read_ip(text).is_some(),
+    }
+}
+
+/// The default of a map whose values have this type, if one is given.
+fn map_default(alloc: Global, out: Out, call: &Call) -> Result<Option<Octets>, SpellFault>
+    ensures { AnswersAs result
+        (optional (value_of_map out) bad_argument (slice_get call.now.args 1)) }
+{
+    let Some(text) = call.arg(1) else {
+        return Ok(None);
+    };
+    if is_map_value(out, text) {
+        Ok(Some(Octets::copy(alloc, text)?))
+    } else {
+        Err(SpellFault::Code(BAD_ARGUMENT))
+    }
+}
+
+/// The reference of the file of a map.
+fn map_file(known: &mut Knowledge, line: u64, call: &Call) -> Result<u32, SpellFault>
+    ensures answers { ReadsAs result known.new
+        (map_file line (slice_get call.now.args 0) known.old) }
+    ensures extends { Extends known.old known.new }
+{
+    match call.arg(0) {
+        None => Err(SpellFault::Code(BAD_ARGUMENT)),
+        Some(name) => known.file(line, name, true),
+    }
+}
+
+/// The head of the map whose file is the reference at this position.
+fn map_head(known: &mut Knowledge, way: MapWay, table: u32) -> Result<u32, NoMemory>
+    ensures number { IfOk result (λ n. map_head way (record { value = table; known = known.old })
+        ≡ record { value = n; known = known.new }) }
+    ensures extends { Extends known.old known.new }
+{
+    known.output(MapOutput {
+        table,
+        out: way.out,
+    })?;
+    known.head(HeadSpec {
+        table,
+        by: way.by,
+        ci: false,
+    })
+}
+
+/// The converter that looks up in a map.
+fn map_conv(
+    known: &mut Knowledge,
+    alloc: Global,
+    line: u64,
+    way: MapWay,
+    call: &Call,
+) -> Result<Conv, SpellFault>
+    ensures answers { ReadsAs result known.new (map_arguments line way call.now.args known.old) }
+    ensures extends { Extends known.old known.new }
+{
+    counted(call, 1, 2)?;
+    let table = map_file(known, line, call)?;
+    let default = map_default(alloc, way.out, call)?;
+    let head = map_head(known, way, table)?;
+    Ok(Conv::Map(head, way.by, way.out, default))
+}
+
+fn conv_of(known: &mut Knowledge, alloc: Global, line: u64, call: &Call) -> Result<Conv, SpellFault>
+    ensures answers { ReadsAs result known.new (conv_call line call.now known.old) }
+    ensures extends { Extends known.old known.new }
+{
+    match map_way(call.name()) {
+        Some(way) => map_conv(known, alloc, line, way, call),
+        None => expression::conv_of(alloc, call),
+    }
+}
+
+fn conv_fault(name: &[u8], fault: ArgFault) -> SpellFault
+    ensures { conv_fault_by (entry_at map_table name.now) name.now fault ≡ Err result }
+{
+    match map_way(name) {
+        Some(_) => form_fault(fault),
+        None => expression::conv_fault(name, fault),
+    }
+}
+
+fn derived_fetch(name: &[u8]) -> Option<FetchName>
+    ensures { entry_at derived_fetches name.now ≡ option_map fetch_maker result }
+{
+    lookup(&DERIVED_FETCHES, name)
+}
+
+#[tactic(auto, unfolding(crate::specs::Criteria::derived_methods))]
+fn derived_method(name: &[u8]) -> Option<By>
+    ensures { result ≡ entry_at derived_methods name.now }
+{
+    lookup(&DERIVED_METHODS, name)
+}
+
+/// The fetch and the method of a name that is made of both.
+fn derived_way(name: &[u8], method: &[u8]) -> Option<FetchWay>
+    ensures { derived_of_parts (name.now, method.now) ≡ option_map fetch_way_view result }
+{
+    let Some(name) = derived_fetch(name) else {
+        return None;
+    };
+    match derived_method(method) {
+        None => None,
+        Some(by) => Some(FetchWay { name, by: Some(by) }),
+    }
+}
+
+fn fetch_way(name: &[u8]) -> Option<FetchWay>
+    ensures { fetch_way name.now ≡ option_map fetch_way_view result }
+{
+    if let Some(name) = expression::fetch_name(name) {
+        return Some(FetchWay { name, by: None });
+    }
+    match cut_at(b'_', name) {
+        None => None,
+        Some((name, method)) => derived_way(name, method),
+    }
+}
+
+fn fetch_of(alloc: Global, call: &Call) -> Result<MethodFetch, SpellFault>
+    ensures { AnswersAs result (fetch_by (fetch_way call.now.name) call.now.args) }
+{
+    match fetch_way(call.name()) {
+        None => Err(SpellFault::Code(UNSUPPORTED)),
+        Some(way) => {
+            let fetch = fetch(alloc, way.name, call)?;
+            Ok(MethodFetch { fetch, by: way.by })
+        }
+    }
+}
+
+fn fetch_fault(name: &[u8], fault: ArgFault) -> SpellFault
+    ensures { fetch_fault_by (fetch_way name.now) fault ≡ Err result }
+{
+    match fetch_way(name) {
+        None => SpellFault::Code(UNSUPPORTED),
+        Some(_) => form_fault(fault),
+    }
+}
+
+/// The converters that a text of calls writes. The calls are judged one by one from the left.
+#[tactic(auto, using(crate::proofs::CriterionSteps::steps_of_criterion))]
+fn convs_of(
+    known: &mut Knowledge,
+    alloc: Global,
+    line: u64,
+    text: &[u8],
+) -> Result<Convs, SpellFault>
+    ensures answers { ReadsAs result known.new
+        (convs_after line (steps_of None text.now) known.old) }
+    ensures extends { Extends known.old known.new }
+{
+    let mut convs = Items::new(alloc);
+    let mut rest = text;
+    'calls: loop {
+        laws::call_law(rest, None);
+        match next_call(alloc, rest, None)? {
+            CallStep::More { call, rest: after } => {
+                convs.push(conv_of(known, alloc, line, &call)?)?;
+                rest = after;
+            }
+            CallStep::Last { call, rest: _ } => {
+                convs.push(conv_of(known, alloc, line, &call)?)?;
+                return Ok(convs);
+            }
+            CallStep::Faulty { name, fault } => return Err(conv_fault(name.as_slice(), fault)),
+        }
+    }
+}
+
+/// The criterion of a text that begins with this step.
+fn criterion_from(
+    known: &mut Knowledge,
+    alloc: Global,
+    line: u64,
+    step: CallStep<'_>,
+) -> Result<Criterion, SpellFault>
+    ensures answers { let first = step_view step.entry in ReadsAs result known.new
+        (criterion_of_steps line
+        (first ∷ further_steps (λ rest. steps_of None rest) first) known.old) }
+    ensures extends { Extends known.old known.new }
+{
+    match step {
+        CallStep::More { call, rest } => {
+            let MethodFetch { fetch, by } = fetch_of(alloc, &call)?;
+            let convs = convs_of(known, alloc, line, rest)?;
+            Ok(Criterion {
+                expr: Expr { fetch, convs },
+                by,
+            })
+        }
+        CallStep::Last { call, rest: _ } => {
+            let MethodFetch { fetch, by } = fetch_of(alloc, &call)?;
+            let convs = Items::new(alloc);
+            Ok(Criterion {
+                expr: Expr { fetch, convs },
+                by,
+            })
+        }
+        CallStep::Faulty { name, fault } => Err(fetch_fault(name.as_slice(), fault)),
+    }
+}
+
+/// The criterion that a text on this line writes: a fetch, perhaps with a match method in its name,
+/// and then converters. The files of maps are references from then on.
+pub(crate) fn criterion_of(
+    known: &mut Knowledge,
+    alloc: Global,
+    line: u64,
+    text: &[u8],
+) -> Result<Criterion, SpellFault>
+    ensures answers { ReadsAs result known.new (criterion_of line text.now known.old) }
+    ensures extends { Extends known.old known.new }
+{
+    laws::call_law(text, None);
+    let step = next_call(alloc, text, None)?;
+    criterion_from(known, alloc, line, step)
+}

@@ -1,0 +1,24 @@
+use crate::fetch_table::{BareFetch, FetchName, HeaderFetch, NamedFetch};
+use hx_text::By;
+
+/// The fetches that stand in names with a match method after them, as `path` in `path_beg` (HAProxy
+/// configuration manual 2.4, section 7.3.6).
+pub(crate) const DERIVED_FETCHES: [(&[u8], FetchName); 6] = [
+    (b"base", FetchName::Bare(BareFetch::Base)),
+    (b"cook", FetchName::Named(NamedFetch::Cook)),
+    (b"hdr", FetchName::Header(HeaderFetch::Hdr)),
+    (b"path", FetchName::Bare(BareFetch::Path)),
+    (b"url", FetchName::Bare(BareFetch::Url)),
+    (b"urlp", FetchName::Named(NamedFetch::UrlParam)),
+];
+
+/// The match methods in such names.
+pub(crate) const DERIVED_METHODS: [(&[u8], By); 7] = [
+    (b"beg", By::Beg),
+    (b"dir", By::Dir),
+    (b"dom", By::Dom),
+    (b"end", By::End),
+    (b"len", By::Len),
+    (b"reg", By::Reg),
+    (b"sub", By::Sub),
+];
