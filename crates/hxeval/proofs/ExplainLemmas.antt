@@ -1,5 +1,5 @@
 -- A text in its parts.
-use Rattle.std.proofs.Common.{◌≡◌, ℕ, ◌+◌, ◌^◌, ◌<◌, ◌==◌, Bool, false, List, [], ◌∷◌, ◌++◌, codes, length, take, drop, get_or, Option, Some, unwrap_or, refl, sym, ap, ◌∙◌, arith, take-append-drop, append_assoc}
+use Rattle.std.proofs.Common.{◌≡◌, ℕ, ◌+◌, ◌^◌, ◌<◌, ◌==◌, false, List, [], ◌∷◌, ◌++◌, codes, length, take, drop, get_or, Option, Some, unwrap_or, refl, sym, ap, ◌∙◌, arith, take-append-drop, append_assoc}
 use Rattle.std.specs.Borrow.{Bor}
 use Rattle.std.specs.Fmt.{decimal}
 use Rattle.std.specs.Str.Parse.{AllDigits}
@@ -57,16 +57,16 @@ pub record_code : (offset code : ℕ) → offset < 2 ^ 64 → code < 2 ^ 64 → 
 record_code offset code fits small =
     ap (λ (p : List ℕ × List ℕ). (cut_or_end 10 p.1).0) (cut_numbers offset code fits) ∙ ap (λ (p : List ℕ × List ℕ). p.0) (cut_number code small)
 
-pub config_explained : (name : List ℕ) (file_failed : Bool) (last_line large : List ℕ) (line code : ℕ) → line < 2 ^ 64 → code < 2 ^ 64
-    → last_line ≡ config_line line code → explanation 3 name file_failed last_line large ≡ config_refused name (decimal line) (decimal code)
+pub config_explained : (name : List ℕ) (unread : Option (List ℕ)) (last_line large : List ℕ) (line code : ℕ) → line < 2 ^ 64 → code < 2 ^ 64
+    → last_line ≡ config_line line code → explanation 3 name unread last_line large ≡ config_refused name (decimal line) (decimal code)
 unfolding explanation
-config_explained name file_failed last_line large line code fits small is =
+config_explained name unread last_line large line code fits small is =
     rw (is) (ap (λ location. config_refused name location (code_in (config_line line code))) (config_location line code fits)
     ∙ ap (config_refused name (decimal line)) (config_code line code fits small))
 
-pub record_explained : (name : List ℕ) (file_failed : Bool) (last_line large : List ℕ) (offset code : ℕ) → offset < 2 ^ 64 → code < 2 ^ 64
-    → last_line ≡ record_line offset code → explanation 4 name file_failed last_line large ≡ record_refused (decimal offset) (decimal code)
+pub record_explained : (name : List ℕ) (unread : Option (List ℕ)) (last_line large : List ℕ) (offset code : ℕ) → offset < 2 ^ 64 → code < 2 ^ 64
+    → last_line ≡ record_line offset code → explanation 4 name unread last_line large ≡ record_refused (decimal offset) (decimal code)
 unfolding explanation
-record_explained name file_failed last_line large offset code fits small is =
+record_explained name unread last_line large offset code fits small is =
     rw (is) (ap (λ location. record_refused location (code_in (record_line offset code))) (record_location offset code fits)
     ∙ ap (record_refused (decimal offset)) (record_code offset code fits small))

@@ -1,135 +1,184 @@
--- What a loop over the lines of a configuration has read as regular expressions.
-use Rattle.std.proofs.Common.{◌≡◌, ℕ, ◌+◌, inl, inr, List, [], ◌∷◌, ◌++◌, length, Option, None, Some, Ok, refl, sym, ap, ◌∙◌, subst, arith, append_assoc, length-append}
-use Rattle.std.specs.Prelude.{Contains, IfSome, IsSomeAnd}
-use Rattle.std.proofs.lemmas.Option.{none-some, same_Some}
-use Rattle.hx_outside.specs.Makers.{ExpressionText}
-use Rattle.hx_words.specs.Variable.{Env}
-use Rattle.hx_words.specs.Words.{words_of}
-use Rattle.hx_ast.specs.Statements.{EachExprOfCond, OwnExpr, UsesNoMap}
+-- Faults of parts are faults of the statements that they stand in.
+use Rattle.std.proofs.Common.{◌≡◌, ◌↔◌, ◌⊎◌, ◌&&◌, ℕ, Bool, true, false, inl, inr, List, [], ◌∷◌, Option, None, Some, Result, Ok, Err, refl, sym, ap, ◌∙◌, subst, IsSomeAnd, Contains, flat_map, arith, IsErrOf}
+use Rattle.std.specs.List.{list_all}
+use Rattle.std.proofs.lemmas.List.Elements.{Contains-append_cases, Contains-append_left, Contains-append_right}
+use Rattle.hx_acl.specs.Expressions.{cond_has_expressions, cond_texts, conj_has_expressions, conj_texts, use_has_expressions, use_texts}
 use Rattle.hx_ast.specs.declared.AclUse.{AclUse}
 use Rattle.hx_ast.specs.declared.AclUse.TheVariants.{Named, Own}
-use Rattle.hx_ast.specs.declared.Decl.{Decl}
-use Rattle.hx_ast.specs.declared.Statement.{Statement}
-use Rattle.hx_ast.specs.declared.Statement.TheVariants as statement
 use Rattle.hx_ast.specs.declared.Term.{Term}
-use Rattle.hx_spell.specs.Spelling.{Spells}
-use Rattle.hx_spell.specs.Statements.{deny_rule, string_decl}
-use Rattle.hx_expr.specs.Expressions.{expression_texts}
-use Rattle.hx_expr.specs.Types.{is_typed}
-use Rattle.hxeval.specs.Configuration.{GivesRule, GiveRules, own_decl, line_rule, lines_of, only_decl}
-use Rattle.hxeval.specs.Judged.{Judges, LineJudges}
-use Rattle.hxeval.specs.Loading.{GaveRules, StatementJudges}
-use Rattle.hxeval.specs.Rules.{Rule}
-use Rattle.hxeval.proofs.LoadingLemmas.{line_is}
+use Rattle.hx_expr.specs.Faults.{CompileCountsLarge, CompileNamesLarge}
+use Rattle.hx_expr.specs.declared.PlanFault.{PlanFault}
+use Rattle.hx_expr.specs.declared.PlanFault.TheVariants as plan
+use Rattle.hx_outside.specs.Count.{Rose}
+use Rattle.hx_outside.specs.Makers.{ExpressionText, MakerState}
+use Rattle.hxeval.specs.Configuration.{is_cond_readable, is_use_readable}
+use Rattle.hxeval.specs.Loads.{CondReads, ConjReads, UseReads}
+use Rattle.hxeval.specs.Judging.{FaultOf, IsCodeFor, JudgedAs, StaysSmall, cond_has_patterns, conj_has_patterns, use_has_patterns}
+use Rattle.hxeval.specs.Loading.{fault_of_plan}
+use Rattle.hxeval.specs.declared.line_fault.LineFault.{LineFault}
+use Rattle.hxeval.specs.declared.line_fault.LineFault.TheVariants as line
 
--- before the first line
-pub gave_none : (env : Env) (config : List ℕ) → GaveRules env config 0 [] (lines_of config)
-gave_none env config = record { before = []; lines_are = refl; number = refl; given = refl }
+-- ---- states of a maker
 
-give_blank : (env : Env) (n : ℕ) (before : List (List ℕ)) (line : List ℕ) (rules : List Rule) → GiveRules env n before rules
-    → words_of env line ≡ Ok [] → GiveRules env n (before ++ line ∷ []) rules
-give_blank env n [] line rules none blank = inl (blank, none)
-give_blank env n (first ∷ before) line rules (inl (is, more)) blank = inl (is, give_blank env (n + 1) before line rules more blank)
-give_blank env n (first ∷ before) line rules (inr (rule, rest, are, given, more)) blank =
-    inr (rule, rest, are, given, give_blank env (n + 1) before line rest more blank)
+pub stays : (before : MakerState) → StaysSmall before before
+stays before = record { count = refl; last = refl }
 
-give_rule : (env : Env) (n number : ℕ) (before : List (List ℕ)) (line : List ℕ) (rules : List Rule) (next : Rule) → GiveRules env n before rules
-    → number ≡ n + length before → GivesRule env number line next → GiveRules env n (before ++ line ∷ []) (rules ++ next ∷ [])
-give_rule env n number [] line rules next none is given =
-    let here : number ≡ n = omega (arith, is) in
-    inr (next, [], ap (λ (r : List Rule). r ++ next ∷ []) none, subst (λ (k : ℕ). GivesRule env k line next) here given, refl)
-give_rule env n number (first ∷ before) line rules next (inl (blank, more)) is given =
-    inl (blank, give_rule env (n + 1) number before line rules next more (omega (arith, is)) given)
-give_rule env n number (first ∷ before) line rules next (inr (rule, rest, are, gives, more)) is given =
-    inr (rule, rest ++ next ∷ [], ap (λ (r : List Rule). r ++ next ∷ []) are, gives, give_rule env (n + 1) number before line rest next more (omega (arith, is)) given)
+pub then_stays : (before mid now : MakerState) → StaysSmall before mid → StaysSmall mid now
+    → StaysSmall before now
+then_stays before mid now first more =
+    record { count = more.count ∙ first.count; last = more.last ∙ first.last }
 
--- the lines, one further
-one_more : (all before : List (List ℕ)) (line : List ℕ) (left after : List (List ℕ)) → all ≡ before ++ left → left ≡ line ∷ after
-    → all ≡ (before ++ line ∷ []) ++ after
-one_more all before line left after are is = are ∙ ap (λ (l : List (List ℕ)). before ++ l) is ∙ sym (append_assoc before (line ∷ []) after)
+pub some_as : (P Q : ExpressionText → Type 0) (large : Option ExpressionText)
+    → ((text : ExpressionText) → P text → Q text) → IsSomeAnd large P → IsSomeAnd large Q
+some_as P Q None reads is = is
+some_as P Q (Some text) reads is = reads text is
 
--- a line without words
-pub gave_blank : (env : Env) (config : List ℕ) (count : ℕ) (rules : List Rule) (left : List (List ℕ)) (line : List ℕ) (after : List (List ℕ))
-    → GaveRules env config count rules left → left ≡ line ∷ after → line_rule env (count + 1) line ≡ Ok None
-    → GaveRules env config (count + 1) rules after
-gave_blank env config count rules left line after g is says = record {
-  before = g.before ++ line ∷ [];
-  lines_are = one_more (lines_of config) g.before line left after g.lines_are is;
-  number = let size = length-append g.before (line ∷ []) in omega (arith, size, g.number);
-  given = give_blank env 1 g.before line rules g.given (line_is env (count + 1) line (Ok None) says);
-}
+-- ---- the fault of a part is one of the whole
 
--- a line that gives a rule
-pub gave_rule : (env : Env) (config : List ℕ) (count : ℕ) (rules : List Rule) (left : List (List ℕ)) (line : List ℕ) (after : List (List ℕ)) (rule : Rule)
-    → GaveRules env config count rules left → left ≡ line ∷ after → line_rule env (count + 1) line ≡ Ok (Some rule)
-    → GaveRules env config (count + 1) (rules ++ rule ∷ []) after
-gave_rule env config count rules left line after rule g is says = record {
-  before = g.before ++ line ∷ [];
-  lines_are = one_more (lines_of config) g.before line left after g.lines_are is;
-  number = let size = length-append g.before (line ∷ []) in omega (arith, size, g.number);
-  given = give_rule env 1 (count + 1) g.before line rules rule g.given (omega (arith, g.number)) (line_is env (count + 1) line (Ok (Some rule)) says);
-}
+code_as : (typed readable typed' readable' : Bool) (code : ℕ) → typed ≡ typed'
+    → (readable ≡ false → readable' ≡ false) → IsCodeFor typed readable code
+    → IsCodeFor typed' readable' code
+code_as typed readable typed' readable' code same none (inl (wrong, is)) = inl (sym same ∙ wrong, is)
+code_as typed readable typed' readable' code same none (inr (fits, wrong, is)) =
+    inr (sym same ∙ fits, none wrong, is)
 
--- the one ACL of a statement's condition
-abbrev only_decl_of : Statement → Option Decl
-only_decl_of statement.Plain = None
-only_decl_of (statement.Acl line name decl) = None
-only_decl_of (statement.Rule rule) = only_decl rule.cond
+pub fault_as : (typed readable typed' readable' : Bool) (P Q : ExpressionText → Type 0)
+    (before mid now : MakerState) (fault : LineFault) → typed ≡ typed'
+    → (readable ≡ false → readable' ≡ false) → ((text : ExpressionText) → P text → Q text)
+    → StaysSmall before mid → FaultOf typed readable P mid now fault
+    → FaultOf typed' readable' Q before now fault
+fault_as typed readable typed' readable' P Q before mid now (line.Refused code) same none reads small (is, more) =
+    (code_as typed readable typed' readable' code same none is, then_stays before mid now small more)
+fault_as typed readable typed' readable' P Q before mid now line.TooLarge same none reads small (fits, rose, last) =
+    (sym same ∙ fits, subst (λ (n : ℕ). Rose n now.too_large) small.count rose, some_as P Q now.large reads last)
+fault_as typed readable typed' readable' P Q before mid now line.NoMemory same none reads small more =
+    then_stays before mid now small more
 
--- a text of the statement is one of the line
-pub line_judges : (env : Env) (number : ℕ) (line : List ℕ) (words : List (List ℕ)) (spelled : Statement) (text : ExpressionText)
-    → words_of env line ≡ Ok words → Spells number words spelled → StatementJudges spelled text → LineJudges env number line text
-line_judges env number line [] spelled text read s j = absurd (let no : statement.Plain ≡ statement.Rule j.rule = sym s ∙ j.is in cc)
-line_judges env number line (word ∷ words) spelled text read s j =
-    let decl : Decl = string_decl s.expr s.values in
-    let same : statement.Rule j.rule ≡ deny_rule number s.unless decl = sym j.is ∙ s.is in
-    let only : Some j.decl ≡ Some decl = sym j.only ∙ ap only_decl_of same in
-    let decl_is : j.decl ≡ decl = same_Some j.decl decl only in
-    record {
-      rule = record { unless = s.unless; expr = s.expr; values = s.values };
-      spelled = record { words = word ∷ words; read = read; spelled = subst (λ (t : Statement). Spells number (word ∷ words) t) s.is s };
-      typed = (ap (λ (d : Decl). is_typed d.expr) (sym decl_is)) ∙ j.judged.typed;
-      among = subst (λ (d : Decl). Contains (expression_texts d.expr) text) decl_is j.judged.among;
-    }
+-- a part that is judged last, where the types fit
+pub judged_as : {T : Type 0} (typed readable typed' readable' : Bool) (P Q : ExpressionText → Type 0)
+    (before mid now : MakerState) (r : Result T LineFault) → typed ≡ typed'
+    → readable ≡ readable' → ((text : ExpressionText) → P text → Q text)
+    → StaysSmall before mid → JudgedAs typed readable P mid now r
+    → JudgedAs typed' readable' Q before now r
+judged_as typed readable typed' readable' P Q before mid now (Ok x) same also reads small (fits, readable_so, more) =
+    (sym same ∙ fits, sym also ∙ readable_so, then_stays before mid now small more)
+judged_as typed readable typed' readable' P Q before mid now (Err fault) same also reads small is =
+    fault_as typed readable typed' readable' P Q before mid now fault same (λ wrong. sym also ∙ wrong) reads small is
 
--- the last text that was too large for a statement is one of the line
-pub last_of_line : (env : Env) (number : ℕ) (line : List ℕ) (words : List (List ℕ)) (spelled : Statement) (large : Option ExpressionText)
-    → words_of env line ≡ Ok words → Spells number words spelled → IsSomeAnd large (StatementJudges spelled) → IsSomeAnd large (LineJudges env number line)
-last_of_line env number line words spelled None read s is = absurd is
-last_of_line env number line words spelled (Some text) read s j = line_judges env number line words spelled text read s j
+-- ---- expressions
 
--- a text of the next line is one of the configuration
-pub judges : (env : Env) (config : List ℕ) (count : ℕ) (rules : List Rule) (left : List (List ℕ)) (line : List ℕ) (after : List (List ℕ)) (text : ExpressionText)
-    → GaveRules env config count rules left → left ≡ line ∷ after → LineJudges env (count + 1) line text → Judges env config text
-judges env config count rules left line after text g is j = record {
-  before = g.before;
-  line = line;
-  after = after;
-  lines_are = g.lines_are ∙ ap (λ (l : List (List ℕ)). g.before ++ l) is;
-  rules = rules;
-  accepted = g.given;
-  judged = let number : count + 1 ≡ 1 + length g.before = omega (arith, g.number) in subst (λ (k : ℕ). LineJudges env k line text) number j;
-}
+not_false : (b : Bool) → (b ≡ false → ⊥) → b ≡ true
+not_false true wrong = refl
+not_false false wrong = absurd (wrong refl)
 
--- the last text that was too large for the next line is one of the configuration
-pub last_of_config : (env : Env) (config : List ℕ) (count : ℕ) (rules : List Rule) (left : List (List ℕ)) (line : List ℕ) (after : List (List ℕ)) (large : Option ExpressionText)
-    → GaveRules env config count rules left → left ≡ line ∷ after → IsSomeAnd large (LineJudges env (count + 1) line) → IsSomeAnd large (Judges env config)
-last_of_config env config count rules left line after None g is judged = absurd judged
-last_of_config env config count rules left line after (Some text) g is j = judges env config count rules left line after text g is j
+pattern_not_type : {T : Type 0} → IsErrOf {T = T} (Err plan.BadPattern) plan.BadType → ⊥
+pattern_not_type is = cc is
 
--- ---- a rule's condition looks nothing up
+large_not_type : {T : Type 0} → IsErrOf {T = T} (Err plan.TooLarge) plan.BadType → ⊥
+large_not_type is = cc is
 
-own_uses_no_map : (acl : AclUse) (decl : Decl) → OwnExpr UsesNoMap acl → Some decl ≡ own_decl acl → UsesNoMap decl.expr
-own_uses_no_map (Named name) decl uses is = absurd (none-some decl (sym is))
-own_uses_no_map (Own own) decl uses is = subst (λ (d : Decl). UsesNoMap d.expr) (sym (same_Some decl own is)) uses
+large_text : (texts : List ExpressionText) (P : ExpressionText → Type 0)
+    (large : Option ExpressionText) → ((text : ExpressionText) → Contains texts text → P text)
+    → IsSomeAnd large (Contains texts) → IsSomeAnd large P
+large_text texts P large reads is = some_as (Contains texts) P large reads is
 
-pub only_uses_no_map : (cond : Option (List (List Term))) (decl : Decl) → IfSome cond (EachExprOfCond UsesNoMap) → Some decl ≡ only_decl cond → UsesNoMap decl.expr
-only_uses_no_map None decl each is = absurd (none-some decl (sym is))
-only_uses_no_map (Some []) decl each is = absurd (none-some decl (sym is))
-only_uses_no_map (Some ([] ∷ [])) decl each is = absurd (none-some decl (sym is))
-only_uses_no_map (Some ([] ∷ conj ∷ conjs)) decl each is = absurd (none-some decl (sym is))
-only_uses_no_map (Some ((term ∷ []) ∷ [])) decl each is =
-    own_uses_no_map term.acl decl (each 0 [] (omega arith) 0 term (omega arith)) is
-only_uses_no_map (Some ((term ∷ []) ∷ conj ∷ conjs)) decl each is = absurd (none-some decl (sym is))
-only_uses_no_map (Some ((term ∷ other ∷ terms) ∷ [])) decl each is = absurd (none-some decl (sym is))
-only_uses_no_map (Some ((term ∷ other ∷ terms) ∷ conj ∷ conjs)) decl each is = absurd (none-some decl (sym is))
+-- types that don't fit, and a text that is no expression
+pub plan_fault : {T : Type 0} (typed expressions readable : Bool) (texts : List ExpressionText)
+    (P : ExpressionText → Type 0) (fault : PlanFault) (before now : MakerState)
+    → ((IsErrOf {T = T} (Err fault) plan.BadType) ↔ (typed ≡ false))
+    → (IsErrOf {T = T} (Err fault) plan.BadPattern → expressions ≡ false)
+    → CompileCountsLarge {T = T} (Err fault) before.too_large now.too_large
+    → CompileNamesLarge {T = T} (Err fault) texts before.large now.large
+    → (expressions ≡ false → readable ≡ false)
+    → ((text : ExpressionText) → Contains texts text → P text)
+    → FaultOf typed readable P before now (fault_of_plan fault)
+plan_fault typed expressions readable texts P plan.BadType before now types bad count last none reads =
+    (inl (types.0 refl, refl), record { count = count; last = last })
+plan_fault typed expressions readable texts P plan.BadPattern before now types bad count last none reads =
+    (inr (not_false typed (λ wrong. pattern_not_type (types.1 wrong)), none (bad refl), refl), record { count = count; last = last })
+plan_fault typed expressions readable texts P plan.TooLarge before now types bad count last none reads =
+    (not_false typed (λ wrong. large_not_type (types.1 wrong)), count, large_text texts P now.large reads last)
+plan_fault typed expressions readable texts P plan.NoMemory before now types bad count last none reads =
+    record { count = count; last = last }
+
+-- ---- conditions
+
+shuffle : (a b c d : Bool) → ((a && b) && (c && d)) ≡ ((a && c) && (b && d))
+shuffle true true c d = refl
+shuffle true false true d = refl
+shuffle true false false d = refl
+shuffle false b c d = refl
+
+all_both : {A : Type 0} (p q r : A → Bool) (both : (x : A) → p x ≡ (q x && r x)) (xs : List A)
+    → list_all p xs ≡ (list_all q xs && list_all r xs)
+all_both p q r both [] = refl
+all_both p q r both (x ∷ xs) =
+    ap (λ (b : Bool). b && list_all p xs) (both x)
+    ∙ ap (λ (b : Bool). (q x && r x) && b) (all_both p q r both xs)
+    ∙ shuffle (q x) (r x) (list_all q xs) (list_all r xs)
+
+use_both : (acl : AclUse) → is_use_readable acl ≡ (use_has_expressions acl && use_has_patterns acl)
+use_both (Named name) = refl
+use_both (Own decl) = refl
+
+-- a condition is readable where its expressions are some, and so are its inline patterns
+pub cond_both : (cond : List (List Term))
+    → is_cond_readable cond ≡ (cond_has_expressions cond && cond_has_patterns cond)
+cond_both cond =
+    all_both (list_all (λ (term : Term). is_use_readable term.acl)) conj_has_expressions conj_has_patterns
+    (all_both (λ (term : Term). is_use_readable term.acl) (λ (term : Term). use_has_expressions term.acl)
+    (λ (term : Term). use_has_patterns term.acl) (λ term. use_both term.acl)) cond
+
+and_false : (a b : Bool) → b ≡ false → (a && b) ≡ false
+and_false true b is = is
+and_false false b is = refl
+
+pub no_expressions : (cond : List (List Term)) → cond_has_expressions cond ≡ false
+    → is_cond_readable cond ≡ false
+no_expressions cond is = cond_both cond ∙ ap (λ (b : Bool). b && cond_has_patterns cond) is
+
+pub no_patterns : (cond : List (List Term)) → cond_has_patterns cond ≡ false
+    → is_cond_readable cond ≡ false
+no_patterns cond is =
+    cond_both cond ∙ and_false (cond_has_expressions cond) (cond_has_patterns cond) is
+
+pub all_readable : (cond : List (List Term)) → cond_has_expressions cond ≡ true
+    → cond_has_patterns cond ≡ true → is_cond_readable cond ≡ true
+all_readable cond some patterns =
+    cond_both cond ∙ ap (λ (b : Bool). b && cond_has_patterns cond) some ∙ patterns
+
+here : {A : Type 0} (x : A) (xs : List A) → Contains (x ∷ xs) x
+here x xs = Contains-append_left (x ∷ []) xs x (0, omega arith, refl)
+
+-- an item of joined lists is one of one of them
+within_step : {A B : Type 0} (f : A → List B) (x : A) (xs : List A) (y : B)
+    → (Contains (flat_map f xs) y → (z : A) × Contains xs z × Contains (f z) y)
+    → Contains (f x) y ⊎ Contains (flat_map f xs) y
+    → (z : A) × Contains (x ∷ xs) z × Contains (f z) y
+within_step f x xs y more (inl is) = (x, here x xs, is)
+within_step f x xs y more (inr is) =
+    let (z, among, within) = more is in (z, Contains-append_right (x ∷ []) xs z among, within)
+
+within_one : {A B : Type 0} (f : A → List B) (xs : List A) (y : B) → Contains (flat_map f xs) y
+    → (z : A) × Contains xs z × Contains (f z) y
+within_one f [] y is = absurd (omega (arith, is.1))
+within_one f (x ∷ xs) y is =
+    within_step f x xs y (within_one f xs y) (Contains-append_cases (f x) (flat_map f xs) y is)
+
+use_reads : (acl : AclUse) (text : ExpressionText) → Contains (use_texts acl) text
+    → UseReads acl text
+use_reads (Named name) text is = absurd (omega (arith, is.1))
+use_reads (Own decl) text is = inl is
+
+conj_reads : (conj : List Term) (text : ExpressionText) → Contains (conj_texts conj) text
+    → ConjReads conj text
+conj_reads conj text is =
+    let (term, among, within) = within_one (λ (term : Term). use_texts term.acl) conj text is in
+    (term, among, use_reads term.acl text within)
+
+-- the expressions of a condition read its texts
+pub cond_reads : (cond : List (List Term)) (text : ExpressionText)
+    → Contains (cond_texts cond) text → CondReads cond text
+cond_reads cond text is =
+    let (conj, among, within) = within_one conj_texts cond text is in
+    (conj, among, conj_reads conj text within)

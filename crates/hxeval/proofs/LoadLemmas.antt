@@ -1,36 +1,10 @@
--- Lemmas on the loading of lines one after the other.
-use Rattle.std.proofs.Common.{◌≡◌, ℕ, ◌+◌, ◌≤◌, ◌==◌, Bool, true, false, cond, List, [], ◌∷◌, ◌++◌, length, map, Option, None, Some, option_map, Result, Ok, Err, append_assoc, refl, sym, ap, ◌∙◌, arith}
+-- Lemmas on the lines of a text, cut one after the other.
+use Rattle.std.proofs.Common.{◌≡◌, ℕ, ◌+◌, ◌≤◌, ◌==◌, Bool, true, false, cond, List, [], ◌∷◌, length, map, Option, None, Some, option_map, refl, sym, ap, ◌∙◌, arith}
 use Rattle.std.specs.Io.BufRead.{strip_last}
 use Rattle.std.specs.List.{slice_split, onto_first}
 use Rattle.std.proofs.lemmas.Option.{same_Some, none-some}
 use Rattle.hx_text.specs.Cut.{cut_of}
-use Rattle.std.specs.Prelude.{option_to_list}
-use Rattle.hx_words.specs.Variable.{Env}
-use Rattle.hxeval.specs.Configuration.{Refusal, line_rule, lines_of, loaded_from, then_rules}
-use Rattle.hxeval.specs.Rules.{Rule}
-
--- rules so far, and then those of the lines after
-abbrev pub after_rules : List Rule → Result (List Rule) Refusal → Result (List Rule) Refusal
-after_rules rules (Ok more) = Ok (rules ++ more)
-after_rules rules (Err refusal) = Err refusal
-
--- before the first line there are no rules
-pub after_no_rules : (loaded : Result (List Rule) Refusal) → after_rules [] loaded ≡ loaded
-after_no_rules (Ok more) = refl
-after_no_rules (Err refusal) = refl
-
-next_rules : (rules : List Rule) (n : ℕ) (said : Option Rule) (rest : Result (List Rule) Refusal)
-    → after_rules (rules ++ option_to_list said) rest ≡ after_rules rules (then_rules (Ok said) n rest)
-next_rules rules n said (Ok more) = ap Ok (append_assoc rules (option_to_list said) more)
-next_rules rules n said (Err refusal) = refl
-
--- a line that says something is behind, and its rule is among those so far
-pub after_line : (env : Env) (n : ℕ) (rules rules' : List Rule) (left : List (List ℕ)) (line : List ℕ) (after : List (List ℕ)) (said : Option Rule)
-    → left ≡ line ∷ after → line_rule env n line ≡ Ok said → rules' ≡ rules ++ option_to_list said
-    → after_rules rules' (loaded_from env (n + 1) after) ≡ after_rules rules (loaded_from env n left)
-after_line env n rules rules' left line after said is says more =
-    ap (λ (r : List Rule). after_rules r (loaded_from env (n + 1) after)) more ∙ next_rules rules n said (loaded_from env (n + 1) after)
-    ∙ ap (after_rules rules) (sym (ap (loaded_from env n) is ∙ ap (λ (r : Result (Option Rule) ℕ). then_rules r n (loaded_from env (n + 1) after)) says))
+use Rattle.hxeval.specs.Configuration.{lines_of}
 
 -- a cut text is what stands before the cut, and the pieces of what follows
 split_step : (byte b : ℕ) (text line after : List ℕ) (test : Bool) (found : Option (List ℕ × List ℕ))

@@ -1,198 +1,214 @@
--- The function that loads a configuration is the relation between a configuration and its rules.
-use Rattle.std.proofs.Common.{◌≡◌, ℕ, ◌+◌, Bool, true, false, cond, inl, inr, List, [], ◌∷◌, ◌++◌, length, Option, None, Some, Result, Ok, Err, refl, sym, ap, ◌∙◌, subst, arith}
-use Rattle.std.specs.Prelude.{◌↔◌}
-use Rattle.std.specs.List.{list_all}
+-- The function that reads the lines of a configuration is the relation between lines and the
+-- statements that they give.
+use Rattle.std.proofs.Common.{◌≡◌, ℕ, ◌+◌, Bool, true, false, inl, inr, List, [], ◌∷◌, ◌++◌, length, Result, Ok, Err, refl, sym, ap, ◌∙◌, subst, arith, if◌then◌else◌}
+use Rattle.hx_ast.specs.declared.Statement.{Statement}
+use Rattle.hx_spell.specs.Known.{Known, Reading}
+use Rattle.hx_spell.specs.Lines.{line_of}
+use Rattle.hx_spell.specs.declared.SpellFault.{SpellFault}
+use Rattle.hx_spell.proofs.LineLemmas.{line_law}
 use Rattle.hx_words.specs.Variable.{Env}
 use Rattle.hx_words.specs.Words.{words_of}
 use Rattle.hx_words.specs.declared.WordFault.{WordFault}
-use Rattle.hx_ast.specs.declared.Statement.{Statement}
-use Rattle.hx_ast.specs.declared.Statement.TheVariants as statement
-use Rattle.hx_spell.specs.Spelling.{Spells}
-use Rattle.hx_spell.specs.Statements.{statement_of, deny_rule, string_decl}
-use Rattle.hx_spell.specs.declared.SpellFault.{SpellFault}
-use Rattle.hx_words.proofs.OneSpellingLemmas.{calls_only}
-use Rattle.hx_words.proofs.SpelledCallLemmas.{calls_spelled}
-use Rattle.hx_spell.proofs.OneStatementLemmas.{AreReadAsSpelled, one_statement}
-use Rattle.hx_expr.specs.Types.{is_typed}
-use Rattle.hx_expr.specs.Expressions.{has_expression}
-use Rattle.hxeval.specs.Configuration.{Refusal, SpellsRule, GivesRule, IsRefused, GiveRules, LoadsLines, Loads, bad_type, bad_pattern, some_rule, rule_of_statement, rule_of_spelled, rule_of_words, line_rule, then_rules, lines_of, loaded_from, loaded}
-use Rattle.hxeval.specs.Rules.{Rule}
-use Rattle.hxeval.proofs.LoadLemmas.{after_no_rules}
-
--- ---- statements
-
--- any words are read as the statement that they spell
-read_as_spelled : (words : List (List ℕ)) → AreReadAsSpelled words
-read_as_spelled words = one_statement words (λ text at list. (calls_spelled None text list, calls_only None text list))
-
--- the rule as the syntax has it
-abbrev rule_statement : ℕ → Rule → Statement
-rule_statement number rule = deny_rule number rule.unless (string_decl rule.expr rule.values)
-
--- what is said of a rule whose expression has right types or not, and regular expressions or not
-abbrev judged : Rule → (typed read : Bool) → Result (Option Rule) ℕ
-judged rule true true = Ok (Some rule)
-judged rule true false = Err bad_pattern
-judged rule false read = Err bad_type
-
-judged_by : (rule : Rule) (typed read : Bool)
-    → some_rule (cond typed (cond read (Ok rule) (Err bad_pattern)) (Err bad_type)) ≡ judged rule typed read
-judged_by rule true true = refl
-judged_by rule true false = refl
-judged_by rule false read = refl
-
-statement_judged : (number : ℕ) (rule : Rule) → rule_of_statement (rule_statement number rule) ≡ judged rule (is_typed rule.expr) (list_all has_expression rule.expr.convs)
-statement_judged number rule = judged_by rule (is_typed rule.expr) (list_all has_expression rule.expr.convs)
+use Rattle.hxeval.specs.Configuration.{GiveStatements, GivesStatement, IsRefused, LinesGive, Refusal, SpellsStatement, bad_pattern, bad_type, is_statement_readable, is_statement_typed, judged_or_code, line_statement, statement_judged, statement_of_words, statements_from, then_statements, with_statement}
 
 -- ---- what a line says, from the function to the relation
 
-abbrev LineSays : Env → ℕ → List ℕ → Result (Option Rule) ℕ → Type 0
-LineSays env number line (Ok None) = words_of env line ≡ Ok []
-LineSays env number line (Ok (Some rule)) = GivesRule env number line rule
-LineSays env number line (Err code) = IsRefused env number line code
+abbrev LineSays : Env → ℕ → List ℕ → Known → Result (Reading Statement) ℕ → Type 0
+LineSays env number line before (Ok read) = GivesStatement env number line before read
+LineSays env number line before (Err code) = IsRefused env number line before code
 
-says_rule : (env : Env) (number : ℕ) (line : List ℕ) (rule : Rule) (typed read : Bool) → SpellsRule env number line rule
-    → is_typed rule.expr ≡ typed → list_all has_expression rule.expr.convs ≡ read → LineSays env number line (judged rule typed read)
-says_rule env number line rule true true spelled typed read = record { spelled = spelled; typed = typed; expressions = read }
-says_rule env number line rule true false spelled typed read =
-    inr (inr (inr (record { rule = rule; spelled = spelled; typed = typed; unread = read; coded = refl })))
-says_rule env number line rule false read spelled typed is =
-    inr (inr (inl (record { rule = rule; spelled = spelled; untyped = typed; coded = refl })))
+-- a statement whose types fit or not, and whose texts are read or not
+abbrev judged : Reading Statement → (typed readable : Bool) → Result (Reading Statement) ℕ
+judged read true true = Ok read
+judged read true false = Err bad_pattern
+judged read false readable = Err bad_type
 
-says_statement : (env : Env) (number : ℕ) (line : List ℕ) (words : List (List ℕ)) (spelled : Statement) → words_of env line ≡ Ok words
-    → Spells number words spelled → LineSays env number line (rule_of_statement spelled)
-says_statement env number line [] spelled read is = rw is read
-says_statement env number line (word ∷ words) spelled read s =
-    let rule : Rule = record { unless = s.unless; expr = s.expr; values = s.values } in
-    let here : SpellsRule env number line rule = record { words = word ∷ words; read = read; spelled = subst (λ (t : Statement). Spells number (word ∷ words) t) s.is s } in
-    rw (s.is, statement_judged number rule) (says_rule env number line rule (is_typed s.expr) (list_all has_expression s.expr.convs) here refl refl)
+judged_by : (read : Reading Statement) (typed readable : Bool)
+    → (if typed then (if readable then Ok read else Err bad_pattern) else Err bad_type)
+    ≡ judged read typed readable
+judged_by read true true = refl
+judged_by read true false = refl
+judged_by read false readable = refl
 
-says_spelled : (env : Env) (number : ℕ) (line : List ℕ) (words : List (List ℕ)) (spelled : Result Statement SpellFault) → words_of env line ≡ Ok words
-    → statement_of number words ≡ spelled → LineSays env number line (rule_of_spelled spelled)
-says_spelled env number line words (Ok spelled) read is = says_statement env number line words spelled read ((read_as_spelled words number spelled).0 is)
-says_spelled env number line words (Err fault) read is =
-    inr (inl (record { words = words; read = read; fault = fault; unspelled = is; coded = refl }))
+judged_is : (read : Reading Statement) → statement_judged read
+    ≡ judged read (is_statement_typed read.value) (is_statement_readable read.value)
+judged_is read = judged_by read (is_statement_typed read.value) (is_statement_readable read.value)
 
-says_words : (env : Env) (number : ℕ) (line : List ℕ) (words : Result (List (List ℕ)) WordFault) → words_of env line ≡ words
-    → LineSays env number line (rule_of_words number words)
-says_words env number line (Ok words) read = says_spelled env number line words (statement_of number words) read refl
-says_words env number line (Err fault) read = inl (record { fault = fault; read = read; coded = refl })
+says_judged : (env : Env) (number : ℕ) (line : List ℕ) (before : Known) (read : Reading Statement)
+    (typed readable : Bool) → SpellsStatement env number line before read
+    → is_statement_typed read.value ≡ typed → is_statement_readable read.value ≡ readable
+    → LineSays env number line before (judged read typed readable)
+says_judged env number line before read true true spelled fits reads =
+    record { spelled = spelled; typed = fits; readable = reads }
+says_judged env number line before read true false spelled fits reads =
+    inr (inr (inr (record { read = read; spelled = spelled; typed = fits; unreadable = reads; coded = refl })))
+says_judged env number line before read false readable spelled fits reads =
+    inr (inr (inl (record { read = read; spelled = spelled; untyped = fits; coded = refl })))
 
-line_says : (env : Env) (number : ℕ) (line : List ℕ) → LineSays env number line (line_rule env number line)
-unfolding line_rule
-line_says env number line = says_words env number line (words_of env line) refl
+says_read : (env : Env) (number : ℕ) (line : List ℕ) (before : Known) (words : List (List ℕ))
+    (found : Result (Reading Statement) SpellFault) → words_of env line ≡ Ok words
+    → line_of number words before ≡ found → LineSays env number line before (judged_or_code found)
+says_read env number line before words (Ok read) cut is =
+    let spelled : SpellsStatement env number line before read = record {
+      words = words;
+      cut = cut;
+      spelled = (line_law number words before read).0 is;
+    } in
+    subst (λ (r : Result (Reading Statement) ℕ). LineSays env number line before r)
+    (sym (judged_is read))
+    (says_judged env number line before read (is_statement_typed read.value)
+    (is_statement_readable read.value) spelled refl refl)
+says_read env number line before words (Err fault) cut is =
+    inr (inl (record { words = words; cut = cut; fault = fault; unspelled = is; coded = refl }))
 
--- what a line says, by what the function says of it
-pub line_is : (env : Env) (number : ℕ) (line : List ℕ) (found : Result (Option Rule) ℕ) → line_rule env number line ≡ found → LineSays env number line found
-line_is env number line found is = subst (λ (f : Result (Option Rule) ℕ). LineSays env number line f) is (line_says env number line)
+says_words : (env : Env) (number : ℕ) (line : List ℕ) (before : Known)
+    (words : Result (List (List ℕ)) WordFault) → words_of env line ≡ words
+    → LineSays env number line before (statement_of_words number words before)
+says_words env number line before (Ok words) cut =
+    says_read env number line before words (line_of number words before) cut refl
+says_words env number line before (Err fault) cut =
+    inl (record { fault = fault; cut = cut; coded = refl })
+
+line_says : (env : Env) (number : ℕ) (line : List ℕ) (before : Known)
+    → LineSays env number line before (line_statement env number line before)
+unfolding line_statement
+line_says env number line before = says_words env number line before (words_of env line) refl
+
+-- what a line gives, by what the function says of it
+pub line_is : (env : Env) (number : ℕ) (line : List ℕ) (before : Known) (read : Reading Statement)
+    → line_statement env number line before ≡ Ok read
+    → GivesStatement env number line before read
+line_is env number line before read is =
+    subst (λ (r : Result (Reading Statement) ℕ). LineSays env number line before r) is
+    (line_says env number line before)
 
 -- ---- what a line says, from the relation to the function
 
-by_statement : (env : Env) (number : ℕ) (line : List ℕ) (words : List (List ℕ)) (spelled : Statement) → words_of env line ≡ Ok words
-    → Spells number words spelled → line_rule env number line ≡ rule_of_statement spelled
-unfolding line_rule
-by_statement env number line words spelled read s =
-    ap (rule_of_words number) read ∙ ap rule_of_spelled ((read_as_spelled words number spelled).1 s)
+by_spelled : (env : Env) (number : ℕ) (line : List ℕ) (before : Known) (read : Reading Statement)
+    → SpellsStatement env number line before read
+    → line_statement env number line before ≡ statement_judged read
+unfolding line_statement
+by_spelled env number line before read s =
+    ap (λ (w : Result (List (List ℕ)) WordFault). statement_of_words number w before) s.cut
+    ∙ ap judged_or_code ((line_law number s.words before read).1 s.spelled)
 
-by_rule : (env : Env) (number : ℕ) (line : List ℕ) (rule : Rule) (typed read : Bool) → SpellsRule env number line rule
-    → is_typed rule.expr ≡ typed → list_all has_expression rule.expr.convs ≡ read → line_rule env number line ≡ judged rule typed read
-by_rule env number line rule typed read s is_type is_read =
-    by_statement env number line s.words (rule_statement number rule) s.read s.spelled ∙ statement_judged number rule
-    ∙ ap (λ (t : Bool). judged rule t (list_all has_expression rule.expr.convs)) is_type ∙ ap (judged rule typed) is_read
+-- what a line says, by the statement that its words spell
+pub by_judged : (env : Env) (number : ℕ) (line : List ℕ) (before : Known)
+    (read : Reading Statement) (typed readable : Bool)
+    → SpellsStatement env number line before read
+    → is_statement_typed read.value ≡ typed → is_statement_readable read.value ≡ readable
+    → line_statement env number line before ≡ judged read typed readable
+by_judged env number line before read typed readable s fits reads =
+    by_spelled env number line before read s ∙ judged_is read
+    ∙ ap (λ (t : Bool). judged read t (is_statement_readable read.value)) fits
+    ∙ ap (judged read typed) reads
 
-is_blank : (env : Env) (number : ℕ) (line : List ℕ) → words_of env line ≡ Ok [] → line_rule env number line ≡ Ok None
-is_blank env number line blank = by_statement env number line [] statement.Plain blank refl
+given_is : (env : Env) (number : ℕ) (line : List ℕ) (before : Known) (read : Reading Statement)
+    → GivesStatement env number line before read
+    → line_statement env number line before ≡ Ok read
+given_is env number line before read g =
+    by_judged env number line before read true true g.spelled g.typed g.readable
 
-is_given : (env : Env) (number : ℕ) (line : List ℕ) (rule : Rule) → GivesRule env number line rule → line_rule env number line ≡ Ok (Some rule)
-is_given env number line rule g = by_rule env number line rule true true g.spelled g.typed g.expressions
-
-is_refused : (env : Env) (number : ℕ) (line : List ℕ) (code : ℕ) → IsRefused env number line code → line_rule env number line ≡ Err code
-unfolding line_rule
-is_refused env number line code (inl f) = ap (rule_of_words number) f.read ∙ ap Err (sym f.coded)
-is_refused env number line code (inr (inl f)) = ap (rule_of_words number) f.read ∙ ap rule_of_spelled f.unspelled ∙ ap Err (sym f.coded)
-is_refused env number line code (inr (inr (inl f))) =
-    by_rule env number line f.rule false (list_all has_expression f.rule.expr.convs) f.spelled f.untyped refl ∙ ap Err (sym f.coded)
-is_refused env number line code (inr (inr (inr f))) = by_rule env number line f.rule true false f.spelled f.typed f.unread ∙ ap Err (sym f.coded)
+refused_is : (env : Env) (number : ℕ) (line : List ℕ) (before : Known) (code : ℕ)
+    → IsRefused env number line before code
+    → line_statement env number line before ≡ Err code
+unfolding line_statement
+refused_is env number line before code (inl f) =
+    ap (λ (w : Result (List (List ℕ)) WordFault). statement_of_words number w before) f.cut
+    ∙ ap Err (sym f.coded)
+refused_is env number line before code (inr (inl f)) =
+    ap (λ (w : Result (List (List ℕ)) WordFault). statement_of_words number w before) f.cut
+    ∙ ap judged_or_code f.unspelled ∙ ap Err (sym f.coded)
+refused_is env number line before code (inr (inr (inl f))) =
+    by_judged env number line before f.read false (is_statement_readable f.read.value) f.spelled f.untyped refl
+    ∙ ap Err (sym f.coded)
+refused_is env number line before code (inr (inr (inr f))) =
+    by_judged env number line before f.read true false f.spelled f.typed f.unreadable
+    ∙ ap Err (sym f.coded)
 
 -- ---- the lines
 
-loads_step : (env : Env) (n : ℕ) (line : List ℕ) (lines : List (List ℕ)) (said : Result (Option Rule) ℕ) → LineSays env n line said
-    → (rest : Result (List Rule) Refusal) → LoadsLines env (n + 1) lines rest → LoadsLines env n (line ∷ lines) (then_rules said n rest)
-loads_step env n line lines (Err code) is rest loads = record {
-  before = [];
+rest_step : (env : Env) (first : ℕ) (line : List ℕ) (lines : List (List ℕ)) (before : Known)
+    (read : Reading Statement) (rest : Result (Reading (List Statement)) Refusal)
+    → GivesStatement env first line before read → LinesGive env (first + 1) lines read.known rest
+    → LinesGive env first (line ∷ lines) before (with_statement read.value rest)
+rest_step env first line lines before read (Ok others) is gives =
+    (read, others, refl, is, gives)
+rest_step env first line lines before read (Err refusal) is found = record {
+  lines_before = line ∷ found.lines_before;
+  line = found.line;
+  lines_after = found.lines_after;
+  lines_are = ap (λ (l : List (List ℕ)). line ∷ l) found.lines_are;
+  read = record { value = read.value ∷ found.read.value; known = found.read.known };
+  accepted = (read, found.read, refl, is, found.accepted);
+  number = let e = found.number in omega (arith, e);
+  refused = found.refused;
+}
+
+gives_step : (env : Env) (first : ℕ) (line : List ℕ) (lines : List (List ℕ)) (before : Known)
+    (said : Result (Reading Statement) ℕ) → LineSays env first line before said
+    → ((known : Known) → LinesGive env (first + 1) lines known (statements_from env (first + 1) lines known))
+    → LinesGive env first (line ∷ lines) before
+    (then_statements said first (λ known. statements_from env (first + 1) lines known))
+gives_step env first line lines before (Err code) is rest = record {
+  lines_before = [];
   line = line;
-  after = lines;
+  lines_after = lines;
   lines_are = refl;
-  rules = [];
+  read = record { value = []; known = before };
   accepted = refl;
   number = omega arith;
   refused = is;
 }
-loads_step env n line lines (Ok None) is (Ok more) loads = inl (is, loads)
-loads_step env n line lines (Ok None) is (Err refusal) loads = record {
-  before = line ∷ loads.before;
-  line = loads.line;
-  after = loads.after;
-  lines_are = ap (λ (l : List (List ℕ)). line ∷ l) loads.lines_are;
-  rules = loads.rules;
-  accepted = inl (is, loads.accepted);
-  number = let e = loads.number in omega (arith, e);
-  refused = loads.refused;
-}
-loads_step env n line lines (Ok (Some rule)) is (Ok more) loads = inr (rule, more, refl, is, loads)
-loads_step env n line lines (Ok (Some rule)) is (Err refusal) loads = record {
-  before = line ∷ loads.before;
-  line = loads.line;
-  after = loads.after;
-  lines_are = ap (λ (l : List (List ℕ)). line ∷ l) loads.lines_are;
-  rules = rule ∷ loads.rules;
-  accepted = inr (rule, loads.rules, refl, is, loads.accepted);
-  number = let e = loads.number in omega (arith, e);
-  refused = loads.refused;
-}
+gives_step env first line lines before (Ok read) is rest =
+    rest_step env first line lines before read (statements_from env (first + 1) lines read.known) is
+    (rest read.known)
 
-loads_lines : (env : Env) (n : ℕ) (lines : List (List ℕ)) → LoadsLines env n lines (loaded_from env n lines)
-loads_lines env n [] = refl
-loads_lines env n (line ∷ lines) = loads_step env n line lines (line_rule env n line) (line_says env n line) (loaded_from env (n + 1) lines) (loads_lines env (n + 1) lines)
+-- lines give what the function says
+pub lines_give : (env : Env) (first : ℕ) (lines : List (List ℕ)) (before : Known)
+    → LinesGive env first lines before (statements_from env first lines before)
+lines_give env first [] before = refl
+lines_give env first (line ∷ lines) before =
+    gives_step env first line lines before (line_statement env first line before)
+    (line_says env first line before) (λ known. lines_give env (first + 1) lines known)
 
--- a configuration loads as the function says
-pub loads : (env : Env) (config : List ℕ) → Loads env config (loaded env config)
-unfolding loaded
-loads env config = loads_lines env 1 (lines_of config)
+-- ---- the first lines
 
--- lines that give rules are loaded as these
-gives : (env : Env) (n : ℕ) (lines : List (List ℕ)) (rules : List Rule) → GiveRules env n lines rules → loaded_from env n lines ≡ Ok rules
-gives env n [] rules none = ap Ok (sym none)
-gives env n (line ∷ lines) rules (inl (blank, more)) = rw (is_blank env n line blank, gives env (n + 1) lines rules more) refl
-gives env n (line ∷ lines) rules (inr (rule, rest, are, given, more)) =
-    rw (is_given env n line rule given, gives env (n + 1) lines rest more, are) refl
+-- statements, and then those of the lines after them
+abbrev pub after_statements : List Statement → Result (Reading (List Statement)) Refusal
+    → Result (Reading (List Statement)) Refusal
+after_statements first (Ok others) =
+    Ok (record { value = first ++ others.value; known = others.known })
+after_statements first (Err refusal) = Err refusal
 
--- lines of which those before one give rules, and that one is refused
-refuses : (env : Env) (n : ℕ) (before : List (List ℕ)) (line : List ℕ) (after : List (List ℕ)) (rules : List Rule) (code number : ℕ)
-    → GiveRules env n before rules → number ≡ n + length before → IsRefused env number line code
-    → loaded_from env n (before ++ line ∷ after) ≡ Err (record { line = number; code = code })
-refuses env n [] line after rules code number given is refused =
-    let here : number ≡ n = omega (arith, is) in
-    let at_n : IsRefused env n line code = subst (λ (k : ℕ). IsRefused env k line code) here refused in
-    rw (is_refused env n line code at_n, here) refl
-refuses env n (first ∷ before) line after rules code number (inl (blank, more)) is refused =
-    rw (is_blank env n first blank, refuses env (n + 1) before line after rules code number more (omega (arith, is)) refused) refl
-refuses env n (first ∷ before) line after rules code number (inr (rule, rest, are, given, more)) is refused =
-    rw (is_given env n first rule given, refuses env (n + 1) before line after rest code number more (omega (arith, is)) refused) refl
+after_none : (found : Result (Reading (List Statement)) Refusal) → after_statements [] found ≡ found
+after_none (Ok others) = refl
+after_none (Err refusal) = refl
 
-only_lines : (env : Env) (n : ℕ) (lines : List (List ℕ)) (found : Result (List Rule) Refusal) → LoadsLines env n lines found → loaded_from env n lines ≡ found
-only_lines env n lines (Ok rules) given = gives env n lines rules given
-only_lines env n lines (Err refusal) first =
-    ap (loaded_from env n) first.lines_are
-    ∙ refuses env n first.before first.line first.after first.rules refusal.code refusal.line first.accepted first.number first.refused
+after_one : (first : Statement) (more : List Statement)
+    (found : Result (Reading (List Statement)) Refusal)
+    → with_statement first (after_statements more found) ≡ after_statements (first ∷ more) found
+after_one first more (Ok others) = refl
+after_one first more (Err refusal) = refl
 
--- a configuration loads as nothing else
-only_loads : (env : Env) (config : List ℕ) (found : Result (List Rule) Refusal) → Loads env config found → loaded env config ≡ found
-unfolding loaded
-only_loads env config found l = only_lines env 1 (lines_of config) found l
-
-pub one_loading : (env : Env) (config : List ℕ) (found : Result (List Rule) Refusal) → (loaded env config ≡ found) ↔ Loads env config found
-one_loading env config found =
-    ((λ is. let P : Result (List Rule) Refusal → Type 0 = λ f. Loads env config f in subst P is (loads env config)), only_loads env config found)
-
-pub ruleset loading = (after_no_rules, loads)
+-- lines that give statements are behind, and what the others say follows
+pub after_lines : (env : Env) (first : ℕ) (lines left : List (List ℕ)) (before : Known)
+    (read : Reading (List Statement)) → GiveStatements env first lines before read
+    → statements_from env first (lines ++ left) before
+    ≡ after_statements read.value (statements_from env (first + length lines) left read.known)
+after_lines env first [] left before read is =
+    let number : first ≡ first + 0 = omega arith in
+    sym (after_none (statements_from env first left before))
+    ∙ ap (λ (n : ℕ). after_statements [] (statements_from env n left before)) number
+    ∙ sym (ap (λ (r : Reading (List Statement)). after_statements r.value (statements_from env (first + 0) left r.known)) is)
+after_lines env first (line ∷ lines) left before read (one, others, is, given, gives) =
+    let more : statements_from env (first + 1) (lines ++ left) one.known
+    ≡ after_statements others.value (statements_from env (first + 1 + length lines) left others.known) =
+    after_lines env (first + 1) lines left one.known others gives in
+    let number : first + 1 + length lines ≡ first + length (line ∷ lines) = omega arith in
+    ap (λ (r : Result (Reading Statement) ℕ). then_statements r first (λ known. statements_from env (first + 1) (lines ++ left) known))
+    (given_is env first line before one given)
+    ∙ ap (with_statement one.value) more
+    ∙ after_one one.value others.value (statements_from env (first + 1 + length lines) left others.known)
+    ∙ ap (λ (n : ℕ). after_statements (one.value ∷ others.value) (statements_from env n left others.known)) number
+    ∙ sym (ap (λ (r : Reading (List Statement)). after_statements r.value (statements_from env (first + length (line ∷ lines)) left r.known)) is)

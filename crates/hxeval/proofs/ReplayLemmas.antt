@@ -20,7 +20,7 @@ use Rattle.hx_record.specs.declared.RecordFault.TheVariants as reader
 use Rattle.hxeval.specs.Gathering.{Replays, Passes, AnswersEvent, IsFailure}
 use Rattle.hxeval.specs.Outcome.{Outcome, Completed, RecordRefused, Undecided, after_answers}
 use Rattle.hxeval.specs.Replay.{IsRecord, WritesDecided, record_limit, ends_with, replay_outcome, record_outcome, decided_outcome}
-use Rattle.hxeval.specs.Rules.{Rule}
+use Rattle.hxeval.specs.Program.{Program}
 use Rattle.hxeval.specs.RunFault.{IsReplayFault, result_end, reader_fault, sink_fault}
 use Rattle.hxeval.specs.Step.{Steps, initial_state, refusal_of, state_after, answer_of}
 use Rattle.hxeval.specs.declared.replay_state.ReplayState.{ReplayState}
@@ -32,7 +32,7 @@ use Rattle.hxeval.proofs.OutcomeLemmas.{shorter_prefix}
 -- What was taken and answered so far. Whatever follows the bytes that the reader has, the record's outcome is the
 -- answers that were written, those that are gathered, and then what the items before are answered, and these stand to
 -- the items after as `what` says.
-pub record Progress (what : Items → Items → Type 0) (rules : List Rule) (state : ReplayState) (s : State)
+pub record Progress (what : Items → Items → Type 0) (program : Program) (state : ReplayState) (s : State)
     (left left' old new : Option (List ℕ)) (gathered : List ℕ) : Type 0 where
   pub took : List ℕ
   pub consumed : Consumes left left' took
@@ -41,8 +41,8 @@ pub record Progress (what : Items → Items → Type 0) (rules : List Rule) (sta
   pub limit : s.limit ≡ record_limit
   pub same : (ends : Bool) (more : List ℕ) → MayFollow s ends more
       → (before : Items) × what before (items_after s ends more)
-      × (replay_outcome rules initial_state (items_from ends 0 (took ++ more) record_limit)
-      ≡ after_answers (wrote ++ gathered) (replay_outcome rules state before))
+      × (replay_outcome program initial_state (items_from ends 0 (took ++ more) record_limit)
+      ≡ after_answers (wrote ++ gathered) (replay_outcome program state before))
 
 -- between two events the items before are those after
 abbrev pub AreSame : Items → Items → Type 0
@@ -52,9 +52,9 @@ AreSame before after = before ≡ after
 abbrev pub Answer : Result Next RecordFault → Items → Items → Type 0
 Answer result before after = AnswersNext before after result
 
-pub progress_start : (rules : List Rule) (left out : Option (List ℕ))
-    → Progress AreSame rules initial_state (record { limit = record_limit; at = 0; pending = []; ended = false }) left left out out []
-progress_start rules left out = record {
+pub progress_start : (program : Program) (left out : Option (List ℕ))
+    → Progress AreSame program initial_state (record { limit = record_limit; at = 0; pending = []; ended = false }) left left out out []
+progress_start program left out = record {
   took = [];
   consumed = Consumes-nil left;
   wrote = [];
@@ -68,10 +68,10 @@ after_twice : (first second : List ℕ) (outcome : Outcome)
 after_twice first second outcome = ap (λ t. record { answers = t; end = outcome.end }) (sym (append_assoc first second outcome.answers))
 
 -- a call of the reader that reads nothing
-pub progress_decides : (rules : List Rule) (state : ReplayState) (s s' : State) (left left' old new : Option (List ℕ)) (gathered : List ℕ)
-    (result : Result Next RecordFault) → Progress AreSame rules state s left left' old new gathered → Decides s s' result
-    → Progress (Answer result) rules state s' left left' old new gathered
-progress_decides rules state s s' left left' old new gathered result p d = record {
+pub progress_decides : (program : Program) (state : ReplayState) (s s' : State) (left left' old new : Option (List ℕ)) (gathered : List ℕ)
+    (result : Result Next RecordFault) → Progress AreSame program state s left left' old new gathered → Decides s s' result
+    → Progress (Answer result) program state s' left left' old new gathered
+progress_decides program state s s' left left' old new gathered result p d = record {
   took = p.took;
   consumed = p.consumed;
   wrote = p.wrote;
@@ -82,15 +82,15 @@ progress_decides rules state s s' left left' old new gathered result p d = recor
       let (before, is, outcome) = p.same ends more may_before in (
         items_after s ends more,
         d.answers ends more may,
-        outcome ∙ ap (λ i. after_answers (p.wrote ++ gathered) (replay_outcome rules state i)) is,
+        outcome ∙ ap (λ i. after_answers (p.wrote ++ gathered) (replay_outcome program state i)) is,
       );
 }
 
 -- all that was gathered is written, and more of the record is read
-pub progress_fills : {log log' : Option Log} → (rules : List Rule) (state : ReplayState) (s s' : State) (left left' left'' old new new' : Option (List ℕ))
-    (gathered : List ℕ) → Progress (Answer (Ok next.Undecided)) rules state s left left' old new gathered → s.ended ≡ false
-    → Appends new new' gathered → Fills s s' left' left'' log log' → Progress AreSame rules state s' left left'' old new' []
-progress_fills rules state s s' left left' left'' old new new' gathered p going appended f = record {
+pub progress_fills : {log log' : Option Log} → (program : Program) (state : ReplayState) (s s' : State) (left left' left'' old new new' : Option (List ℕ))
+    (gathered : List ℕ) → Progress (Answer (Ok next.Undecided)) program state s left left' old new gathered → s.ended ≡ false
+    → Appends new new' gathered → Fills s s' left' left'' log log' → Progress AreSame program state s' left left'' old new' []
+progress_fills program state s s' left left' left'' old new new' gathered p going appended f = record {
   took = p.took ++ f.got;
   consumed = Consumes-trans left left' left'' p.took f.got p.consumed f.consumed;
   wrote = p.wrote ++ gathered;
@@ -101,16 +101,16 @@ progress_fills rules state s s' left left' left'' old new new' gathered p going 
         items_after s' ends more,
         refl,
         rw (append_assoc p.took f.got more, append-nil (p.wrote ++ gathered))
-            (outcome ∙ ap (λ i. after_answers (p.wrote ++ gathered) (replay_outcome rules state i)) (sym is ∙ f.items ends more)),
+            (outcome ∙ ap (λ i. after_answers (p.wrote ++ gathered) (replay_outcome program state i)) (sym is ∙ f.items ends more)),
       );
 }
 
 -- an event that is answered
-pub progress_answers : (rules : List Rule) (state after : ReplayState) (s : State) (left left' old new new' : Option (List ℕ)) (placed : Placed)
-    (gathered gathered' : List ℕ) → Progress (Answer (Ok (next.Event placed))) rules state s left left' old new gathered
-    → AnswersEvent rules state after placed new new' gathered gathered' (Ok tt) → Progress AreSame rules after s left left' old new' gathered'
+pub progress_answers : (program : Program) (state after : ReplayState) (s : State) (left left' old new new' : Option (List ℕ)) (placed : Placed)
+    (gathered gathered' : List ℕ) → Progress (Answer (Ok (next.Event placed))) program state s left left' old new gathered
+    → AnswersEvent program state after placed new new' gathered gathered' (Ok tt) → Progress AreSame program after s left left' old new' gathered'
 unfolding replay_outcome
-progress_answers rules state after s left left' old new new' placed gathered gathered' p (allowed, goes, passes) = record {
+progress_answers program state after s left left' old new new' placed gathered gathered' p (allowed, goes, passes) = record {
   took = p.took;
   consumed = p.consumed;
   wrote = p.wrote ++ passes.wrote;
@@ -119,18 +119,18 @@ progress_answers rules state after s left left' old new new' placed gathered gat
   same = λ ends more may.
       let (before, stand, outcome) = p.same ends more may in
       let rest = items_after s ends more in
-      let here : replay_outcome rules state (Then placed rest)
-      ≡ after_answers (answer_of rules state placed.event) (replay_outcome rules after rest) = rw (allowed, goes) refl in
-      let text : p.wrote ++ gathered ++ answer_of rules state placed.event ≡ p.wrote ++ passes.wrote ++ gathered' =
-      append_assoc p.wrote gathered (answer_of rules state placed.event)
+      let here : replay_outcome program state (Then placed rest)
+      ≡ after_answers (answer_of program state placed.event) (replay_outcome program after rest) = rw (allowed, goes) refl in
+      let text : p.wrote ++ gathered ++ answer_of program state placed.event ≡ p.wrote ++ passes.wrote ++ gathered' =
+      append_assoc p.wrote gathered (answer_of program state placed.event)
       ∙ ap (λ t. p.wrote ++ t) (passes.whole ∙ ap (λ t. passes.wrote ++ t) (append-nil gathered'))
       ∙ sym (append_assoc p.wrote passes.wrote gathered') in (
         rest,
         refl,
-        outcome ∙ ap (λ i. after_answers (p.wrote ++ gathered) (replay_outcome rules state i)) stand
+        outcome ∙ ap (λ i. after_answers (p.wrote ++ gathered) (replay_outcome program state i)) stand
             ∙ ap (λ o. after_answers (p.wrote ++ gathered) o) here
-            ∙ after_twice (p.wrote ++ gathered) (answer_of rules state placed.event) (replay_outcome rules after rest)
-            ∙ ap (λ t. after_answers t (replay_outcome rules after rest)) text,
+            ∙ after_twice (p.wrote ++ gathered) (answer_of program state placed.event) (replay_outcome program after rest)
+            ∙ ap (λ t. after_answers t (replay_outcome program after rest)) text,
       );
 }
 
@@ -148,7 +148,7 @@ may_follow s None at_end ended = (refl, refl)
 may_follow s (Some left') at_end ended = (at_end ended, refl)
 
 -- the whole record, seen from an event of it
-record Seen (what : Items → Items → Type 0) (rules : List Rule) (state : ReplayState) (left old new : Option (List ℕ)) (gathered : List ℕ) : Type 0 where
+record Seen (what : Items → Items → Type 0) (program : Program) (state : ReplayState) (left old new : Option (List ℕ)) (gathered : List ℕ) : Type 0 where
   bytes : List ℕ
   of_source : IsRecord left bytes
   wrote : List ℕ
@@ -156,11 +156,11 @@ record Seen (what : Items → Items → Type 0) (rules : List Rule) (state : Rep
   before : Items
   after : Items
   stand : what before after
-  outcome : record_outcome rules bytes ≡ after_answers (wrote ++ gathered) (replay_outcome rules state before)
+  outcome : record_outcome program bytes ≡ after_answers (wrote ++ gathered) (replay_outcome program state before)
 
-seen : (what : Items → Items → Type 0) (rules : List Rule) (state : ReplayState) (s : State) (left left' old new : Option (List ℕ)) (gathered : List ℕ)
-    → Progress what rules state s left left' old new gathered → (s.ended ≡ true → IsAtEnd left') → Seen what rules state left old new gathered
-seen what rules state s left left' old new gathered p at_end =
+seen : (what : Items → Items → Type 0) (program : Program) (state : ReplayState) (s : State) (left left' old new : Option (List ℕ)) (gathered : List ℕ)
+    → Progress what program state s left left' old new gathered → (s.ended ≡ true → IsAtEnd left') → Seen what program state left old new gathered
+seen what program state s left left' old new gathered p at_end =
     let (before, stand, outcome) = p.same true (rest_of left') (may_follow s left' at_end) in
     record {
       bytes = p.took ++ rest_of left';
@@ -174,14 +174,14 @@ seen what rules state s left left' old new gathered p at_end =
     }
 
 -- the record's end
-pub replays_end : (rules : List Rule) (state : ReplayState) (s : State) (left left' old new : Option (List ℕ)) (gathered : List ℕ)
-    → Progress (Answer (Ok next.End)) rules state s left left' old new gathered → (s.ended ≡ true → IsAtEnd left')
-    → Replays rules left old new gathered (Ok tt)
+pub replays_end : (program : Program) (state : ReplayState) (s : State) (left left' old new : Option (List ℕ)) (gathered : List ℕ)
+    → Progress (Answer (Ok next.End)) program state s left left' old new gathered → (s.ended ≡ true → IsAtEnd left')
+    → Replays program left old new gathered (Ok tt)
 unfolding replay_outcome
-replays_end rules state s left left' old new gathered p at_end =
-    let v = seen (Answer (Ok next.End)) rules state s left left' old new gathered p at_end in
-    let done : record_outcome rules v.bytes ≡ after_answers (v.wrote ++ gathered) (ends_with Completed) =
-    v.outcome ∙ ap (λ i. after_answers (v.wrote ++ gathered) (replay_outcome rules state i)) v.stand.0 in
+replays_end program state s left left' old new gathered p at_end =
+    let v = seen (Answer (Ok next.End)) program state s left left' old new gathered p at_end in
+    let done : record_outcome program v.bytes ≡ after_answers (v.wrote ++ gathered) (ends_with Completed) =
+    v.outcome ∙ ap (λ i. after_answers (v.wrote ++ gathered) (replay_outcome program state i)) v.stand.0 in
     record {
       bytes = v.bytes;
       of_source = v.of_source;
@@ -191,28 +191,28 @@ replays_end rules state s left left' old new gathered p at_end =
     }
 
 -- where memory runs out, a prefix of the answers is written or gathered
-pub replays_part : (what : Items → Items → Type 0) (rules : List Rule) (state : ReplayState) (s : State) (left left' old new : Option (List ℕ)) (gathered : List ℕ)
-    → Progress what rules state s left left' old new gathered → (s.ended ≡ true → IsAtEnd left')
-    → (fault : RunFault) → result_end (Err fault) ≡ Undecided → Replays rules left old new gathered (Err fault)
-replays_part what rules state s left left' old new gathered p at_end fault undecided =
-    let v = seen what rules state s left left' old new gathered p at_end in
+pub replays_part : (what : Items → Items → Type 0) (program : Program) (state : ReplayState) (s : State) (left left' old new : Option (List ℕ)) (gathered : List ℕ)
+    → Progress what program state s left left' old new gathered → (s.ended ≡ true → IsAtEnd left')
+    → (fault : RunFault) → result_end (Err fault) ≡ Undecided → Replays program left old new gathered (Err fault)
+replays_part what program state s left left' old new gathered p at_end fault undecided =
+    let v = seen what program state s left left' old new gathered p at_end in
     record {
       bytes = v.bytes;
       of_source = v.of_source;
       wrote = v.wrote;
       appended = v.appended;
-      answers = rw undecided ((replay_outcome rules state v.before).answers, ap (λ (o : Outcome). o.answers) v.outcome);
+      answers = rw undecided ((replay_outcome program state v.before).answers, ap (λ (o : Outcome). o.answers) v.outcome);
     }
 
 -- a fault of the reader, which reads nothing
-pub replays_fault : (rules : List Rule) (state : ReplayState) (s : State) (left left' old new : Option (List ℕ)) (gathered : List ℕ) (fault : RecordFault)
-    → Progress (Answer (Err fault)) rules state s left left' old new gathered → (s.ended ≡ true → IsAtEnd left')
-    → Replays rules left old new gathered (Err (reader_fault fault))
+pub replays_fault : (program : Program) (state : ReplayState) (s : State) (left left' old new : Option (List ℕ)) (gathered : List ℕ) (fault : RecordFault)
+    → Progress (Answer (Err fault)) program state s left left' old new gathered → (s.ended ≡ true → IsAtEnd left')
+    → Replays program left old new gathered (Err (reader_fault fault))
 unfolding replay_outcome
-replays_fault rules state s left left' old new gathered (reader.Bad offset code) p at_end =
-    let v = seen (Answer (Err (reader.Bad offset code))) rules state s left left' old new gathered p at_end in
-    let done : record_outcome rules v.bytes ≡ after_answers (v.wrote ++ gathered) (ends_with (RecordRefused offset code)) =
-    v.outcome ∙ ap (λ i. after_answers (v.wrote ++ gathered) (replay_outcome rules state i)) v.stand.0 in
+replays_fault program state s left left' old new gathered (reader.Bad offset code) p at_end =
+    let v = seen (Answer (Err (reader.Bad offset code))) program state s left left' old new gathered p at_end in
+    let done : record_outcome program v.bytes ≡ after_answers (v.wrote ++ gathered) (ends_with (RecordRefused offset code)) =
+    v.outcome ∙ ap (λ i. after_answers (v.wrote ++ gathered) (replay_outcome program state i)) v.stand.0 in
     record {
       bytes = v.bytes;
       of_source = v.of_source;
@@ -220,10 +220,10 @@ replays_fault rules state s left left' old new gathered (reader.Bad offset code)
       appended = v.appended;
       answers = (ap (λ (o : Outcome). o.end) done, ap (λ (o : Outcome). o.answers) done ∙ append-nil (v.wrote ++ gathered));
     }
-replays_fault rules state s left left' old new gathered reader.Failed p at_end =
-    replays_part (Answer (Err reader.Failed)) rules state s left left' old new gathered p at_end run.Source refl
-replays_fault rules state s left left' old new gathered reader.NoMemory p at_end =
-    replays_part (Answer (Err reader.NoMemory)) rules state s left left' old new gathered p at_end run.NoMemory refl
+replays_fault program state s left left' old new gathered reader.Failed p at_end =
+    replays_part (Answer (Err reader.Failed)) program state s left left' old new gathered p at_end run.Source refl
+replays_fault program state s left left' old new gathered reader.NoMemory p at_end =
+    replays_part (Answer (Err reader.NoMemory)) program state s left left' old new gathered p at_end run.NoMemory refl
 
 -- such a fault is none of the source
 pub no_source : (before after : State) (fault : RecordFault) → Decides before after (Err fault) → reader_fault fault ≡ run.Source → ⊥
@@ -264,32 +264,32 @@ sink_kind sink.Failed = tt
 sink_kind sink.NoMemory = tt
 
 -- an event that is answered, and the sink fails
-pub event_lost : (rules : List Rule) (state after : ReplayState) (placed : Placed) (old new : Option (List ℕ)) (gathered mid gathered' : List ℕ)
-    (fault : SinkFault) → Steps rules state after placed.event gathered mid (Ok tt) → AppendsPrefix old new mid → gathered' ≡ []
-    → AnswersEvent rules state after placed old new gathered gathered' (Err (sink_fault fault))
-event_lost rules state after placed old new gathered mid gathered' sink.Failed (allowed, goes, is) part empty =
+pub event_lost : (program : Program) (state after : ReplayState) (placed : Placed) (old new : Option (List ℕ)) (gathered mid gathered' : List ℕ)
+    (fault : SinkFault) → Steps program state after placed.event gathered mid (Ok tt) → AppendsPrefix old new mid → gathered' ≡ []
+    → AnswersEvent program state after placed old new gathered gathered' (Err (sink_fault fault))
+event_lost program state after placed old new gathered mid gathered' sink.Failed (allowed, goes, is) part empty =
     (allowed, (part.rest, record { wrote = part.prefix; appended = part.appended; whole = rw empty (sym is ∙ part.whole) }))
-event_lost rules state after placed old new gathered mid gathered' sink.NoMemory (allowed, goes, is) part empty =
+event_lost program state after placed old new gathered mid gathered' sink.NoMemory (allowed, goes, is) part empty =
     (allowed, (part.rest, record { wrote = part.prefix; appended = part.appended; whole = rw empty (sym is ∙ part.whole) }))
 
 -- an event for whose answer memory runs out
-pub event_unanswered : (rules : List Rule) (state after : ReplayState) (placed : Placed) (old : Option (List ℕ)) (gathered gathered' : List ℕ)
-    → Steps rules state after placed.event gathered gathered' (Err step.NoMemory)
-    → AnswersEvent rules state after placed old old gathered gathered' (Err run.NoMemory)
-event_unanswered rules state after placed old gathered gathered' (allowed, stays, is) = (
+pub event_unanswered : (program : Program) (state after : ReplayState) (placed : Placed) (old : Option (List ℕ)) (gathered gathered' : List ℕ)
+    → Steps program state after placed.event gathered gathered' (Err step.NoMemory)
+    → AnswersEvent program state after placed old old gathered gathered' (Err run.NoMemory)
+event_unanswered program state after placed old gathered gathered' (allowed, stays, is) = (
   allowed,
   (
-    answer_of rules state placed.event,
-    record { wrote = []; appended = Appends-nil old; whole = ap (λ t. t ++ answer_of rules state placed.event) (sym is) },
+    answer_of program state placed.event,
+    record { wrote = []; appended = Appends-nil old; whole = ap (λ t. t ++ answer_of program state placed.event) (sym is) },
   ),
 )
 
 -- of what was gathered a prefix was written, and the rest is lost
-pub replays_lost : (rules : List Rule) (state : ReplayState) (s : State) (left left' old new new' : Option (List ℕ)) (gathered : List ℕ)
-    (result : Result Next RecordFault) → Progress (Answer result) rules state s left left' old new gathered → (s.ended ≡ true → IsAtEnd left')
-    → AppendsPrefix new new' gathered → (fault : RunFault) → IsFailure fault → Replays rules left old new' [] (Err fault)
-replays_lost rules state s left left' old new new' gathered result p at_end part fault failure =
-    let v = seen (Answer result) rules state s left left' old new gathered p at_end in
+pub replays_lost : (program : Program) (state : ReplayState) (s : State) (left left' old new new' : Option (List ℕ)) (gathered : List ℕ)
+    (result : Result Next RecordFault) → Progress (Answer result) program state s left left' old new gathered → (s.ended ≡ true → IsAtEnd left')
+    → AppendsPrefix new new' gathered → (fault : RunFault) → IsFailure fault → Replays program left old new' [] (Err fault)
+replays_lost program state s left left' old new new' gathered result p at_end part fault failure =
+    let v = seen (Answer result) program state s left left' old new gathered p at_end in
     let whole : v.wrote ++ gathered ≡ (v.wrote ++ part.prefix ++ []) ++ part.rest =
     ap (λ t. v.wrote ++ t) part.whole ∙ sym (append_assoc v.wrote part.prefix part.rest)
     ∙ ap (λ t. t ++ part.rest) (sym (append-nil (v.wrote ++ part.prefix))) in
@@ -298,21 +298,21 @@ replays_lost rules state s left left' old new new' gathered result p at_end part
       of_source = v.of_source;
       wrote = v.wrote ++ part.prefix;
       appended = Appends-trans old new new' v.wrote part.prefix v.appended part.appended;
-      answers = rw (failure_end fault failure) (shorter_prefix Undecided (record_outcome rules v.bytes) (v.wrote ++ gathered)
-          (v.wrote ++ part.prefix ++ []) part.rest ((replay_outcome rules state v.before).answers, ap (λ (o : Outcome). o.answers) v.outcome) whole);
+      answers = rw (failure_end fault failure) (shorter_prefix Undecided (record_outcome program v.bytes) (v.wrote ++ gathered)
+          (v.wrote ++ part.prefix ++ []) part.rest ((replay_outcome program state v.before).answers, ap (λ (o : Outcome). o.answers) v.outcome) whole);
     }
 
 -- the source failed where the bytes that the reader has decide nothing more
-pub writes_decided : (rules : List Rule) (state : ReplayState) (s : State) (left left' left'' old new new' : Option (List ℕ)) (gathered : List ℕ)
-    → Progress (Answer (Ok next.Undecided)) rules state s left left' old new gathered → s.ended ≡ false → decided_items_now s ≡ Unknown
-    → Keeps left' left'' → Appends new new' gathered → WritesDecided rules left left'' old new'
+pub writes_decided : (program : Program) (state : ReplayState) (s : State) (left left' left'' old new new' : Option (List ℕ)) (gathered : List ℕ)
+    → Progress (Answer (Ok next.Undecided)) program state s left left' old new gathered → s.ended ≡ false → decided_items_now s ≡ Unknown
+    → Keeps left' left'' → Appends new new' gathered → WritesDecided program left left'' old new'
 unfolding replay_outcome
-writes_decided rules state s left left' left'' old new new' gathered p going undecided kept appended =
+writes_decided program state s left left' left'' old new new' gathered p going undecided kept appended =
     let (before, stand, outcome) = p.same false [] (λ ended. absurd (true≢false (sym ended ∙ going))) in
     let unknown : items_after s false [] ≡ Unknown = ap (λ ends. items_after s ends []) (sym going) ∙ undecided in
-    let here : decided_outcome rules p.took ≡ after_answers (p.wrote ++ gathered) (ends_with Undecided) =
-    ap (λ t. replay_outcome rules initial_state (items_from false 0 t record_limit)) (sym (append-nil p.took)) ∙ outcome
-    ∙ ap (λ i. after_answers (p.wrote ++ gathered) (replay_outcome rules state i)) (sym stand ∙ unknown) in
+    let here : decided_outcome program p.took ≡ after_answers (p.wrote ++ gathered) (ends_with Undecided) =
+    ap (λ t. replay_outcome program initial_state (items_from false 0 t record_limit)) (sym (append-nil p.took)) ∙ outcome
+    ∙ ap (λ i. after_answers (p.wrote ++ gathered) (replay_outcome program state i)) (sym stand ∙ unknown) in
     record {
       took = p.took;
       consumed = Consumes-kept left left' left'' p.took p.consumed kept;
@@ -322,18 +322,18 @@ writes_decided rules state s left left' left'' old new new' gathered p going und
     }
 
 -- an event of whose answer, with those gathered before, a part is lost
-event_part : (rules : List Rule) (state after : ReplayState) (s : State) (left left' old new new' : Option (List ℕ)) (placed : Placed)
-    (gathered gathered' : List ℕ) (fault : RunFault) → Progress (Answer (Ok (next.Event placed))) rules state s left left' old new gathered
+event_part : (program : Program) (state after : ReplayState) (s : State) (left left' old new new' : Option (List ℕ)) (placed : Placed)
+    (gathered gathered' : List ℕ) (fault : RunFault) → Progress (Answer (Ok (next.Event placed))) program state s left left' old new gathered
     → (s.ended ≡ true → IsAtEnd left') → result_end (Err fault) ≡ Undecided → refusal_of state placed.event ≡ None → (rest : List ℕ)
-    → Passes new new' (gathered ++ answer_of rules state placed.event) gathered' rest → Replays rules left old new' gathered' (Err fault)
+    → Passes new new' (gathered ++ answer_of program state placed.event) gathered' rest → Replays program left old new' gathered' (Err fault)
 unfolding replay_outcome
-event_part rules state after s left left' old new new' placed gathered gathered' fault p at_end undecided allowed rest passes =
-    let v = seen (Answer (Ok (next.Event placed))) rules state s left left' old new gathered p at_end in
-    let answer = answer_of rules state placed.event in
-    let following = replay_outcome rules (state_after state placed.event) v.after in
-    let here : replay_outcome rules state (Then placed v.after) ≡ after_answers answer following = rw allowed refl in
-    let outcome : record_outcome rules v.bytes ≡ after_answers (v.wrote ++ gathered ++ answer) following =
-    v.outcome ∙ ap (λ i. after_answers (v.wrote ++ gathered) (replay_outcome rules state i)) v.stand
+event_part program state after s left left' old new new' placed gathered gathered' fault p at_end undecided allowed rest passes =
+    let v = seen (Answer (Ok (next.Event placed))) program state s left left' old new gathered p at_end in
+    let answer = answer_of program state placed.event in
+    let following = replay_outcome program (state_after state placed.event) v.after in
+    let here : replay_outcome program state (Then placed v.after) ≡ after_answers answer following = rw allowed refl in
+    let outcome : record_outcome program v.bytes ≡ after_answers (v.wrote ++ gathered ++ answer) following =
+    v.outcome ∙ ap (λ i. after_answers (v.wrote ++ gathered) (replay_outcome program state i)) v.stand
     ∙ ap (λ o. after_answers (v.wrote ++ gathered) o) here ∙ after_twice (v.wrote ++ gathered) answer following in
     let whole : v.wrote ++ gathered ++ answer ≡ (v.wrote ++ passes.wrote ++ gathered') ++ rest =
     append_assoc v.wrote gathered answer ∙ ap (λ t. v.wrote ++ t) passes.whole
@@ -343,23 +343,23 @@ event_part rules state after s left left' old new new' placed gathered gathered'
       of_source = v.of_source;
       wrote = v.wrote ++ passes.wrote;
       appended = Appends-trans old new new' v.wrote passes.wrote v.appended passes.appended;
-      answers = rw undecided (shorter_prefix Undecided (record_outcome rules v.bytes) (v.wrote ++ gathered ++ answer)
+      answers = rw undecided (shorter_prefix Undecided (record_outcome program v.bytes) (v.wrote ++ gathered ++ answer)
           (v.wrote ++ passes.wrote ++ gathered') rest (following.answers, ap (λ (o : Outcome). o.answers) outcome) whole);
     }
 
 -- an event that ends the replay
-pub replays_event : (rules : List Rule) (state after : ReplayState) (s : State) (left left' old new new' : Option (List ℕ)) (placed : Placed)
-    (gathered gathered' : List ℕ) (fault : RunFault) → Progress (Answer (Ok (next.Event placed))) rules state s left left' old new gathered
+pub replays_event : (program : Program) (state after : ReplayState) (s : State) (left left' old new new' : Option (List ℕ)) (placed : Placed)
+    (gathered gathered' : List ℕ) (fault : RunFault) → Progress (Answer (Ok (next.Event placed))) program state s left left' old new gathered
     → (s.ended ≡ true → IsAtEnd left') → IsReplayFault fault
-    → AnswersEvent rules state after placed new new' gathered gathered' (Err fault) → Replays rules left old new' gathered' (Err fault)
+    → AnswersEvent program state after placed new new' gathered gathered' (Err fault) → Replays program left old new' gathered' (Err fault)
 unfolding replay_outcome
-replays_event rules state after s left left' old new new' placed gathered gathered' (run.ConfigRefused line code) p at_end kind event = absurd kind
-replays_event rules state after s left left' old new new' placed gathered gathered' run.Files p at_end kind event = absurd kind
-replays_event rules state after s left left' old new new' placed gathered gathered' run.TooLarge p at_end kind event = absurd kind
-replays_event rules state after s left left' old new new' placed gathered gathered' (run.RecordRefused offset code) p at_end kind (refused, here, nothing, stays) =
-    let v = seen (Answer (Ok (next.Event placed))) rules state s left left' old new gathered p at_end in
-    let done : record_outcome rules v.bytes ≡ after_answers (v.wrote ++ gathered) (ends_with (RecordRefused placed.offset code)) =
-    v.outcome ∙ ap (λ i. after_answers (v.wrote ++ gathered) (replay_outcome rules state i)) v.stand ∙ rw refused refl in
+replays_event program state after s left left' old new new' placed gathered gathered' (run.ConfigRefused line code) p at_end kind event = absurd kind
+replays_event program state after s left left' old new new' placed gathered gathered' run.Files p at_end kind event = absurd kind
+replays_event program state after s left left' old new new' placed gathered gathered' run.TooLarge p at_end kind event = absurd kind
+replays_event program state after s left left' old new new' placed gathered gathered' (run.RecordRefused offset code) p at_end kind (refused, here, nothing, stays) =
+    let v = seen (Answer (Ok (next.Event placed))) program state s left left' old new gathered p at_end in
+    let done : record_outcome program v.bytes ≡ after_answers (v.wrote ++ gathered) (ends_with (RecordRefused placed.offset code)) =
+    v.outcome ∙ ap (λ i. after_answers (v.wrote ++ gathered) (replay_outcome program state i)) v.stand ∙ rw refused refl in
     record {
       bytes = v.bytes;
       of_source = v.of_source;
@@ -370,12 +370,12 @@ replays_event rules state after s left left' old new new' placed gathered gather
         ap (λ (o : Outcome). o.answers) done ∙ append-nil (v.wrote ++ gathered) ∙ ap (λ t. v.wrote ++ t) (sym stays),
       );
     }
-replays_event rules state after s left left' old new new' placed gathered gathered' run.Source p at_end kind event =
-    event_part rules state after s left left' old new new' placed gathered gathered' run.Source p at_end refl event.0 event.1.0 event.1.1
-replays_event rules state after s left left' old new new' placed gathered gathered' run.Sink p at_end kind event =
-    event_part rules state after s left left' old new new' placed gathered gathered' run.Sink p at_end refl event.0 event.1.0 event.1.1
-replays_event rules state after s left left' old new new' placed gathered gathered' run.NoMemory p at_end kind event =
-    event_part rules state after s left left' old new new' placed gathered gathered' run.NoMemory p at_end refl event.0 event.1.0 event.1.1
+replays_event program state after s left left' old new new' placed gathered gathered' run.Source p at_end kind event =
+    event_part program state after s left left' old new new' placed gathered gathered' run.Source p at_end refl event.0 event.1.0 event.1.1
+replays_event program state after s left left' old new new' placed gathered gathered' run.Sink p at_end kind event =
+    event_part program state after s left left' old new new' placed gathered gathered' run.Sink p at_end refl event.0 event.1.0 event.1.1
+replays_event program state after s left left' old new new' placed gathered gathered' run.NoMemory p at_end kind event =
+    event_part program state after s left left' old new new' placed gathered gathered' run.NoMemory p at_end refl event.0 event.1.0 event.1.1
 
 -- an event comes after fewer requests than the record has bytes before it
 pub requests_after : (state : ReplayState) (event : Event) → (state_after state event).requests ≤ state.requests + 1
@@ -385,9 +385,9 @@ requests_after state (Close id) = omega arith
 requests_after state (Cli session text) = omega arith
 
 -- the answers that were gathered are written at the end
-pub replays_written : (rules : List Rule) (left old new new' : Option (List ℕ)) (gathered : List ℕ) (result : Result (Unit {0}) RunFault)
-    → Replays rules left old new gathered result → Appends new new' gathered → Replays rules left old new' [] result
-replays_written rules left old new new' gathered result r appended = record {
+pub replays_written : (program : Program) (left old new new' : Option (List ℕ)) (gathered : List ℕ) (result : Result (Unit {0}) RunFault)
+    → Replays program left old new gathered result → Appends new new' gathered → Replays program left old new' [] result
+replays_written program left old new new' gathered result r appended = record {
   bytes = r.bytes;
   of_source = r.of_source;
   wrote = r.wrote ++ gathered;
@@ -396,10 +396,10 @@ replays_written rules left old new new' gathered result r appended = record {
 }
 
 -- or a prefix of them is
-pub replays_written_part : (rules : List Rule) (left old new new' : Option (List ℕ)) (gathered : List ℕ) (result : Result (Unit {0}) RunFault)
-    → Replays rules left old new gathered result → AppendsPrefix new new' gathered → (fault : SinkFault)
-    → Replays rules left old new' [] (Err (sink_fault fault))
-replays_written_part rules left old new new' gathered result r part fault =
+pub replays_written_part : (program : Program) (left old new new' : Option (List ℕ)) (gathered : List ℕ) (result : Result (Unit {0}) RunFault)
+    → Replays program left old new gathered result → AppendsPrefix new new' gathered → (fault : SinkFault)
+    → Replays program left old new' [] (Err (sink_fault fault))
+replays_written_part program left old new new' gathered result r part fault =
     let whole : r.wrote ++ gathered ≡ (r.wrote ++ part.prefix ++ []) ++ part.rest =
     ap (λ t. r.wrote ++ t) part.whole ∙ sym (append_assoc r.wrote part.prefix part.rest)
     ∙ ap (λ t. t ++ part.rest) (sym (append-nil (r.wrote ++ part.prefix))) in
@@ -408,17 +408,17 @@ replays_written_part rules left old new new' gathered result r part fault =
       of_source = r.of_source;
       wrote = r.wrote ++ part.prefix;
       appended = Appends-trans old new new' r.wrote part.prefix r.appended part.appended;
-      answers = rw (failure_end (sink_fault fault) (sink_failure fault)) (shorter_prefix (result_end result) (record_outcome rules r.bytes) (r.wrote ++ gathered)
+      answers = rw (failure_end (sink_fault fault) (sink_failure fault)) (shorter_prefix (result_end result) (record_outcome program r.bytes) (r.wrote ++ gathered)
           (r.wrote ++ part.prefix ++ []) part.rest r.answers whole);
     }
 
 -- it is so of a failing source, where nothing more is written
-pub decided_stays : (rules : List Rule) (left left' old new new' : Option (List ℕ)) (gathered : List ℕ) → gathered ≡ []
-    → WritesDecided rules left left' old new → Appends new new' gathered → WritesDecided rules left left' old new'
-decided_stays rules left left' old new new' gathered empty d appended = record {
+pub decided_stays : (program : Program) (left left' old new new' : Option (List ℕ)) (gathered : List ℕ) → gathered ≡ []
+    → WritesDecided program left left' old new → Appends new new' gathered → WritesDecided program left left' old new'
+decided_stays program left left' old new new' gathered empty d appended = record {
   took = d.took;
   consumed = d.consumed;
   going_on = d.going_on;
-  written = rw (append-nil (decided_outcome rules d.took).answers) at (Appends-trans old new new' (decided_outcome rules d.took).answers []
+  written = rw (append-nil (decided_outcome program d.took).answers) at (Appends-trans old new new' (decided_outcome program d.took).answers []
       d.written (rw empty at appended));
 }

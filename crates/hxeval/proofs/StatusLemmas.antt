@@ -1,14 +1,15 @@
 -- Laws of the status with which a run ends.
-use Rattle.std.proofs.Common.{◌≡◌, ◌≢◌, ℕ, zero, suc, ◌<◌, ◌≤◌, ◌⊎◌, true, List, [], ◌∷◌, ◌++◌, Contains, Option, None, Some, Result, Ok, Err, inl, inr, arith, refl, sym, ◌∙◌, ap, append_assoc, append-nil}
+use Rattle.std.proofs.Common.{◌≡◌, ◌≢◌, ℕ, zero, suc, ◌<◌, ◌≤◌, ◌⊎◌, true, List, [], ◌∷◌, ◌++◌, Contains, Option, None, Some, Ok, Err, inl, inr, arith, refl, sym, ◌∙◌, ap, append_assoc, append-nil}
 use Rattle.std.specs.Io.KnownBytes.{Appends}
 use Rattle.std.proofs.KnownBytes.{Appends-trans}
 use Rattle.hx_outside.specs.Count.{Rose}
 use Rattle.hx_record.specs.Record.{Items, Unknown, Done, Bad, Then, record_items}
 use Rattle.hx_record.specs.declared.Placed.{Placed}
-use Rattle.hxeval.specs.Configuration.{Refusal, loaded}
 use Rattle.hxeval.specs.Outcome.{End, Outcome, Completed, ConfigRefused, RecordRefused, Undecided, status_of, last_line, text_of, after_answers}
 use Rattle.hxeval.specs.Replay.{ends_with, replay_outcome, record_outcome, record_limit, events_of, is_whole, AreAllowed, answers_to}
-use Rattle.hxeval.specs.Rules.{Rule}
+use Rattle.hxeval.specs.Loads.{Loading, loaded}
+use Rattle.hxeval.specs.Loads as loading
+use Rattle.hxeval.specs.Program.{Program}
 use Rattle.hxeval.specs.Run.{Setting, HasOutcome, HasStatus, Ran, Headline, outcome_under, outcome_of}
 use Rattle.hxeval.specs.RunFault.{Attempted, Finishes, fault_end, fault_status}
 use Rattle.hxeval.specs.Step.{initial_state, refusal_of, state_after, answer_of}
@@ -16,7 +17,7 @@ use Rattle.hxeval.specs.declared.replay_state.ReplayState.{ReplayState}
 use Rattle.hxeval.specs.declared.run_fault.RunFault.{RunFault}
 use Rattle.hxeval.specs.declared.run_fault.RunFault.TheVariants as run
 use Rattle.hxeval.proofs.OutcomeLemmas.{prefix_of}
-use Rattle.hxeval.proofs.LoadingLemmas.{one_loading}
+use Rattle.hxeval.proofs.RunLemmas.{accepts}
 
 -- an end is completed or not
 abbrev IsCompleted : End → Type 0
@@ -30,47 +31,48 @@ completed (RecordRefused offset code) is = cc
 completed Undecided is = cc
 
 -- a completed replay was of a whole record of events that may stand where they stand, and wrote their answers
-pub record Completes (rules : List Rule) (state : ReplayState) (items : Items) : Type 0 where
+pub record Completes (program : Program) (state : ReplayState) (items : Items) : Type 0 where
   pub whole : is_whole items ≡ true
   pub allowed : AreAllowed state (events_of items)
-  pub answers : (replay_outcome rules state items).answers ≡ answers_to rules state (events_of items)
+  pub answers : (replay_outcome program state items).answers ≡ answers_to program state (events_of items)
 
-completes_then : (rules : List Rule) (state : ReplayState) (placed : Placed) (rest : Items) (refusal : Option ℕ) → refusal_of state placed.event ≡ refusal
-    → (replay_outcome rules state (Then placed rest)).end ≡ Completed
-    → ((replay_outcome rules (state_after state placed.event) rest).end ≡ Completed → Completes rules (state_after state placed.event) rest)
-    → Completes rules state (Then placed rest)
+completes_then : (program : Program) (state : ReplayState) (placed : Placed) (rest : Items) (refusal : Option ℕ) → refusal_of state placed.event ≡ refusal
+    → (replay_outcome program state (Then placed rest)).end ≡ Completed
+    → ((replay_outcome program (state_after state placed.event) rest).end ≡ Completed → Completes program (state_after state placed.event) rest)
+    → Completes program state (Then placed rest)
 unfolding replay_outcome
-completes_then rules state placed rest None allowed is following =
-    let here : replay_outcome rules state (Then placed rest)
-    ≡ after_answers (answer_of rules state placed.event) (replay_outcome rules (state_after state placed.event) rest) = rw allowed refl in
+completes_then program state placed rest None allowed is following =
+    let here : replay_outcome program state (Then placed rest)
+    ≡ after_answers (answer_of program state placed.event) (replay_outcome program (state_after state placed.event) rest) = rw allowed refl in
     let later = following (sym (ap (λ (o : Outcome). o.end) here) ∙ is) in
     record {
       whole = later.whole;
       allowed = (allowed, later.allowed);
-      answers = ap (λ (o : Outcome). o.answers) here ∙ ap (λ text. answer_of rules state placed.event ++ text) later.answers;
+      answers = ap (λ (o : Outcome). o.answers) here ∙ ap (λ text. answer_of program state placed.event ++ text) later.answers;
     }
-completes_then rules state placed rest (Some code) refused is following =
-    let here : replay_outcome rules state (Then placed rest) ≡ ends_with (RecordRefused placed.offset code) = rw refused refl in
+completes_then program state placed rest (Some code) refused is following =
+    let here : replay_outcome program state (Then placed rest) ≡ ends_with (RecordRefused placed.offset code) = rw refused refl in
     absurd (completed (RecordRefused placed.offset code) (sym (ap (λ (o : Outcome). o.end) here) ∙ is))
 
-completes : (rules : List Rule) (state : ReplayState) (items : Items) → (replay_outcome rules state items).end ≡ Completed → Completes rules state items
+completes : (program : Program) (state : ReplayState) (items : Items) → (replay_outcome program state items).end ≡ Completed → Completes program state items
 unfolding replay_outcome
-completes rules state Unknown is = absurd (completed Undecided is)
-completes rules state Done is = record { whole = refl; allowed = tt; answers = refl }
-completes rules state (Bad offset code) is = absurd (completed (RecordRefused offset code) is)
-completes rules state (Then placed rest) is =
-    completes_then rules state placed rest (refusal_of state placed.event) refl is (completes rules (state_after state placed.event) rest)
+completes program state Unknown is = absurd (completed Undecided is)
+completes program state Done is = record { whole = refl; allowed = tt; answers = refl }
+completes program state (Bad offset code) is = absurd (completed (RecordRefused offset code) is)
+completes program state (Then placed rest) is =
+    completes_then program state placed rest (refusal_of state placed.event) refl is (completes program (state_after state placed.event) rest)
 
 -- a configuration and a record that complete a run
-record Accepted (loaded : Result (List Rule) Refusal) (bytes : List ℕ) : Type 0 where
-  rules : List Rule
-  is : loaded ≡ Ok rules
-  end : (record_outcome rules bytes).end ≡ Completed
-  answers : (outcome_under loaded bytes).answers ≡ (record_outcome rules bytes).answers
+record Accepted (loaded : Loading) (bytes : List ℕ) : Type 0 where
+  program : Program
+  is : loaded ≡ loading.Accepted program
+  end : (record_outcome program bytes).end ≡ Completed
+  answers : (outcome_under loaded bytes).answers ≡ (record_outcome program bytes).answers
 
-accepted : (loaded : Result (List Rule) Refusal) (bytes : List ℕ) → (outcome_under loaded bytes).end ≡ Completed → Accepted loaded bytes
-accepted (Err refusal) bytes is = absurd (completed (ConfigRefused refusal.line refusal.code) is)
-accepted (Ok rules) bytes is = record { rules = rules; is = refl; end = is; answers = refl }
+accepted : (loaded : Loading) (bytes : List ℕ) → (outcome_under loaded bytes).end ≡ Completed → Accepted loaded bytes
+accepted (loading.Refused refusal) bytes is = absurd (completed (ConfigRefused refusal.line refusal.code) is)
+accepted (loading.Missing name) bytes is = absurd (completed Undecided is)
+accepted (loading.Accepted program) bytes is = record { program = program; is = refl; end = is; answers = refl }
 
 headline_of : (s : Setting) (old new : Option (List ℕ)) (wrote : List ℕ) (outcome : Outcome) (config : Option (List ℕ)) (o : HasOutcome s outcome)
     → o.config ≡ config → Appends old new wrote → outcome.end ≡ Completed → outcome.answers ≡ wrote → Headline s old new
@@ -79,18 +81,20 @@ headline_of s old new wrote outcome None o config appended end answers =
     let here : outcome ≡ ends_with Undecided = o.is ∙ rw config refl in
     absurd (completed Undecided (sym (ap (λ (o : Outcome). o.end) here) ∙ end))
 headline_of s old new wrote outcome (Some config) o is appended end answers =
-    let here : outcome ≡ outcome_under (loaded s.env config) o.bytes = o.is ∙ rw is refl in
-    let a = accepted (loaded s.env config) o.bytes (sym (ap (λ (o : Outcome). o.end) here) ∙ end) in
-    let c = completes a.rules initial_state (record_items o.bytes record_limit) a.end in
-    let all : wrote ≡ answers_to a.rules initial_state (events_of (record_items o.bytes record_limit)) =
+    let here : outcome ≡ outcome_under (loaded s.env o.files config) o.bytes = o.is ∙ rw is refl in
+    let a = accepted (loaded s.env o.files config) o.bytes (sym (ap (λ (o : Outcome). o.end) here) ∙ end) in
+    let c = completes a.program initial_state (record_items o.bytes record_limit) a.end in
+    let all : wrote ≡ answers_to a.program initial_state (events_of (record_items o.bytes record_limit)) =
     sym answers ∙ ap (λ (o : Outcome). o.answers) here ∙ a.answers ∙ c.answers in
     record {
       config = config;
+      files = o.files;
       bytes = o.bytes;
-      rules = a.rules;
-      of_files = rw is at o.of_files;
+      program = a.program;
+      of_config = rw is at o.of_config;
+      of_files = o.of_files;
       of_source = o.of_source;
-      accepted = (one_loading s.env config (Ok a.rules)).0 a.is;
+      accepted = accepts s.env o.files config a.program a.is;
       read = c.whole;
       allowed = c.allowed;
       written = rw (← all) appended;

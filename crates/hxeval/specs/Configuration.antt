@@ -1,28 +1,30 @@
--- The configuration: its lines, the rules that they spell, and the first line with a fault.
--- (HAProxy configuration manual 2.4, sections 2.1, 2.2, 4.2, 7.1 and 7.2.)
-use Rattle.std.specs.Prelude.{◌≡◌, ℕ, ◌+◌, ◌==◌, ◌⊎◌, Bool, true, false, List, [], ◌∷◌, ◌++◌, length, map, Option, None, Some, Result, Ok, Err, unwrap_or, option_to_list, if◌then◌else◌}
+-- The lines of a configuration, the statements that they spell, and the first line with a fault
+-- (HAProxy configuration manual 2.4, sections 2.1, 2.2, 4, 7.1 and 7.2).
+use Rattle.std.specs.Prelude.{◌≡◌, ℕ, ◌+◌, ◌==◌, ◌&&◌, ◌⊎◌, Bool, true, false, List, [], ◌∷◌, ◌++◌, length, map, Option, None, Some, Result, Ok, Err, is_none, unwrap_or, if◌then◌else◌}
 use Rattle.std.specs.List.{slice_split, list_all}
+use Rattle.std.specs.Option.{option_map_or}
 use Rattle.std.specs.Io.BufRead.{strip_last}
-use Rattle.hx_base.specs.Bytes.{carriage_return, line_feed}
-use Rattle.hx_words.specs.Fault.{word_fault_code}
-use Rattle.hx_words.specs.Variable.{Env}
-use Rattle.hx_words.specs.Words.{words_of}
-use Rattle.hx_words.specs.declared.WordFault.{WordFault}
+use Rattle.hx_acl.specs.Expressions.{has_expressions}
+use Rattle.hx_acl.specs.Typing.{is_cond_typed, is_decl_typed}
 use Rattle.hx_ast.specs.declared.AclUse.{AclUse}
 use Rattle.hx_ast.specs.declared.AclUse.TheVariants.{Named, Own}
 use Rattle.hx_ast.specs.declared.Decl.{Decl}
 use Rattle.hx_ast.specs.declared.Statement.{Statement}
 use Rattle.hx_ast.specs.declared.Statement.TheVariants as statement
 use Rattle.hx_ast.specs.declared.Term.{Term}
-use Rattle.hx_spell.specs.Spelling.{Spells}
-use Rattle.hx_spell.specs.Statements.{statement_of, deny_rule, string_decl}
+use Rattle.hx_base.specs.Bytes.{carriage_return, line_feed}
+use Rattle.hx_match.specs.Patterns.{text_fault}
+use Rattle.hx_spell.specs.Known.{Known, Reading}
+use Rattle.hx_spell.specs.Lines.{line_of}
+use Rattle.hx_spell.specs.Relation.{SpellLine}
 use Rattle.hx_spell.specs.declared.SpellFault.{SpellFault}
 use Rattle.hx_spell.specs.declared.SpellFault.TheVariants as spell
-use Rattle.hx_expr.specs.Expressions.{has_expression}
-use Rattle.hx_expr.specs.Types.{is_typed}
-use Rattle.hxeval.specs.Rules.{Rule}
+use Rattle.hx_words.specs.Fault.{word_fault_code}
+use Rattle.hx_words.specs.Variable.{Env}
+use Rattle.hx_words.specs.Words.{words_of}
+use Rattle.hx_words.specs.declared.WordFault.{WordFault}
 
--- the first line of a configuration with a fault, counted from 1, and the code of its fault
+-- the line of a configuration with its first fault, counted from 1, and the code of that
 pub record Refusal : Type 0 where
   pub line : ℕ
   pub code : ℕ
@@ -41,164 +43,170 @@ abbrev pub spell_code : SpellFault → ℕ
 spell_code (spell.Code code) = code
 spell_code spell.NoMemory = 0
 
--- the code of a converter whose input has a type that it can't take
+-- the code of a value that has no cast to the type that a converter or an ACL takes
 abbrev pub bad_type : ℕ
 bad_type = 11
 
--- the code of a regular expression that is none
+-- the code of a regular expression or a pattern that is none
 abbrev pub bad_pattern : ℕ
 bad_pattern = 16
 
--- ---- the relation between a configuration and its rules
+-- ---- types and patterns
 
--- the words of the line with this number spell a rule, whatever its expression is
-pub record SpellsRule (env : Env) (number : ℕ) (line : List ℕ) (rule : Rule) : Type 0 where
+-- whether the types of a statement's expressions fit
+abbrev pub is_statement_typed : Statement → Bool
+is_statement_typed statement.Plain = true
+is_statement_typed (statement.Acl line name decl) = is_decl_typed decl
+is_statement_typed (statement.Rule rule) = option_map_or is_cond_typed rule.cond true
+
+-- whether the inline patterns of an ACL are patterns of its method
+abbrev pub has_patterns : Decl → Bool
+has_patterns decl = list_all (λ word. is_none (text_fault decl.by decl.ci word)) decl.words
+
+-- whether these are, and the regular expressions of its expression are some
+abbrev pub is_decl_readable : Decl → Bool
+is_decl_readable decl = has_expressions decl.expr && has_patterns decl
+
+abbrev pub is_use_readable : AclUse → Bool
+is_use_readable (Named name) = true
+is_use_readable (Own decl) = is_decl_readable decl
+
+abbrev pub is_cond_readable : List (List Term) → Bool
+is_cond_readable cond = list_all (list_all (λ term. is_use_readable term.acl)) cond
+
+-- whether all regular expressions and inline patterns of a statement are some
+abbrev pub is_statement_readable : Statement → Bool
+is_statement_readable statement.Plain = true
+is_statement_readable (statement.Acl line name decl) = is_decl_readable decl
+is_statement_readable (statement.Rule rule) = option_map_or is_cond_readable rule.cond true
+
+-- ---- the relation between lines and their statements
+
+-- the words of the line with this number spell a statement
+pub record SpellsStatement (env : Env) (number : ℕ) (line : List ℕ) (before : Known)
+    (read : Reading Statement) : Type 0 where
   pub words : List (List ℕ)
-  pub read : words_of env line ≡ Ok words
-  pub spelled : Spells number words
-      (deny_rule number rule.unless (string_decl rule.expr rule.values))
+  pub cut : words_of env line ≡ Ok words
+  pub spelled : SpellLine number before words read
 
--- the same, and each converter can take what stands before it, and has a regular expression where
--- it needs one
-pub record GivesRule (env : Env) (number : ℕ) (line : List ℕ) (rule : Rule) : Type 0 where
-  pub spelled : SpellsRule env number line rule
-  pub typed : is_typed rule.expr ≡ true
-  pub expressions : list_all has_expression rule.expr.convs ≡ true
+-- the same, its types fit, and its patterns are some
+pub record GivesStatement (env : Env) (number : ℕ) (line : List ℕ) (before : Known)
+    (read : Reading Statement) : Type 0 where
+  pub spelled : SpellsStatement env number line before read
+  pub typed : is_statement_typed read.value ≡ true
+  pub readable : is_statement_readable read.value ≡ true
 
 -- a line's words have a fault with this code
 pub record HasWordFault (env : Env) (line : List ℕ) (code : ℕ) : Type 0 where
   pub fault : WordFault
-  pub read : words_of env line ≡ Err fault
+  pub cut : words_of env line ≡ Err fault
   pub coded : code ≡ fault_code fault
 
 -- a line's words spell no statement, for a fault with this code
-pub record HasStatementFault (env : Env) (number : ℕ) (line : List ℕ) (code : ℕ) : Type 0 where
+pub record HasStatementFault (env : Env) (number : ℕ) (line : List ℕ) (before : Known) (code : ℕ)
+    : Type 0 where
   pub words : List (List ℕ)
-  pub read : words_of env line ≡ Ok words
+  pub cut : words_of env line ≡ Ok words
   pub fault : SpellFault
-  pub unspelled : statement_of number words ≡ Err fault
+  pub unspelled : line_of number words before ≡ Err fault
   pub coded : code ≡ spell_code fault
 
--- a line spells a rule with a converter that can't take what stands before it
-pub record HasTypeFault (env : Env) (number : ℕ) (line : List ℕ) (code : ℕ) : Type 0 where
-  pub rule : Rule
-  pub spelled : SpellsRule env number line rule
-  pub untyped : is_typed rule.expr ≡ false
+-- a line spells a statement whose types don't fit
+pub record HasTypeFault (env : Env) (number : ℕ) (line : List ℕ) (before : Known) (code : ℕ)
+    : Type 0 where
+  pub read : Reading Statement
+  pub spelled : SpellsStatement env number line before read
+  pub untyped : is_statement_typed read.value ≡ false
   pub coded : code ≡ bad_type
 
--- a line spells a rule with a converter whose regular expression is none
-pub record HasPatternFault (env : Env) (number : ℕ) (line : List ℕ) (code : ℕ) : Type 0 where
-  pub rule : Rule
-  pub spelled : SpellsRule env number line rule
-  pub typed : is_typed rule.expr ≡ true
-  pub unread : list_all has_expression rule.expr.convs ≡ false
+-- a line spells a statement with a regular expression or a pattern that is none
+pub record HasPatternFault (env : Env) (number : ℕ) (line : List ℕ) (before : Known) (code : ℕ)
+    : Type 0 where
+  pub read : Reading Statement
+  pub spelled : SpellsStatement env number line before read
+  pub typed : is_statement_typed read.value ≡ true
+  pub unreadable : is_statement_readable read.value ≡ false
   pub coded : code ≡ bad_pattern
 
--- a line is refused with this code
-abbrev pub IsRefused : Env → ℕ → List ℕ → ℕ → Type 0
-IsRefused env number line code =
-    HasWordFault env line code ⊎ HasStatementFault env number line code
-    ⊎ HasTypeFault env number line code ⊎ HasPatternFault env number line code
+-- a line is refused with this code, after what is known before it
+abbrev pub IsRefused : Env → ℕ → List ℕ → Known → ℕ → Type 0
+IsRefused env number line before code =
+    HasWordFault env line code ⊎ HasStatementFault env number line before code
+    ⊎ HasTypeFault env number line before code ⊎ HasPatternFault env number line before code
 
--- lines, the first of which has this number, give these rules, in order: each line has no words, or
--- gives the next rule
-abbrev pub GiveRules : Env → ℕ → List (List ℕ) → List Rule → Type 0
-GiveRules env number [] rules = rules ≡ []
-GiveRules env number (line ∷ lines) rules =
-    ((words_of env line ≡ Ok []) × GiveRules env (number + 1) lines rules)
-    ⊎ ((rule : Rule) × (rest : List Rule) × (rules ≡ rule ∷ rest)
-    × GivesRule env number line rule × GiveRules env (number + 1) lines rest)
+-- lines, the first of which has this number, give these statements, one each
+abbrev pub GiveStatements : Env → ℕ → List (List ℕ) → Known → Reading (List Statement) → Type 0
+GiveStatements env number [] before read = read ≡ record { value = []; known = before }
+GiveStatements env number (line ∷ lines) before read =
+    (first : Reading Statement) × (others : Reading (List Statement))
+    × (read ≡ record { value = first.value ∷ others.value; known = others.known })
+    × GivesStatement env number line before first
+    × GiveStatements env (number + 1) lines first.known others
 
 -- the first line that is refused, where the first of all has this number: the lines before it give
--- rules
-pub record IsFirstRefused (env : Env) (first : ℕ) (lines : List (List ℕ)) (refusal : Refusal)
-    : Type 0 where
-  pub before : List (List ℕ)
+-- statements
+pub record IsFirstRefused (env : Env) (first : ℕ) (lines : List (List ℕ)) (before : Known)
+    (refusal : Refusal) : Type 0 where
+  pub lines_before : List (List ℕ)
   pub line : List ℕ
-  pub after : List (List ℕ)
-  pub lines_are : lines ≡ before ++ line ∷ after
-  pub rules : List Rule
-  pub accepted : GiveRules env first before rules
-  pub number : refusal.line ≡ first + length before
-  pub refused : IsRefused env refusal.line line refusal.code
+  pub lines_after : List (List ℕ)
+  pub lines_are : lines ≡ lines_before ++ line ∷ lines_after
+  pub read : Reading (List Statement)
+  pub accepted : GiveStatements env first lines_before before read
+  pub number : refusal.line ≡ first + length lines_before
+  pub refused : IsRefused env refusal.line line read.known refusal.code
 
--- lines load as the rules that they give, or are refused at the first line that is refused
-abbrev pub LoadsLines : Env → ℕ → List (List ℕ) → Result (List Rule) Refusal → Type 0
-LoadsLines env first lines (Ok rules) = GiveRules env first lines rules
-LoadsLines env first lines (Err refusal) = IsFirstRefused env first lines refusal
+-- lines give their statements, or are refused at the first line that is refused
+abbrev pub LinesGive : Env → ℕ → List (List ℕ) → Known
+    → Result (Reading (List Statement)) Refusal → Type 0
+LinesGive env first lines before (Ok read) = GiveStatements env first lines before read
+LinesGive env first lines before (Err refusal) = IsFirstRefused env first lines before refusal
 
--- What a configuration loads as: the rules of its lines, which are counted from 1, or its refusal.
-abbrev pub Loads : Env → List ℕ → Result (List Rule) Refusal → Type 0
-Loads env config found = LoadsLines env 1 (lines_of config) found
+-- ---- the same as a function, for proofs
 
--- ---- the same as a function, for proofs; `laws::loading` says that it is the relation
-
--- the ACL of a condition that is one ACL
-abbrev pub own_decl : AclUse → Option Decl
-own_decl (Named name) = None
-own_decl (Own decl) = Some decl
-
-abbrev pub only_decl : Option (List (List Term)) → Option Decl
-only_decl (Some ((term ∷ []) ∷ [])) = own_decl term.acl
-only_decl _ = None
-
--- the rule of an ACL, or the code of what is wrong with its expression; types come first
-abbrev pub rule_of_decl : Bool → Decl → Result Rule ℕ
-rule_of_decl unless decl =
-    if is_typed decl.expr then
-    (if list_all has_expression decl.expr.convs
-    then Ok (record { unless = unless; expr = decl.expr; values = decl.words })
-    else Err bad_pattern)
+-- a statement, or the code of what is wrong with its types or its patterns; types come first
+abbrev pub statement_judged : Reading Statement → Result (Reading Statement) ℕ
+statement_judged read =
+    if is_statement_typed read.value then
+    (if is_statement_readable read.value then Ok read else Err bad_pattern)
     else Err bad_type
 
-abbrev pub unsupported_code : ℕ
-unsupported_code = 9
+abbrev pub judged_or_code : Result (Reading Statement) SpellFault → Result (Reading Statement) ℕ
+judged_or_code (Ok read) = statement_judged read
+judged_or_code (Err fault) = Err (spell_code fault)
 
-abbrev pub rule_or_unsupported : Bool → Option Decl → Result Rule ℕ
-rule_or_unsupported unless (Some decl) = rule_of_decl unless decl
-rule_or_unsupported unless None = Err unsupported_code
-
-abbrev pub some_rule : Result Rule ℕ → Result (Option Rule) ℕ
-some_rule (Ok rule) = Ok (Some rule)
-some_rule (Err code) = Err code
-
--- the rule of a statement, if it is one
-abbrev pub rule_of_statement : Statement → Result (Option Rule) ℕ
-rule_of_statement statement.Plain = Ok None
-rule_of_statement (statement.Acl line name decl) = Err unsupported_code
-rule_of_statement (statement.Rule rule) =
-    some_rule (rule_or_unsupported rule.unless (only_decl rule.cond))
-
-abbrev pub rule_of_spelled : Result Statement SpellFault → Result (Option Rule) ℕ
-rule_of_spelled (Ok spelled) = rule_of_statement spelled
-rule_of_spelled (Err fault) = Err (spell_code fault)
-
--- what a line says by its words, or by the fault for which it has none
-abbrev pub rule_of_words : ℕ → Result (List (List ℕ)) WordFault → Result (Option Rule) ℕ
-rule_of_words number (Ok words) = rule_of_spelled (statement_of number words)
-rule_of_words number (Err fault) = Err (fault_code fault)
+abbrev pub statement_of_words :
+    ℕ → Result (List (List ℕ)) WordFault → Known → Result (Reading Statement) ℕ
+statement_of_words number (Ok words) before = judged_or_code (line_of number words before)
+statement_of_words number (Err fault) before = Err (fault_code fault)
 
 -- what the line with this number says; a fault of its words comes before the statement that they
 -- spell
-unfoldable pub line_rule : Env → ℕ → List ℕ → Result (Option Rule) ℕ
-line_rule env number line = rule_of_words number (words_of env line)
+unfoldable pub line_statement : Env → ℕ → List ℕ → Known → Result (Reading Statement) ℕ
+line_statement env number line before =
+    statement_of_words number (words_of env line) before
 
--- what a line with this number says, and then the lines after it: the first fault is the answer
-abbrev pub then_rules
-    : Result (Option Rule) ℕ → ℕ → Result (List Rule) Refusal → Result (List Rule) Refusal
-then_rules (Err code) number after = Err (record { line = number; code = code })
-then_rules (Ok rule) number (Ok more) = Ok (option_to_list rule ++ more)
-then_rules (Ok rule) number (Err refusal) = Err refusal
+abbrev pub with_statement : Statement → Result (Reading (List Statement)) Refusal
+    → Result (Reading (List Statement)) Refusal
+with_statement first (Ok others) =
+    Ok (record { value = first ∷ others.value; known = others.known })
+with_statement first (Err refusal) = Err refusal
 
--- the rules of lines, the first of which has this number
-abbrev pub loaded_from : Env → ℕ → List (List ℕ) → Result (List Rule) Refusal
-loaded_from env number [] = Ok []
-loaded_from env number (line ∷ lines) =
-    then_rules (line_rule env number line) number (loaded_from env (number + 1) lines)
+-- what a line with this number says, and then what the lines after it say: the first fault is the
+-- answer
+abbrev pub then_statements : Result (Reading Statement) ℕ → ℕ
+    → (Known → Result (Reading (List Statement)) Refusal)
+    → Result (Reading (List Statement)) Refusal
+then_statements (Err code) number after = Err (record { line = number; code = code })
+then_statements (Ok first) number after = with_statement first.value (after first.known)
 
--- the rules of a configuration in order, or its refusal
-unfoldable pub loaded : Env → List ℕ → Result (List Rule) Refusal
-loaded env config = loaded_from env 1 (lines_of config)
+-- the statements of lines, the first of which has this number
+abbrev pub statements_from : Env → ℕ → List (List ℕ) → Known
+    → Result (Reading (List Statement)) Refusal
+statements_from env number [] before = Ok (record { value = []; known = before })
+statements_from env number (line ∷ lines) before =
+    then_statements (line_statement env number line before) number
+    (λ known. statements_from env (number + 1) lines known)
 
 -- ---- what a loop over lines has left
 

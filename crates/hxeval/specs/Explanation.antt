@@ -1,13 +1,13 @@
 -- What a person reads on standard error of a run that ended. The names and reasons of codes, and
 -- the texts of statuses, are tables of the program: what is defined here is the sentence in which
 -- they stand.
-use Rattle.std.specs.Prelude.{ℕ, Bool, ◌==◌, ◌&&◌, List, [], ◌∷◌, ◌++◌, codes, flat_map, map, unwrap_or, if◌then◌else◌}
+use Rattle.std.specs.Prelude.{ℕ, ◌==◌, List, [], ◌∷◌, ◌++◌, Option, None, Some, codes, flat_map, map, unwrap_or, if◌then◌else◌}
 use Rattle.std.specs.Borrow.{Bor}
 use Rattle.std.specs.Str.{bytes_eq}
 use Rattle.hx_base.specs.Bytes.{line_feed, space}
 use Rattle.hx_text.specs.Cut.{cut_of}
 use Rattle.hxeval.specs.Run.{config_name}
-use Rattle.hxeval.specs.declared.explain.TheConstants.{CONFIG_CODES, RECORD_CODES, STATUS_TEXTS, UNKNOWN_CODE, UNKNOWN_STATUS}
+use Rattle.hxeval.specs.declared.explain.TheConstants.{CONFIG_CODES, RECORD_CODES, RECORD_UNREAD, STATUS_TEXTS, UNKNOWN_CODE, UNKNOWN_STATUS}
 
 -- the bytes of all parts of a text
 abbrev pub all_of : List (Bor (List ℕ)) → List ℕ
@@ -60,15 +60,20 @@ status_text other [] status = other
 status_text other (row ∷ rows) status =
     if row.0 == status then row.1 else status_text other rows status
 
--- what is said of a run with this status, where its configuration has this name, the reading of
--- which may have failed, this was the last line that it wrote, and this the last regular expression
--- that was too large
+-- what is said of a file that can't be read; where there is none, it is the record
+abbrev pub unread_text : Option (List ℕ) → List ℕ
+unread_text (Some file) = codes "hxeval: " ++ (file ++ codes " can't be read\n")
+unread_text None = RECORD_UNREAD.now
+
+-- what is said of a run with this status, where its configuration has this name, this file couldn't
+-- be read, if one couldn't, this was the last line that it wrote, and this the last regular
+-- expression that was too large
 unfoldable pub explanation
-    : ℕ → (name : List ℕ) → (file_failed : Bool) → (last_line large : List ℕ) → List ℕ
-explanation status name file_failed last_line large =
+    : ℕ → (name : List ℕ) → (unread : Option (List ℕ)) → (last_line large : List ℕ) → List ℕ
+explanation status name unread last_line large =
     if status == 3 then config_refused name (location_of last_line) (code_in last_line) else
     (if status == 4 then record_refused (location_of last_line) (code_in last_line) else
-    (if status == 5 && file_failed then codes "hxeval: " ++ (name ++ codes " can't be read\n") else
+    (if status == 5 then unread_text unread else
     (if status == 8
     then codes "hxeval: this regular expression is too large: " ++ (large ++ codes "\n") else
     status_text UNKNOWN_STATUS.now (map (λ row. (row.0, row.1.now)) STATUS_TEXTS) status)))

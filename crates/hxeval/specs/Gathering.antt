@@ -3,7 +3,7 @@ use Rattle.std.specs.Prelude.{◌≡◌, ℕ, List, [], ◌++◌, Option, None, 
 use Rattle.std.specs.Io.KnownBytes.{Appends}
 use Rattle.hx_record.specs.declared.Placed.{Placed}
 use Rattle.hxeval.specs.Replay.{IsRecord, record_outcome}
-use Rattle.hxeval.specs.Rules.{Rule}
+use Rattle.hxeval.specs.Program.{Program}
 use Rattle.hxeval.specs.Step.{refusal_of, state_after, answer_of}
 use Rattle.hxeval.specs.RunFault.{AreAnswersTo, result_end}
 use Rattle.hxeval.specs.declared.replay_state.ReplayState.{ReplayState}
@@ -12,13 +12,13 @@ use Rattle.hxeval.specs.declared.run_fault.RunFault.TheVariants.{ConfigRefused, 
 
 -- A replay of the record that a source has left: the answers were written, but for the last ones,
 -- which are gathered.
-pub record Replays (rules : List Rule) (left old new : Option (List ℕ)) (gathered : List ℕ)
+pub record Replays (program : Program) (left old new : Option (List ℕ)) (gathered : List ℕ)
     (result : Result (Unit {0}) RunFault) : Type 0 where
   pub bytes : List ℕ
   pub of_source : IsRecord left bytes
   pub wrote : List ℕ
   pub appended : Appends old new wrote
-  pub answers : AreAnswersTo (result_end result) (record_outcome rules bytes) (wrote ++ gathered)
+  pub answers : AreAnswersTo (result_end result) (record_outcome program bytes) (wrote ++ gathered)
 
 -- of a text the first bytes were written, the next are gathered, and the rest is lost
 pub record Passes (old new : Option (List ℕ)) (text gathered rest : List ℕ) : Type 0 where
@@ -29,20 +29,20 @@ pub record Passes (old new : Option (List ℕ)) (text gathered rest : List ℕ) 
 -- What one event changes: its answer follows those that are gathered, of which the first ones may
 -- be written, and the state goes on. Or it may not stand here. Or a part of these answers is
 -- lost.
-abbrev pub AnswersEvent : List Rule → (before after : ReplayState) → Placed
+abbrev pub AnswersEvent : Program → (before after : ReplayState) → Placed
     → (old new : Option (List ℕ)) → (gathered gathered' : List ℕ)
     → Result (Unit {0}) RunFault → Type 0
-AnswersEvent rules before after placed old new gathered gathered' (Ok _) =
+AnswersEvent program before after placed old new gathered gathered' (Ok _) =
     (refusal_of before placed.event ≡ None) × (after ≡ state_after before placed.event)
-    × Passes old new (gathered ++ answer_of rules before placed.event) gathered' []
-AnswersEvent rules before after placed old new gathered gathered'
+    × Passes old new (gathered ++ answer_of program before placed.event) gathered' []
+AnswersEvent program before after placed old new gathered gathered'
     (Err (RecordRefused offset code)) =
     (refusal_of before placed.event ≡ Some code) × (offset ≡ placed.offset)
     × Appends old new [] × (gathered' ≡ gathered)
-AnswersEvent rules before after placed old new gathered gathered' (Err _) =
+AnswersEvent program before after placed old new gathered gathered' (Err _) =
     (refusal_of before placed.event ≡ None)
     × ((rest : List ℕ)
-    × Passes old new (gathered ++ answer_of rules before placed.event) gathered' rest)
+    × Passes old new (gathered ++ answer_of program before placed.event) gathered' rest)
 
 -- no refusal: something outside failed, or memory ran out
 abbrev pub IsFailure : RunFault → Type 0

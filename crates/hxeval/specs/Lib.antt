@@ -1,19 +1,26 @@
--- What a caller of `run` needs: the words of a command line, the rules and the words that spell
--- them, the configuration, the answers to events, outcomes, and the headline.
+-- What a caller of `run` needs: programs, the configuration and the references that it brings, the
+-- answers to events, outcomes, and the headline.
 pub mod Outcome
-pub mod Rules
+pub mod Program
 pub mod Configuration
-pub mod Judged
+pub mod Declaring
+pub mod References
+pub mod Loads
 pub mod Answers
 pub mod Step
 pub mod Replay
 pub mod Run
--- What `main` shows besides: the command line and the environment, the last line that went by, and
--- the text on standard error.
+-- What `main` shows besides: the command line and the environment, the last line that went by, the
+-- last file that couldn't be read, and the text on standard error.
 pub mod Machine
 pub mod LastLine
+pub mod LastUnread
 pub mod Explanation
 -- Views of the code, for private contracts.
 pub mod Loading
+pub mod Judging
+pub mod LineReading
+pub mod Filling
+pub mod LoadResult
 pub mod RunFault
 pub mod Gathering

@@ -11,8 +11,8 @@ use Rattle.hx_record.specs.declared.RecordFault.TheVariants as reader
 use Rattle.hxeval.specs.Outcome.{End, Outcome, Completed, Undecided, last_line}
 use Rattle.hxeval.specs.Outcome as ends
 use Rattle.hxeval.specs.Run.{Setting, HasOutcome}
-use Rattle.hxeval.specs.declared.load.LoadFault.{LoadFault}
-use Rattle.hxeval.specs.declared.load.LoadFault.TheVariants as load
+use Rattle.hxeval.specs.declared.load_fault.LoadFault.{LoadFault}
+use Rattle.hxeval.specs.declared.load_fault.LoadFault.TheVariants as load
 use Rattle.hxeval.specs.declared.run_fault.RunFault.{RunFault}
 use Rattle.hxeval.specs.declared.run_fault.RunFault.TheVariants.{ConfigRefused, RecordRefused, Files, Source, Sink, TooLarge, NoMemory}
 
@@ -22,6 +22,7 @@ fault_of_file file.NoMemory = NoMemory
 
 abbrev pub load_fault : LoadFault → RunFault
 load_fault (load.Refused line code) = ConfigRefused line code
+load_fault load.Failed = Files
 load_fault load.TooLarge = TooLarge
 load_fault load.NoMemory = NoMemory
 

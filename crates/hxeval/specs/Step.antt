@@ -5,7 +5,7 @@ use Rattle.hx_fetch.specs.declared.Conn.{Conn as Connection}
 use Rattle.hx_http.specs.Head.{head_of}
 use Rattle.hx_record.specs.declared.Event.{Event}
 use Rattle.hx_record.specs.declared.Event.TheVariants.{Conn, Req, Close, Cli}
-use Rattle.hxeval.specs.Rules.{Rule}
+use Rattle.hxeval.specs.Program.{Program}
 use Rattle.hxeval.specs.Answers.{verdict_of, answer_line}
 use Rattle.hxeval.specs.declared.replay_state.ReplayState.{ReplayState}
 use Rattle.hxeval.specs.declared.replay_state.StepFault.{StepFault}
@@ -41,27 +41,27 @@ state_after state (Close id) = record state { connections = map.remove state.con
 state_after state (Cli session text) = state
 
 -- the line that answers a request with this number, where its connection is open
-abbrev pub request_line : List Rule → ℕ → Option Connection → List ℕ → List ℕ
-request_line rules number None bytes = []
-request_line rules number (Some conn) bytes =
-    answer_line number (verdict_of rules conn (head_of bytes))
+abbrev pub request_line : Program → ℕ → Option Connection → List ℕ → List ℕ
+request_line program number None bytes = []
+request_line program number (Some conn) bytes =
+    answer_line number (verdict_of program conn (head_of bytes))
 
 -- the answer to an event: to a request its line, to any other nothing
-abbrev pub answer_of : List Rule → ReplayState → Event → List ℕ
-answer_of rules state (Conn id src src_port dst dst_port) = []
-answer_of rules state (Req id bytes) =
-    request_line rules (state.requests + 1) (map.get state.connections id) bytes
-answer_of rules state (Close id) = []
-answer_of rules state (Cli session text) = []
+abbrev pub answer_of : Program → ReplayState → Event → List ℕ
+answer_of program state (Conn id src src_port dst dst_port) = []
+answer_of program state (Req id bytes) =
+    request_line program (state.requests + 1) (map.get state.connections id) bytes
+answer_of program state (Close id) = []
+answer_of program state (Cli session text) = []
 
 -- What a step does: the state goes on, and the answer is appended to those before it. An event that
 -- may not stand here changes nothing, nor does a step for which memory runs out.
-abbrev pub Steps : List Rule → (before after : ReplayState) → Event → (old new : List ℕ)
+abbrev pub Steps : Program → (before after : ReplayState) → Event → (old new : List ℕ)
     → Result (Unit {0}) StepFault → Type 0
-Steps rules before after event old new (Ok _) =
+Steps program before after event old new (Ok _) =
     (refusal_of before event ≡ None) × (after ≡ state_after before event)
-    × (new ≡ old ++ answer_of rules before event)
-Steps rules before after event old new (Err (Refused code)) =
+    × (new ≡ old ++ answer_of program before event)
+Steps program before after event old new (Err (Refused code)) =
     (refusal_of before event ≡ Some code) × (after ≡ before) × (new ≡ old)
-Steps rules before after event old new (Err NoMemory) =
+Steps program before after event old new (Err NoMemory) =
     (refusal_of before event ≡ None) × (after ≡ before) × (new ≡ old)

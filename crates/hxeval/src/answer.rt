@@ -1,8 +1,9 @@
-ghost use Rattle.std.specs.Prelude.{◌≡◌, [], ◌++◌, length, IfOk, OnOk, OnErr};
+ghost use Rattle.std.specs.Prelude.{◌≡◌, [], ◌++◌, length, take, IfOk, OnOk, OnErr};
 ghost use Rattle.hx_http.specs.Head.{head_of};
 ghost use Rattle.hxeval.specs.Answers.{verdict_of, verdict_text, answer_line};
+ghost use Rattle.hxeval.specs.declared.answer.Verdict.{Verdict};
 
-use crate::rules::Rules;
+use crate::program::Program;
 use hx_fetch::{Conn, World};
 use hx_http::{HeadFault, read_head_in};
 use hx_sample::Vars;
@@ -16,15 +17,20 @@ use std::marker::Model;
 pub enum Verdict {
     /// Its bytes begin with no request head.
     Bad,
-    /// A rule denies it.
-    Deny,
+    /// A rule denies it, with this status.
+    Deny(u16),
     /// No rule denies it.
     Pass,
 }
 
-/// What these rules decide of a request that came by this connection. Its bytes are taken over.
-pub fn decide(alloc: Global, rules: &Rules, conn: &Conn, bytes: Octets) -> Result<Verdict, NoMemory>
-    ensures { IfOk result (λ verdict. verdict ≡ verdict_of rules.now conn.now (head_of bytes)) }
+/// What a program decides of a request that came by this connection. Its bytes are taken over.
+pub fn decide(
+    alloc: Global,
+    program: &Program,
+    conn: &Conn,
+    bytes: Octets,
+) -> Result<Verdict, NoMemory>
+    ensures { IfOk result (λ verdict. verdict ≡ verdict_of program.now conn.now (head_of bytes)) }
 {
     match read_head_in(alloc, bytes) {
         Ok((message, _)) => {
@@ -34,10 +40,9 @@ pub fn decide(alloc: Global, rules: &Rules, conn: &Conn, bytes: Octets) -> Resul
                 conn,
                 vars: &vars,
             };
-            if rules.deny(alloc, &world)? {
-                Ok(Verdict::Deny)
-            } else {
-                Ok(Verdict::Pass)
+            match program.denial(alloc, &world)? {
+                Some(status) => Ok(Verdict::Deny(status)),
+                None => Ok(Verdict::Pass),
             }
         }
         Err(HeadFault::NotAHead) => Ok(Verdict::Bad),
@@ -76,12 +81,14 @@ impl Answers {
         ensures ok { OnOk result (self.new ≡ self.old ++ answer_line number verdict) }
         ensures err { OnErr result (self.new ≡ self.old) }
     {
-        let mut digits = Buffer::new();
-        append_both(
-            &mut self.bytes,
-            digits.format(number).as_bytes(),
-            verdict_text(verdict),
-        )
+        let len = self.bytes.len();
+        match append_line(&mut self.bytes, number, verdict) {
+            Ok(()) => Ok(()),
+            Err(fault) => {
+                self.bytes.truncate(len);
+                Err(fault)
+            }
+        }
     }
 
     /// The bytes, lent.
@@ -99,29 +106,32 @@ impl Answers {
     }
 }
 
-/// Appends two texts, or nothing where memory runs out.
-fn append_both(bytes: &mut Vec<u8>, first: &[u8], second: &[u8]) -> Result<(), NoMemory>
-    ensures ok { OnOk result (bytes.new.items ≡ bytes.old.items ++ (first.now ++ second.now)) }
-    ensures err { OnErr result (bytes.new.items ≡ bytes.old.items) }
+/// Appends the line that answers the request with this number; where memory runs out, perhaps the
+/// first bytes of it.
+fn append_line(bytes: &mut Vec<u8>, number: u64, verdict: Verdict) -> Result<(), NoMemory>
+    ensures ok { OnOk result (bytes.new.items ≡ bytes.old.items ++ answer_line number verdict) }
+    ensures err { OnErr result (take (length bytes.old.items) bytes.new.items ≡ bytes.old.items) }
 {
-    let len = bytes.len();
-    bytes.extend_from_slice(first)?;
-    match bytes.extend_from_slice(second) {
-        Ok(()) => Ok(()),
-        Err(_) => {
-            bytes.truncate(len);
-            Err(NoMemory)
-        }
+    let mut digits = Buffer::new();
+    bytes.extend_from_slice(digits.format(number).as_bytes())?;
+    match verdict {
+        Verdict::Bad => bytes.extend_from_slice(b" bad 400\n")?,
+        Verdict::Deny(status) => append_denial(bytes, status)?,
+        Verdict::Pass => bytes.extend_from_slice(b" pass -\n")?,
     }
+    Ok(())
 }
 
-/// What stands after the number in the answer to a request.
-fn verdict_text(verdict: Verdict) -> &'static [u8]
-    ensures { result.now ≡ verdict_text verdict }
+/// Appends what stands after the number in the answer to a request that is denied; where memory
+/// runs out, perhaps the first bytes of it.
+fn append_denial(bytes: &mut Vec<u8>, status: u16) -> Result<(), NoMemory>
+    ensures ok { OnOk result (bytes.new.items
+        ≡ bytes.old.items ++ verdict_text (Verdict.Deny status)) }
+    ensures err { OnErr result (take (length bytes.old.items) bytes.new.items ≡ bytes.old.items) }
 {
-    match verdict {
-        Verdict::Bad => b" bad 400\n",
-        Verdict::Deny => b" deny 403\n",
-        Verdict::Pass => b" pass -\n",
-    }
+    let mut digits = Buffer::new();
+    bytes.extend_from_slice(b" deny ")?;
+    bytes.extend_from_slice(digits.format(status).as_bytes())?;
+    bytes.extend_from_slice(b"\n")?;
+    Ok(())
 }

@@ -1,5 +1,6 @@
 ghost use Rattle.std.specs.Prelude.{◌≡◌, ℕ, ◌^◌, ◌<◌, ◌≤◌, ◌++◌, OnOk, IsErrOf, map};
 ghost use Rattle.std.specs.Fmt.{decimal};
+ghost use Rattle.std.specs.Option.{option_copied};
 ghost use Rattle.std.specs.Io.KnownBytes.{Appends};
 ghost use Rattle.hx_outside.specs.Count.{Rose};
 ghost use Rattle.hx_outside.specs.Prefixes.{AppendsPrefix};
@@ -7,7 +8,7 @@ ghost use Rattle.hxeval.specs.Replay.{record_line};
 ghost use Rattle.hxeval.specs.Run.{config_line, texts_of};
 ghost use Rattle.hxeval.specs.Explanation.{all_of, explanation, refusal_text, config_refused};
 ghost use Rattle.hxeval.specs.Explanation.{record_refused, meaning_of, status_text, cut_or_end, location_of};
-ghost use Rattle.hxeval.specs.Explanation.{code_in, given_name};
+ghost use Rattle.hxeval.specs.Explanation.{code_in, given_name, unread_text};
 
 use crate::run::config_name;
 use hx_outside::{Sink, SinkFault, write_all};
@@ -17,7 +18,7 @@ use hx_text::cut_at;
 type Row = (&'static [u8], &'static [u8], &'static [u8]);
 
 /// The codes of a configuration that is refused.
-const CONFIG_CODES: [Row; 13] = [
+const CONFIG_CODES: [Row; 21] = [
     (b"1", b"OpenQuote", b"the line ends inside a quote"),
     (
         b"2",
@@ -49,27 +50,63 @@ const CONFIG_CODES: [Row; 13] = [
     (
         b"9",
         b"Unsupported",
-        b"unknown or unsupported statement, flag, fetch or converter",
+        b"unknown or unsupported statement, option, action, flag, fetch or converter",
     ),
     (
         b"10",
         b"BadArgument",
-        b"a call has a wrong number of arguments, or one that it can't take",
+        b"a statement, a flag or a call has a wrong number of arguments, or one that it can't take",
     ),
     (
         b"11",
         b"BadType",
-        b"a converter can't take the type of what stands before it",
+        b"a converter or a match method can't take the type of what stands before it",
     ),
     (
         b"12",
         b"BadName",
-        b"the name of a header or of a variable isn't of its form",
+        b"the name of an ACL, of a header or of a variable isn't of its form",
+    ),
+    (
+        b"13",
+        b"UnknownAcl",
+        b"a condition names an ACL that is neither declared above nor predefined",
+    ),
+    (
+        b"14",
+        b"BadCondition",
+        b"the condition is empty, isn't closed, or has no ACL where one must stand",
     ),
     (
         b"16",
         b"BadPattern",
-        b"a regular expression is malformed, isn't UTF-8, or is nested too deep",
+        b"a pattern, or a regular expression, is malformed, isn't UTF-8, or is nested too deep",
+    ),
+    (
+        b"17",
+        b"FileKind",
+        b"this file is used as a list of patterns on one line and as a map on another",
+    ),
+    (
+        b"18",
+        b"BadValue",
+        b"a value of a map of this line isn't of the type that is looked up in it",
+    ),
+    (b"19", b"Misplaced", b"this statement may not stand here"),
+    (
+        b"20",
+        b"FileTooLong",
+        b"a file of this line has more than 1000000 entries",
+    ),
+    (
+        b"22",
+        b"IdTaken",
+        b"-u gives a number that another reference has",
+    ),
+    (
+        b"23",
+        b"TooManyRefs",
+        b"the configuration has more than 65536 files and lists of patterns",
     ),
 ];
 
@@ -114,7 +151,7 @@ const RECORD_CODES: [Row; 7] = [
 const UNKNOWN_CODE: (&[u8], &[u8]) = (b"Unknown", b"unknown code");
 
 /// What is said of the statuses that need no more.
-const STATUS_TEXTS: [(u8, &[u8]); 5] = [
+const STATUS_TEXTS: [(u8, &[u8]); 4] = [
     (0, b""),
     (
         2,
@@ -127,13 +164,15 @@ const STATUS_TEXTS: [(u8, &[u8]); 5] = [
           5 a file or the record can't be read, 6 an answer can't be written, 7 out of memory,\n\
           8 a regular expression is too large.\n",
     ),
-    (5, b"hxeval: the record can't be read from standard input\n"),
     (
         6,
         b"hxeval: the answers can't be written to standard output\n",
     ),
     (7, b"hxeval: out of memory\n"),
 ];
+
+/// What is said of status 5 where it is no file that can't be read.
+const RECORD_UNREAD: &[u8] = b"hxeval: the record can't be read from standard input\n";
 
 /// What is said of any other status.
 const UNKNOWN_STATUS: &[u8] = b"hxeval: ended with an unknown status\n";
@@ -144,9 +183,9 @@ type Parts<'t> = [&'t [u8]; 11];
 /// Writes to `err`, in plain words for a person, why a run ended with this status; of status 0,
 /// nothing.
 ///
-/// `words` are those of the command line, `file_failed` says that the configuration couldn't be
-/// read, `last_line` is the last line that was written, and `large` the text of the last regular
-/// expression that was too large.
+/// `words` are those of the command line, `unread` is the name of the file that couldn't be read,
+/// if one couldn't, `last_line` the last line that was written, and `large` the text of the last
+/// regular expression that was too large.
 ///
 /// A refused configuration is explained as `hxeval: CONFIG:LINE: REASON (CODE NAME)`, a refused
 /// record as `hxeval: record, byte OFFSET: REASON (CODE NAME)`, by the code's row in its table.
@@ -157,31 +196,31 @@ pub fn explain<K: Sink>(
     err: &mut K,
     status: u8,
     words: &[Vec<u8>],
-    file_failed: bool,
+    unread: Option<&[u8]>,
     last_line: &[u8],
     large: &[u8],
 ) -> Result<(), SinkFault>
     ensures ok { OnOk result (Appends (K.written err.old) (K.written err.new)
-        (explanation status (given_name (texts_of words.now)) file_failed last_line.now
-        large.now)) }
+        (explanation status (given_name (texts_of words.now)) (option_copied unread.entry)
+        last_line.now large.now)) }
     ensures prefix { AppendsPrefix (K.written err.old) (K.written err.new)
-        (explanation status (given_name (texts_of words.now)) file_failed last_line.now large.now) }
+        (explanation status (given_name (texts_of words.now)) (option_copied unread.entry)
+        last_line.now large.now) }
     ensures failed { IsErrOf result SinkFault.Failed → Rose (K.faults err.old) (K.faults err.new) }
     // The text of a refusal names the line or the offset, and the code, that the last line has.
     ensures config { (line code : ℕ) → line < 2 ^ 64 → code < 2 ^ 64
         → last_line.now ≡ config_line line code
-        → explanation 3 (given_name (texts_of words.now)) file_failed last_line.now large.now
+        → explanation 3 (given_name (texts_of words.now)) (option_copied unread.entry)
+        last_line.now large.now
         ≡ config_refused (given_name (texts_of words.now)) (decimal line) (decimal code) }
     ensures record { (offset code : ℕ) → offset < 2 ^ 64 → code < 2 ^ 64
         → last_line.now ≡ record_line offset code
-        → explanation 4 (given_name (texts_of words.now)) file_failed last_line.now large.now
+        → explanation 4 (given_name (texts_of words.now)) (option_copied unread.entry)
+        last_line.now large.now
         ≡ record_refused (decimal offset) (decimal code) }
 {
     let name = config_name(words).unwrap_or(b"the configuration");
-    write_parts(
-        err,
-        &explanation(status, name, file_failed, last_line, large),
-    )
+    write_parts(err, &explanation(status, name, unread, last_line, large))
 }
 
 /// Writes the parts of a text, one after the other.
@@ -202,16 +241,17 @@ fn write_parts<K: Sink>(out: &mut K, parts: &[&[u8]]) -> Result<(), SinkFault>
 fn explanation<'t>(
     status: u8,
     name: &'t [u8],
-    file_failed: bool,
+    unread: Option<&'t [u8]>,
     last_line: &'t [u8],
     large: &'t [u8],
 ) -> Parts<'t>
-    ensures { all_of result ≡ explanation status name.now file_failed last_line.now large.now }
+    ensures { all_of result
+        ≡ explanation status name.now (option_copied unread.entry) last_line.now large.now }
 {
     match status {
         3 => refusal(name, b":", last_line, &CONFIG_CODES),
         4 => refusal(b"record", b", byte ", last_line, &RECORD_CODES),
-        5 if file_failed => three_parts(b"hxeval: ", name, b" can't be read\n"),
+        5 => unread_parts(unread),
         8 => three_parts(
             b"hxeval: this regular expression is too large: ",
             large,
@@ -222,6 +262,16 @@ fn explanation<'t>(
             b"",
             b"",
         ),
+    }
+}
+
+/// Which file can't be read; where there is none, it is the record.
+fn unread_parts<'t>(unread: Option<&'t [u8]>) -> Parts<'t>
+    ensures { all_of result ≡ unread_text (option_copied unread.entry) }
+{
+    match unread {
+        Some(file) => three_parts(b"hxeval: ", file, b" can't be read\n"),
+        None => three_parts(RECORD_UNREAD, b"", b""),
     }
 }
 
@@ -329,14 +379,14 @@ mod tests {
     fn is_explained(
         rt: &HostRuntime,
         status: u8,
-        file_failed: bool,
+        unread: Option<&[u8]>,
         last_line: &[u8],
         text: &[u8],
     ) -> Result<bool, Fail> {
         let alloc = rt.alloc();
         let words = vec![in alloc; b"run".to_vec(alloc)?, b"deny.cfg".to_vec(alloc)?]?;
         let mut err = MemSink::new(alloc, 9, Vec::new(alloc));
-        explain(&mut err, status, &words, file_failed, last_line, b"(a|b)")?;
+        explain(&mut err, status, &words, unread, last_line, b"(a|b)")?;
         Ok(err.bytes() == text)
     }
 
@@ -350,80 +400,96 @@ mod tests {
             Exit status: 0 done, 2 wrong words, 3 configuration refused, 4 record refused,\n\
             5 a file or the record can't be read, 6 an answer can't be written, 7 out of memory,\n\
             8 a regular expression is too large.\n";
-        let file = b"hxeval: deny.cfg can't be read\n";
+        let file = b"hxeval: names.map can't be read\n";
         let record = b"hxeval: the record can't be read from standard input\n";
         let answers = b"hxeval: the answers can't be written to standard output\n";
         let large = b"hxeval: this regular expression is too large: (a|b)\n";
-        assert!(rt; is_explained(&rt, 0, false, b"9 pass -\n", b"")?);
-        assert!(rt;
-            is_explained(
-                &rt,
-                1,
-                false,
-                b"",
-                b"hxeval: ended with an unknown status\n"
-            )?
-        );
-        assert!(rt; is_explained(&rt, 2, false, b"", usage)?);
-        assert!(rt; is_explained(&rt, 5, true, b"", file)?);
-        assert!(rt; is_explained(&rt, 5, false, b"", record)?);
-        assert!(rt; is_explained(&rt, 6, false, b"", answers)?);
-        assert!(rt; is_explained(&rt, 7, false, b"", b"hxeval: out of memory\n")?);
-        assert!(rt; is_explained(&rt, 8, false, b"", large)?);
+        assert!(rt; is_explained(&rt, 0, None, b"9 pass -\n", b"")?);
+        assert!(rt; is_explained(&rt, 1, None, b"", b"hxeval: ended with an unknown status\n")?);
+        assert!(rt; is_explained(&rt, 2, None, b"", usage)?);
+        assert!(rt; is_explained(&rt, 5, Some(b"names.map"), b"", file)?);
+        assert!(rt; is_explained(&rt, 5, None, b"", record)?);
+        assert!(rt; is_explained(&rt, 6, None, b"", answers)?);
+        assert!(rt; is_explained(&rt, 7, None, b"", b"hxeval: out of memory\n")?);
+        assert!(rt; is_explained(&rt, 8, None, b"", large)?);
         Ok(())
     }
 
     /// Whether a configuration that is refused, as its last line says, is explained by this text.
     fn is_config_explained(rt: &HostRuntime, last_line: &[u8], text: &[u8]) -> Result<bool, Fail> {
-        is_explained(rt, 3, false, last_line, text)
+        is_explained(rt, 3, None, last_line, text)
     }
 
     #[test]
     fn each_code_of_a_configuration_is_explained(rt: HostRuntime) -> Result<(), Fail> {
-        let quote = b"hxeval: deny.cfg:12: the line ends inside a quote (1 OpenQuote)\n";
-        let escape =
-            b"hxeval: deny.cfg:1: \\x needs two hexadecimal digits after it (2 BadEscape)\n";
-        let name = b"hxeval: deny.cfg:1: $ in double quotes needs NAME or {NAME} after it \
+        let open_quote = b"hxeval: deny.cfg:11: the line ends inside a quote (1 OpenQuote)\n";
+        let bad_escape =
+            b"hxeval: deny.cfg:12: \\x needs two hexadecimal digits after it (2 BadEscape)\n";
+        let bad_variable = b"hxeval: deny.cfg:13: $ in double quotes needs NAME or {NAME} after it \
             (3 BadVariable)\n";
-        let words = b"hxeval: deny.cfg:1: the line has more than 256 words (4 TooManyWords)\n";
-        let unclosed =
-            b"hxeval: deny.cfg:1: a call of this line has no closing ) (5 ArgUnclosed)\n";
-        let after = b"hxeval: deny.cfg:1: after the ) of a call stands something else than a comma \
-            (6 ArgAfterClose)\n";
-        let in_argument = b"hxeval: deny.cfg:1: \\x in an argument needs two hexadecimal digits \
+        let too_many_words =
+            b"hxeval: deny.cfg:14: the line has more than 256 words (4 TooManyWords)\n";
+        let arg_unclosed =
+            b"hxeval: deny.cfg:15: a call of this line has no closing ) (5 ArgUnclosed)\n";
+        let arg_after_close = b"hxeval: deny.cfg:16: after the ) of a call stands something else \
+            than a comma (6 ArgAfterClose)\n";
+        let arg_escape = b"hxeval: deny.cfg:17: \\x in an argument needs two hexadecimal digits \
             after it (7 ArgEscape)\n";
-        let in_quote = b"hxeval: deny.cfg:1: an argument ends inside a quote (8 ArgQuote)\n";
-        let unknown = b"hxeval: deny.cfg:3: unknown or unsupported statement, flag, fetch or \
-            converter (9 Unsupported)\n";
-        let argument = b"hxeval: deny.cfg:1: a call has a wrong number of arguments, or one that \
-            it can't take (10 BadArgument)\n";
-        let typed = b"hxeval: deny.cfg:1: a converter can't take the type of what stands before it \
-            (11 BadType)\n";
-        let named = b"hxeval: deny.cfg:1: the name of a header or of a variable isn't of its form \
-            (12 BadName)\n";
-        let pattern = b"hxeval: deny.cfg:1: a regular expression is malformed, isn't UTF-8, or is \
-            nested too deep (16 BadPattern)\n";
-        let code = b"hxeval: deny.cfg:3: unknown code (17 Unknown)\n";
-        assert!(rt; is_config_explained(&rt, b"config 12 1\n", quote)?);
-        assert!(rt; is_config_explained(&rt, b"config 1 2\n", escape)?);
-        assert!(rt; is_config_explained(&rt, b"config 1 3\n", name)?);
-        assert!(rt; is_config_explained(&rt, b"config 1 4\n", words)?);
-        assert!(rt; is_config_explained(&rt, b"config 1 5\n", unclosed)?);
-        assert!(rt; is_config_explained(&rt, b"config 1 6\n", after)?);
-        assert!(rt; is_config_explained(&rt, b"config 1 7\n", in_argument)?);
-        assert!(rt; is_config_explained(&rt, b"config 1 8\n", in_quote)?);
-        assert!(rt; is_config_explained(&rt, b"config 3 9\n", unknown)?);
-        assert!(rt; is_config_explained(&rt, b"config 1 10\n", argument)?);
-        assert!(rt; is_config_explained(&rt, b"config 1 11\n", typed)?);
-        assert!(rt; is_config_explained(&rt, b"config 1 12\n", named)?);
-        assert!(rt; is_config_explained(&rt, b"config 1 16\n", pattern)?);
-        assert!(rt; is_config_explained(&rt, b"config 3 17\n", code)?);
+        let arg_quote = b"hxeval: deny.cfg:18: an argument ends inside a quote (8 ArgQuote)\n";
+        let unsupported = b"hxeval: deny.cfg:19: unknown or unsupported statement, option, \
+            action, flag, fetch or converter (9 Unsupported)\n";
+        let bad_argument = b"hxeval: deny.cfg:20: a statement, a flag or a call has a wrong \
+            number of arguments, or one that it can't take (10 BadArgument)\n";
+        let bad_type = b"hxeval: deny.cfg:21: a converter or a match method can't take the type \
+            of what stands before it (11 BadType)\n";
+        let bad_name = b"hxeval: deny.cfg:22: the name of an ACL, of a header or of a variable \
+            isn't of its form (12 BadName)\n";
+        let unknown_acl = b"hxeval: deny.cfg:23: a condition names an ACL that is neither \
+            declared above nor predefined (13 UnknownAcl)\n";
+        let bad_condition = b"hxeval: deny.cfg:24: the condition is empty, isn't closed, or has \
+            no ACL where one must stand (14 BadCondition)\n";
+        let bad_pattern = b"hxeval: deny.cfg:26: a pattern, or a regular expression, is \
+            malformed, isn't UTF-8, or is nested too deep (16 BadPattern)\n";
+        let file_kind = b"hxeval: deny.cfg:27: this file is used as a list of patterns on one \
+            line and as a map on another (17 FileKind)\n";
+        let bad_value = b"hxeval: deny.cfg:28: a value of a map of this line isn't of the type \
+            that is looked up in it (18 BadValue)\n";
+        let misplaced = b"hxeval: deny.cfg:29: this statement may not stand here (19 Misplaced)\n";
+        let file_too_long = b"hxeval: deny.cfg:30: a file of this line has more than 1000000 \
+            entries (20 FileTooLong)\n";
+        let id_taken =
+            b"hxeval: deny.cfg:32: -u gives a number that another reference has (22 IdTaken)\n";
+        let too_many_refs = b"hxeval: deny.cfg:33: the configuration has more than 65536 files \
+            and lists of patterns (23 TooManyRefs)\n";
+        let unknown = b"hxeval: deny.cfg:25: unknown code (15 Unknown)\n";
+        assert!(rt; is_config_explained(&rt, b"config 11 1\n", open_quote)?);
+        assert!(rt; is_config_explained(&rt, b"config 12 2\n", bad_escape)?);
+        assert!(rt; is_config_explained(&rt, b"config 13 3\n", bad_variable)?);
+        assert!(rt; is_config_explained(&rt, b"config 14 4\n", too_many_words)?);
+        assert!(rt; is_config_explained(&rt, b"config 15 5\n", arg_unclosed)?);
+        assert!(rt; is_config_explained(&rt, b"config 16 6\n", arg_after_close)?);
+        assert!(rt; is_config_explained(&rt, b"config 17 7\n", arg_escape)?);
+        assert!(rt; is_config_explained(&rt, b"config 18 8\n", arg_quote)?);
+        assert!(rt; is_config_explained(&rt, b"config 19 9\n", unsupported)?);
+        assert!(rt; is_config_explained(&rt, b"config 20 10\n", bad_argument)?);
+        assert!(rt; is_config_explained(&rt, b"config 21 11\n", bad_type)?);
+        assert!(rt; is_config_explained(&rt, b"config 22 12\n", bad_name)?);
+        assert!(rt; is_config_explained(&rt, b"config 23 13\n", unknown_acl)?);
+        assert!(rt; is_config_explained(&rt, b"config 24 14\n", bad_condition)?);
+        assert!(rt; is_config_explained(&rt, b"config 26 16\n", bad_pattern)?);
+        assert!(rt; is_config_explained(&rt, b"config 27 17\n", file_kind)?);
+        assert!(rt; is_config_explained(&rt, b"config 28 18\n", bad_value)?);
+        assert!(rt; is_config_explained(&rt, b"config 29 19\n", misplaced)?);
+        assert!(rt; is_config_explained(&rt, b"config 30 20\n", file_too_long)?);
+        assert!(rt; is_config_explained(&rt, b"config 32 22\n", id_taken)?);
+        assert!(rt; is_config_explained(&rt, b"config 33 23\n", too_many_refs)?);
+        assert!(rt; is_config_explained(&rt, b"config 25 15\n", unknown)?);
         Ok(())
     }
 
     /// Whether a record that is refused, as its last line says, is explained by this text.
     fn is_record_explained(rt: &HostRuntime, last_line: &[u8], text: &[u8]) -> Result<bool, Fail> {
-        is_explained(rt, 4, false, last_line, text)
+        is_explained(rt, 4, None, last_line, text)
     }
 
     #[test]

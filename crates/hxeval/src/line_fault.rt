@@ -1,16 +1,14 @@
 use hx_expr::PlanFault;
+use hx_outside::PatFault;
 use hx_spell::SpellFault;
 use hx_text::NoMemory;
 use hx_words::WordFault;
 
-/// The code of a statement that isn't supported.
-pub(crate) const UNSUPPORTED: u32 = 9;
-
 /// The code of a converter that can't take what stands before it.
 const BAD_TYPE: u32 = 11;
 
-/// The code of a regular expression that is none.
-const BAD_PATTERN: u32 = 16;
+/// The code of a regular expression or a pattern that is none.
+pub(crate) const BAD_PATTERN: u32 = 16;
 
 /// Why a line says nothing that can be loaded.
 #[derive(Clone, Copy)]
@@ -73,6 +71,21 @@ impl From<PlanFault> for LineFault {
             PlanFault::BadPattern => LineFault::Refused(BAD_PATTERN),
             PlanFault::TooLarge => LineFault::TooLarge,
             PlanFault::NoMemory => LineFault::NoMemory,
+        }
+    }
+}
+
+impl From<PatFault> for LineFault {
+    ghost use Rattle.std.specs.Prelude.{◌≡◌};
+    ghost use Rattle.hxeval.specs.Loading.{fault_of_pattern};
+
+    ghost from_gives = { λ fault given. given ≡ fault_of_pattern fault };
+
+    fn from(fault: PatFault) -> LineFault {
+        match fault {
+            PatFault::TooLarge => LineFault::TooLarge,
+            PatFault::NoMemory => LineFault::NoMemory,
+            _ => LineFault::Refused(BAD_PATTERN),
         }
     }
 }

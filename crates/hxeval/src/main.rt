@@ -12,24 +12,30 @@
 mod answer;
 mod connections;
 mod explain;
+mod filling;
 mod last_line;
+mod last_unread;
 pub mod laws;
 mod line_fault;
+mod lines;
 mod load;
+mod load_fault;
 mod machine;
+mod program;
 mod replay;
 mod replay_state;
-mod rules;
 mod run;
 mod run_fault;
 #[cfg(test)]
 mod runs;
-mod statement;
+mod statements;
+mod tables;
 #[cfg(test)]
 mod tests;
 
 use crate::explain::explain;
 use crate::last_line::LastLine;
+use crate::last_unread::LastUnread;
 use crate::machine::{MachineArguments, MachineEntries, arguments, environment};
 use crate::run::run;
 use hx_outside::{DirFiles, PlainMaker, StdSink, StdSource};
@@ -45,7 +51,7 @@ fn main(rt: HostRuntime) -> ExitCode {
         let _ = eprintln!(rt; "hxeval: the command line and the environment can't be taken in");
         return ExitCode::from(7);
     };
-    let mut files = DirFiles::new(&rt);
+    let mut files = LastUnread::new(DirFiles::new(&rt));
     let mut record = StdSource::new(rt.reader());
     let mut out = LastLine::new(StdSink::new(writer(&rt)));
     let mut maker = PlainMaker::new();
@@ -60,13 +66,6 @@ fn main(rt: HostRuntime) -> ExitCode {
     );
     let mut err = StdSink::new(rt.stderr());
     let large = maker.large_text().unwrap_or(b"");
-    let _ = explain(
-        &mut err,
-        status,
-        &words,
-        files.faults() > 0,
-        out.line(),
-        large,
-    );
+    let _ = explain(&mut err, status, &words, files.name(), out.line(), large);
     ExitCode::from(status)
 }

@@ -9,8 +9,8 @@ ghost use Rattle.hxeval.specs.RunFault.{IsReplayFault};
 ghost use Rattle.hxeval.specs.Gathering.{Replays, Passes, AnswersEvent, IsFailure};
 
 use crate::answer::Answers;
+use crate::program::Program;
 use crate::replay_state::{ReplayState, StepFault};
-use crate::rules::Rules;
 use crate::run_fault::RunFault;
 use hx_outside::{Sink, SinkFault, Source, write_all};
 use hx_record::{Next, Placed, Reader};
@@ -20,8 +20,9 @@ use std::alloc::Global;
 const RECORD_LIMIT: u64 = 4_294_967_296;
 
 /// So many bytes of answers are written, also where more of them could be gathered. One answer more
-/// has at most 30 bytes, so that no more than 64 KiB are written at once.
-const FULL: usize = 65_506;
+/// has at most 32 bytes, with a number of 20 digits and a status of 5, so that no more than 64 KiB
+/// are written at once.
+const FULL: usize = 65_504;
 
 /// Answers the events of a record in order. Answers are gathered while the bytes that were read
 /// decide the next event, and are written before more of the record is read.
@@ -32,14 +33,14 @@ const FULL: usize = 65_506;
 /// answers to the events that the bytes taken decide. No other fault comes.
 pub fn replay<S: Source, K: Sink>(
     alloc: Global,
-    rules: &Rules,
+    program: &Program,
     record_in: &mut S,
     out: &mut K,
 ) -> Result<(), RunFault>
-    ensures replays { Replays rules.now (S.left record_in.old)
+    ensures replays { Replays program.now (S.left record_in.old)
         (K.written out.old) (K.written out.new) [] result }
     ensures decided { IsErrOf result RunFault.Source
-        → WritesDecided rules.now (S.left record_in.old) (S.left record_in.new)
+        → WritesDecided program.now (S.left record_in.old) (S.left record_in.new)
         (K.written out.old) (K.written out.new) }
     ensures at_end { OnOk result (IsAtEnd (S.left record_in.new)) }
     ensures kind { IfErr result IsReplayFault }
@@ -49,7 +50,7 @@ pub fn replay<S: Source, K: Sink>(
     ensures later { K.faults out.old ≤ K.faults out.new }
 {
     let mut answers = Answers::new(alloc);
-    let ended = gather(alloc, rules, record_in, out, &mut answers);
+    let ended = gather(alloc, program, record_in, out, &mut answers);
     write_answers(out, &mut answers)?;
     ended
 }
@@ -58,16 +59,16 @@ pub fn replay<S: Source, K: Sink>(
 /// which has none at the start: they are not written yet.
 fn gather<S: Source, K: Sink>(
     alloc: Global,
-    rules: &Rules,
+    program: &Program,
     record_in: &mut S,
     out: &mut K,
     answers: &mut Answers,
 ) -> Result<(), RunFault>
     requires { answers.old ≡ [] }
-    ensures replays { Replays rules.now (S.left record_in.old)
+    ensures replays { Replays program.now (S.left record_in.old)
         (K.written out.old) (K.written out.new) answers.new result }
     ensures decided { IsErrOf result RunFault.Source
-        → WritesDecided rules.now (S.left record_in.old) (S.left record_in.new)
+        → WritesDecided program.now (S.left record_in.old) (S.left record_in.new)
         (K.written out.old) (K.written out.new) }
     ensures empty { IsErrOf result RunFault.Source → answers.new ≡ [] }
     ensures at_end { OnOk result (IsAtEnd (S.left record_in.new)) }
@@ -81,7 +82,7 @@ fn gather<S: Source, K: Sink>(
     let mut reader = Reader::new(alloc, RECORD_LIMIT);
     'events: loop {
         match reader.next_decided()? {
-            Next::Event(placed) => answer_event(alloc, rules, &mut state, placed, out, answers)?,
+            Next::Event(placed) => answer_event(alloc, program, &mut state, placed, out, answers)?,
             Next::Undecided => read_more(&mut reader, record_in, out, answers)?,
             Next::End => return Ok(()),
         }
@@ -91,14 +92,14 @@ fn gather<S: Source, K: Sink>(
 /// Steps over one event, and writes the answers where there are many.
 fn answer_event<K: Sink>(
     alloc: Global,
-    rules: &Rules,
+    program: &Program,
     state: &mut ReplayState,
     placed: Placed,
     out: &mut K,
     answers: &mut Answers,
 ) -> Result<(), RunFault>
     requires { state.old.requests + 1 < 2 ^ 64 }
-    ensures answers { AnswersEvent rules.now state.old state.new placed
+    ensures answers { AnswersEvent program.now state.old state.new placed
         (K.written out.old) (K.written out.new) answers.old answers.new result }
     ensures kind { IfErr result IsReplayFault }
     ensures source { ¬ (IsErrOf result RunFault.Source) }
@@ -106,7 +107,7 @@ fn answer_event<K: Sink>(
     ensures later { K.faults out.old ≤ K.faults out.new }
 {
     let Placed { offset, event } = placed;
-    match state.step(alloc, rules, event, answers) {
+    match state.step(alloc, program, event, answers) {
         Ok(()) => {
             write_many(out, answers)?;
             Ok(())

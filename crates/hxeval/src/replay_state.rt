@@ -4,7 +4,7 @@ ghost use Rattle.hxeval.specs.declared.replay_state.StepFault.{StepFault};
 
 use crate::answer::{Answers, decide};
 use crate::connections::Connections;
-use crate::rules::Rules;
+use crate::program::Program;
 use hx_fetch::Conn;
 use hx_record::Event;
 use hx_text::NoMemory;
@@ -67,12 +67,12 @@ impl ReplayState {
     pub fn step(
         &mut self,
         alloc: Global,
-        rules: &Rules,
+        program: &Program,
         event: Event,
         answers: &mut Answers,
     ) -> Result<(), StepFault>
         requires { self.old.requests + 1 < 2 ^ 64 }
-        ensures { Steps rules.now self.old self.new event answers.old answers.new result }
+        ensures { Steps program.now self.old self.new event answers.old answers.new result }
     {
         match event {
             Event::Conn {
@@ -98,7 +98,7 @@ impl ReplayState {
                 let Some(conn) = self.connections.get(id) else {
                     return Err(StepFault::Refused { code: UNKNOWN_CONN });
                 };
-                let verdict = decide(alloc, rules, conn, bytes)?;
+                let verdict = decide(alloc, program, conn, bytes)?;
                 answers.append(self.requests + 1, verdict)?;
                 self.requests += 1;
                 Ok(())

@@ -1,9 +1,9 @@
-ghost use Rattle.std.specs.Prelude.{◌≡◌, ◌≢◌, ◌≤◌, ◌↔◌, ◌⊎◌, List, ℕ, Ok, Err, None, Some, Contains, [], ◌∷◌, OnOk, IsErrOf};
+ghost use Rattle.std.specs.Prelude.{◌≡◌, ◌≢◌, ◌≤◌, ◌↔◌, ◌⊎◌, List, ℕ, Ok, Err, None, Some, Contains, [], ◌∷◌, OnOk, IsErrOf, IsSomeAnd};
 ghost use Rattle.std.specs.Option.{option_copied};
 ghost use Rattle.std.specs.Io.KnownBytes.{Appends, IsAtEnd};
 ghost use Rattle.hx_outside.specs.Count.{Rose};
 ghost use Rattle.hxeval.specs.Run.{config_name, texts_of, setting, Ran, HasStatus, Headline};
-ghost use Rattle.hxeval.specs.Run.{SourceFails, RunJudgesLast};
+ghost use Rattle.hxeval.specs.Run.{RunJudgesLast, RunReads, SourceFails};
 ghost use Rattle.hxeval.specs.RunFault.{Attempted, Finishes};
 
 use crate::load::load;
@@ -16,8 +16,9 @@ use std::alloc::Global;
 /// the environment `env`, and answers the exit status.
 ///
 /// `run CONFIG` reads the file CONFIG as a configuration, and answers the events of the record in
-/// order. All answers that the bytes read so far decide are written before more is read. Regular
-/// expressions of the configuration are made by `maker`.
+/// order. All answers that the bytes read so far decide are written before more is read. Files that
+/// the configuration names are read through `files` too, and regular expressions are made by
+/// `maker`.
 ///
 /// | Status | Comes |
 /// |---|---|
@@ -25,10 +26,10 @@ use std::alloc::Global;
 /// | 2 | the words are no command; nothing is touched |
 /// | 3 | the configuration is refused: `config LINE CODE` is written, alone |
 /// | 4 | the record is refused: the answers before, and then `record OFFSET CODE` are written |
-/// | 5 | the files or the source failed |
+/// | 5 | the configuration, a file that it names, or the source can't be read |
 /// | 6 | the sink failed |
 /// | 7 | memory ran out |
-/// | 8 | a regular expression of the configuration is too large for the maker |
+/// | 8 | a regular expression of the configuration or its files is too large for the maker |
 pub fn run<F: Files, S: Source, K: Sink, M: ReMaker>(
     alloc: Global,
     words: &[Vec<u8>],
@@ -54,7 +55,9 @@ pub fn run<F: Files, S: Source, K: Sink, M: ReMaker>(
     ensures config_refused { result ≡ 3 → record_in.new ≡ record_in.old }
 
     ensures outside { (name : List ℕ) → config_name (texts_of words.now) ≡ Some name → result ≡ 5
-        → (Rose (F.faults files.old) (F.faults files.new) × (F.last files.new ≡ Some name)
+        → (Rose (F.faults files.old) (F.faults files.new)
+        × IsSomeAnd (F.last files.new)
+        (RunReads (setting env.now (F.held files.old) name (S.left record_in.old)))
         × Appends (K.written out.old) (K.written out.new) [])
         ⊎ (Rose (S.faults record_in.old) (S.faults record_in.new)
         × SourceFails (setting env.now (F.held files.old) name (S.left record_in.old))
@@ -75,9 +78,11 @@ pub fn run<F: Files, S: Source, K: Sink, M: ReMaker>(
         ⊎ HasStatus (setting env.now (F.held files.old) name (S.left record_in.old)) result }
 
     ensures held { F.held files.new ≡ F.held files.old }
-    // No other file than the configuration was read in vain.
-    ensures named { (F.last files.new ≡ F.last files.old)
-        ⊎ (F.last files.new ≡ config_name (texts_of words.now)) }
+    // No file was read in vain but the configuration and those to which it comes.
+    ensures named { (name : List ℕ) → config_name (texts_of words.now) ≡ Some name
+        → (F.last files.new ≡ F.last files.old)
+        ⊎ IsSomeAnd (F.last files.new)
+        (RunReads (setting env.now (F.held files.old) name (S.left record_in.old))) }
 {
     let Some(name) = config_name(words) else {
         return 2;
@@ -115,7 +120,9 @@ fn attempt<F: Files, S: Source, K: Sink, M: ReMaker>(
     ensures config_refused { (line code : ℕ) → result ≡ Err (RunFault.ConfigRefused line code)
         → record_in.new ≡ record_in.old }
     ensures files_failed { IsErrOf result RunFault.Files
-        → Rose (F.faults files.old) (F.faults files.new) × (F.last files.new ≡ Some name.now)
+        → Rose (F.faults files.old) (F.faults files.new)
+        × IsSomeAnd (F.last files.new)
+        (RunReads (setting env.now (F.held files.old) name.now (S.left record_in.old)))
         × (out.new ≡ out.old) }
     ensures source_failed { IsErrOf result RunFault.Source
         → Rose (S.faults record_in.old) (S.faults record_in.new)
@@ -129,11 +136,13 @@ fn attempt<F: Files, S: Source, K: Sink, M: ReMaker>(
         (M.large maker.new) × (out.new ≡ out.old) }
     ensures later { K.faults out.old ≤ K.faults out.new }
     ensures held { F.held files.new ≡ F.held files.old }
-    ensures named { (F.last files.new ≡ F.last files.old) ⊎ (F.last files.new ≡ Some name.now) }
+    ensures named { (F.last files.new ≡ F.last files.old)
+        ⊎ IsSomeAnd (F.last files.new)
+        (RunReads (setting env.now (F.held files.old) name.now (S.left record_in.old))) }
 {
     let config = files.read(alloc, name)?;
-    let rules = load(alloc, env, config.as_slice(), maker)?;
-    replay(alloc, &rules, record_in, out)?;
+    let program = load(alloc, env, config.as_slice(), files, maker)?;
+    replay(alloc, &program, record_in, out)?;
     Ok(())
 }
 

@@ -3,7 +3,7 @@ ghost use Rattle.std.specs.String.{string_bytes};
 ghost use Rattle.hxeval.specs.Outcome.{last_line};
 ghost use Rattle.hxeval.specs.RunFault.{fault_end, fault_status};
 
-use crate::load::LoadFault;
+use crate::load_fault::LoadFault;
 use hx_outside::{FileFault, SinkFault};
 use hx_record::RecordFault;
 use std::alloc::{AllocError, Global};
@@ -15,7 +15,7 @@ pub enum RunFault {
     ConfigRefused { line: u64, code: u32 },
     /// The record is refused, at this offset and with this code.
     RecordRefused { offset: u64, code: u32 },
-    /// The configuration could not be read.
+    /// The configuration, or a file that it names, could not be read.
     Files,
     /// The record could not be read.
     Source,
@@ -85,6 +85,7 @@ impl From<LoadFault> for RunFault {
     fn from(fault: LoadFault) -> RunFault {
         match fault {
             LoadFault::Refused { line, code } => RunFault::ConfigRefused { line, code },
+            LoadFault::Failed => RunFault::Files,
             LoadFault::TooLarge => RunFault::TooLarge,
             LoadFault::NoMemory => RunFault::NoMemory,
         }

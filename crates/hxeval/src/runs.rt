@@ -2,12 +2,90 @@
 //!
 //! `config` begins a run over a configuration named `c`; its record is the line that opens
 //! connection 1, and `record` has another one in its place. `head` adds a request of connection 1
-//! with these bytes, `more` adds bytes as they are. `name` asks for another configuration. `read`,
-//! `write` and `large` number a read and a write that fail, and an expression that is too large.
-//! `run` has the status and the text. `~` stands for a line feed, `^` for CR and a line feed.
+//! with these bytes, `more` adds bytes as they are. `name` asks for another configuration, and
+//! `file` adds a file of this name with these bytes. `open`, `read`, `write` and `large` number a
+//! file, a read and a write that fail, and an expression that is too large. `run` has the status
+//! and the text. `~` stands for a line feed, `^` for CR and a line feed.
 
 /// The runs, one after the other.
-pub const RUNS: &[u8] = b"config http-request deny if { path /a }
+pub const RUNS: &[u8] = b"config http-request deny if { src,map_ip(nets) -m str inner }
+file nets 198.51.100.0/24 outer~192.0.2.0/24 inner~0.0.0.0/0 rest~
+head GET / HTTP/1.1^^
+run 0 1 deny 403~
+config http-request deny if { path,map_beg(paths,none) -m str none }
+file paths /a x~~# y~/b y~
+head GET /a/1 HTTP/1.1^^
+head GET /c HTTP/1.1^^
+run 0 1 pass -~2 deny 403~
+config acl kept req.hdr(X) -f first -i -f second third~http-request deny if kept
+file first One~
+file second Two~
+head GET / HTTP/1.1^X: one^^
+head GET / HTTP/1.1^X: One^^
+head GET / HTTP/1.1^X: TWO^^
+head GET / HTTP/1.1^X: Third^^
+run 0 1 pass -~2 deny 403~3 deny 403~4 deny 403~
+config acl long url_len gt 5~http-request deny deny_status 400 unless !long
+head GET /abcd HTTP/1.1^^
+head GET /abcde HTTP/1.1^^
+run 0 1 pass -~2 deny 400~
+config acl a path /a~acl b src 192.0.2.7~acl a path /b~http-request deny if a !b or { dst_port 80 } a
+head GET /b HTTP/1.1^^
+head GET /c HTTP/1.1^^
+run 0 1 deny 403~2 pass -~
+config http-request deny if METH_POST !LOCALHOST or FALSE
+head POST / HTTP/1.1^^
+head GET / HTTP/1.1^^
+run 0 1 deny 403~2 pass -~
+config http-request deny if { path -m reg -i a+b }
+head GET /AAB HTTP/1.1^^
+head GET /ba HTTP/1.1^^
+run 0 1 deny 403~2 pass -~
+config acl a path /a~http-request deny if a b
+run 3 config 2 13~
+config http-request deny if b~acl b path /b
+run 3 config 1 13~
+config acl a:b c
+run 3 config 1 9~
+config acl a,b path /a
+run 3 config 1 12~
+config acl a url_len 5:3
+run 3 config 1 16~
+config acl a path -m reg (
+run 3 config 1 16~
+config acl a src -f nets~http-request deny if { src,map_ip(nets) -m str x }
+file nets 192.0.2.0/24 x~
+run 3 config 2 17~
+config http-request deny~acl a path -m reg -f list
+file list /a~(~
+run 3 config 2 16~
+config http-request deny if { path,map_str_int(list) gt 3 }
+file list /a 4~/b x~
+run 3 config 1 18~
+config acl a path -u 7 /a~acl b path -u 7 /b
+run 3 config 2 22~
+config http-request deny~frontend a
+run 3 config 2 19~
+config acl a path -f gone
+head GET /a HTTP/1.1^^
+run 5
+config acl a path -f gone~acl b path -m reg (
+run 3 config 2 16~
+config acl a path -m reg -f list~acl b path -f gone
+file list (~
+run 3 config 1 16~
+config acl a path -f list~acl b path -f list
+file list /a~
+open 2
+run 5
+config acl a path -m reg -f list
+file list a~b~c~
+large 2
+run 8
+config acl a path -m reg a~acl b path -f gone
+large 1
+run 8
+config http-request deny if { path /a }
 head GET /a?x HTTP/1.1^^
 run 0 1 deny 403~
 config http-request deny if { path /a }
@@ -108,28 +186,28 @@ head GET /a HTTP/1.1^^
 run 3 config 1 9~
 config ~# a~http-request deny~\"
 head GET /a HTTP/1.1^^
-run 3 config 3 9~
+run 3 config 4 1~
 config http-request deny if { path }
 head GET /a HTTP/1.1^^
-run 3 config 1 9~
-config http-request deny if { path -i /a }
+run 0 1 pass -~
+config http-request deny if { path -i /A }
 head GET /a HTTP/1.1^^
-run 3 config 1 9~
+run 0 1 deny 403~
 config http-request deny if { path /a } }
 head GET /a HTTP/1.1^^
-run 3 config 1 9~
+run 3 config 1 14~
 config http-request deny if { path { /a }
 head GET /a HTTP/1.1^^
-run 3 config 1 9~
+run 0 1 deny 403~
 config http-request deny if { path /a
 head GET /a HTTP/1.1^^
-run 3 config 1 9~
+run 3 config 1 14~
 config http-request deny or { path /a }
 head GET /a HTTP/1.1^^
-run 3 config 1 9~
+run 3 config 1 10~
 config http-request deny if { path \"-i\" }
 head GET /a HTTP/1.1^^
-run 3 config 1 9~
+run 0 1 pass -~
 config deny if { path /a }
 head GET /a HTTP/1.1^^
 run 3 config 1 9~

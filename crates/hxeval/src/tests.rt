@@ -8,13 +8,15 @@ use std::test::Fail;
 /// The line that opens connection 1.
 const CONN: &[u8] = b"conn 1 192.0.2.7 40000 203.0.113.1 80\n";
 
-/// A run of `run NAME` over a configuration named `c`, with the variable A of value `x`, and the
-/// numbers of the calls that fail.
+/// A run of `run NAME` over a configuration named `c` and other files, with the variable A of value
+/// `x`, and the numbers of the calls that fail.
 #[derive(Drop)]
 struct Run {
     name: Vec<u8>,
     config: Vec<u8>,
+    files: Vec<(Vec<u8>, Vec<u8>)>,
     record: Vec<u8>,
+    opens: Vec<u64>,
     reads: Vec<u64>,
     writes: Vec<u64>,
     large: Vec<u64>,
@@ -25,7 +27,9 @@ impl Run {
         Ok(Run {
             name: b"c".to_vec(alloc)?,
             config,
+            files: Vec::new(alloc),
             record,
+            opens: Vec::new(alloc),
             reads: Vec::new(alloc),
             writes: Vec::new(alloc),
             large: Vec::new(alloc),
@@ -43,6 +47,11 @@ impl Run {
             self.record.extend_from_slice(bytes.as_slice())?;
         } else if word == b"head".as_slice() {
             append_request(alloc, &mut self.record, bytes.as_slice())?;
+        } else if word == b"file".as_slice() {
+            let (name, text) = word_and_text(bytes.as_slice());
+            self.files.push((name.to_vec(alloc)?, text.to_vec(alloc)?))?;
+        } else if word == b"open".as_slice() {
+            self.opens.push(number_of(text))?;
         } else if word == b"read".as_slice() {
             self.reads.push(number_of(text))?;
         } else if word == b"write".as_slice() {
@@ -60,8 +69,14 @@ impl Run {
         let words = vec![in alloc; b"run".to_vec(alloc)?, self.name.as_slice().to_vec(alloc)?]?;
         let env = vec![in alloc; (b"A".to_vec(alloc)?, b"x".to_vec(alloc)?)]?;
         let config = self.config.as_slice().to_vec(alloc)?;
-        let files = vec![in alloc; (b"c".to_vec(alloc)?, config)]?;
-        let mut files = MemFiles::new(files, Vec::new(alloc));
+        let mut files = vec![in alloc; (b"c".to_vec(alloc)?, config)]?;
+        for (name, text) in self.files.as_slice() {
+            files.push((
+                name.as_slice().to_vec(alloc)?,
+                text.as_slice().to_vec(alloc)?,
+            ))?;
+        }
+        let mut files = MemFiles::new(files, self.opens.as_slice().to_vec(alloc)?);
         let record = self.record.as_slice().to_vec(alloc)?;
         let mut source = MemSource::new(record, 8, self.reads.as_slice().to_vec(alloc)?);
         let mut sink = MemSink::new(alloc, 3, self.writes.as_slice().to_vec(alloc)?);
@@ -132,7 +147,7 @@ fn runs_end_and_answer_as_their_lines_say(rt: HostRuntime) -> Result<(), Fail> {
             assert!(rt; made.take(alloc, word, text)?, "at run {count}");
         }
     }
-    assert_eq!(rt; count, 80);
+    assert_eq!(rt; count, 104);
     Ok(())
 }
 
@@ -143,8 +158,18 @@ fn ran_in_pieces(
     record: Vec<u8>,
     piece: usize,
 ) -> Result<(u8, Vec<u8>), Fail> {
-    let words = vec![in alloc; b"run".to_vec(alloc)?, b"c".to_vec(alloc)?]?;
     let files = vec![in alloc; (b"c".to_vec(alloc)?, config)]?;
+    ran_over(alloc, files, record, piece)
+}
+
+/// The same over these files, of which one is named `c`.
+fn ran_over(
+    alloc: Global,
+    files: Vec<(Vec<u8>, Vec<u8>)>,
+    record: Vec<u8>,
+    piece: usize,
+) -> Result<(u8, Vec<u8>), Fail> {
+    let words = vec![in alloc; b"run".to_vec(alloc)?, b"c".to_vec(alloc)?]?;
     let mut files = MemFiles::new(files, Vec::new(alloc));
     let mut source = MemSource::new(record, piece.max(1), Vec::new(alloc));
     let mut sink = MemSink::new(alloc, 65_536, Vec::new(alloc));
@@ -247,5 +272,56 @@ fn more_than_64_kib_of_answers_are_decided_by_one_read(rt: HostRuntime) -> Resul
     let (status, written) = ran_in_pieces(alloc, Vec::new(alloc), long, 4_096)?;
     assert_eq!(rt; status, 4);
     assert_eq!(rt; written.as_slice(), b"record 0 5\n".as_slice());
+    Ok(())
+}
+
+/// A record of two requests of connection 1, for these paths.
+fn two_requests(alloc: Global, first: &str, second: &str) -> Result<Vec<u8>, Fail> {
+    let mut record = CONN.to_vec(alloc)?;
+    for path in [first, second] {
+        let head = format!(in alloc; "GET {path} HTTP/1.1\r\n\r\n")?;
+        append_request(alloc, &mut record, head.as_bytes())?;
+    }
+    Ok(record)
+}
+
+#[test]
+fn long_files_are_searched_whole(rt: HostRuntime) -> Result<(), Fail> {
+    let alloc = rt.alloc();
+    let mut paths = Vec::new(alloc);
+    for number in 0..100_000u32 {
+        paths.extend_from_slice(format!(in alloc; "/{number}\n")?.as_bytes())?;
+    }
+    let config = b"http-request deny if { path -f paths } !{ path -f long }".to_vec(alloc)?;
+    let long = vec![in alloc; b'x'; 1_048_576]?;
+    let files = vec![in alloc;
+        (b"c".to_vec(alloc)?, config),
+        (b"paths".to_vec(alloc)?, paths),
+        (b"long".to_vec(alloc)?, long),
+    ]?;
+    let record = two_requests(alloc, "/99999", "/100000")?;
+    let (status, written) = ran_over(alloc, files, record, 4_096)?;
+    assert_eq!(rt; status, 0);
+    assert_eq!(rt; written.as_slice(), b"1 deny 403\n2 pass -\n".as_slice());
+    Ok(())
+}
+
+#[test]
+fn many_acls_and_long_conditions_are_answered_whole(rt: HostRuntime) -> Result<(), Fail> {
+    let alloc = rt.alloc();
+    let mut config = Vec::new(alloc);
+    for number in 0..1_000u32 {
+        config.extend_from_slice(format!(in alloc; "acl a{number} path /{number}\n")?.as_bytes())?;
+    }
+    config.extend_from_slice(b"http-request deny if a999 a0 or")?;
+    // 250 words in all
+    for _ in 0..122u32 {
+        config.extend_from_slice(b" a998 or")?;
+    }
+    config.extend_from_slice(b" a999 !a998 TRUE")?;
+    let record = two_requests(alloc, "/997", "/999")?;
+    let (status, written) = ran_in_pieces(alloc, config, record, 4_096)?;
+    assert_eq!(rt; status, 0);
+    assert_eq!(rt; written.as_slice(), b"1 pass -\n2 deny 403\n".as_slice());
     Ok(())
 }

@@ -1,5 +1,5 @@
-use Rattle.hxeval.proofs.LoadingLemmas.{one_loading}
+use Rattle.hxeval.proofs.LoadedLemmas.{loads}
 use Rattle.hxeval.proofs.laws.loading.Goals as goal
 
 pub returns : goal.returns
-returns c = one_loading
+returns c = loads

@@ -1,42 +1,175 @@
-use Rattle.std.proofs.Common.{◌≡◌, ◌∷◌, ◌∙◌, ◌+◌, None, Some, ap, arith, append-nil, sym}
-use Rattle.std.specs.Option.{option_copied}
+use Rattle.std.proofs.Common.{◌≡◌, ◌∙◌, Err, ap, inl, inr, map}
+use Rattle.std.proofs.lemmas.Result.{err_from_is_err_and}
 use Rattle.hx_base.specs.Pairs.{pairs_of}
-use Rattle.hxeval.specs.Configuration.{lines_left}
-use Rattle.hxeval.proofs.LoadLemmas.{after_line}
-use Rattle.hxeval.proofs.JudgedLemmas.{gave_blank, gave_rule}
+use Rattle.hx_spell.specs.TableSpecs.{ReferenceSpecs}
+use Rattle.hxeval.specs.References.{table_head}
+use Rattle.hxeval.specs.declared.load_fault.LoadFault.TheVariants as fault
+use Rattle.hxeval.proofs.LoadedLemmas.{fill_asks, fill_fault, fill_reads, fill_whole, has_heads, line_asks, line_fault, number_fault}
 use Rattle.hxeval.proofs.load.load.Goals as goal
 
-pub lines-preserved-in_ok-push-in-Ok-Some : goal.lines-preserved-in_ok-push-in-Ok-Some
-lines-preserved-in_ok-push-in-Ok-Some g c =
-    let env = pairs_of c.args.env.now in
-    let left = lines_left (option_copied c.lines.rest) in
-    let line = c.first_line.result.0.now in
-    let after = lines_left (option_copied c.first_line.result.1) in
-    let is : left ≡ line ∷ after = ap (λ r. lines_left (option_copied r)) c.in-Some.is ∙ c.first_line.ensures.lines in
-    let says = rw c.in-Ok-Some.field-0-is at c.in-Ok-Some.ensures.accepted in
-    let more = c.in_ok-push-in-Ok-Some.ensures.ok in
-    let (count, large) = c.in-Ok-Some.ensures.uncounted (λ err. cc) in
-    record {
-      same = after_line env (c.lines.number + 1) c.lines.rules c.push.new.self left line after (Some c.in-Ok-Some.rule) is says more ∙ c.lines.invariant.same;
-      counted = omega (arith, c.first_line.ensures.shorter, rw c.in-Some.is at c.lines.invariant.counted);
-      gave = rw more (gave_rule env c.args.config.now c.lines.number c.lines.rules left line after c.in-Ok-Some.rule c.lines.invariant.gave is says);
-      too_large = count ∙ c.lines.invariant.too_large;
-      large = large ∙ c.lines.invariant.large;
-    }
+-- ---- the lines have a fault
 
-pub lines-preserved : goal.lines-preserved
-lines-preserved g c =
-    let env = pairs_of c.args.env.now in
-    let left = lines_left (option_copied c.lines.rest) in
-    let line = c.first_line.result.0.now in
-    let after = lines_left (option_copied c.first_line.result.1) in
-    let is : left ≡ line ∷ after = ap (λ r. lines_left (option_copied r)) c.in-Some.is ∙ c.first_line.ensures.lines in
-    let says = rw c.in-Ok-None.field-0-is at c.in-Ok-None.ensures.accepted in
-    let (count, large) = c.in-Ok-None.ensures.uncounted (λ err. cc) in
-    record {
-      same = after_line env (c.lines.number + 1) c.lines.rules c.lines.rules left line after None is says (sym (append-nil c.lines.rules)) ∙ c.lines.invariant.same;
-      counted = omega (arith, c.first_line.ensures.shorter, rw c.in-Some.is at c.lines.invariant.counted);
-      gave = gave_blank env c.args.config.now c.lines.number c.lines.rules left line after c.lines.invariant.gave is says;
-      too_large = count ∙ c.lines.invariant.too_large;
-      large = large ∙ c.lines.invariant.large;
-    }
+pub returns-in_err-read-clause-loads : goal.returns-in_err-read-clause-loads
+returns-in_err-read-clause-loads g c =
+    let p = err_from_is_err_and c.from_residual.result c.from_residual.ensures.1 in
+    rw (p.1, p.2) (line_fault (g.F.Files.held c.args.files.now) (pairs_of c.args.env.now) c.args.config.now c.in_err-read.field-0.0
+    (λ line code is. c.in_err-read.ensures.refused line code (ap Err is)))
+
+pub returns-in_err-read-clause-failed : goal.returns-in_err-read-clause-failed
+returns-in_err-read-clause-failed g c = λ is.
+    let p = err_from_is_err_and c.from_residual.result c.from_residual.ensures.1 in
+    let same : c.in_err-read.field-0.0 ≡ fault.Failed = cc (p.1, p.2, is) in
+    absurd (c.in_err-read.ensures.never (ap Err same))
+
+pub returns-in_err-read-clause-too_large : goal.returns-in_err-read-clause-too_large
+returns-in_err-read-clause-too_large g c = λ is.
+    let p = err_from_is_err_and c.from_residual.result c.from_residual.ensures.1 in
+    let same : c.in_err-read.field-0.0 ≡ fault.TooLarge = cc (p.1, p.2, is) in
+    let (rose, asks) = c.in_err-read.ensures.too_large (ap Err same) in (
+      rose,
+      line_asks (g.F.Files.held c.args.files.now) (pairs_of c.args.env.now) c.args.config.now (g.M.ReMaker.large c.read_lines.new.maker) asks,
+    )
+
+pub returns-in_err-read-clause-uncounted : goal.returns-in_err-read-clause-uncounted
+returns-in_err-read-clause-uncounted g c = λ no.
+    let p = err_from_is_err_and c.from_residual.result c.from_residual.ensures.1 in
+    c.in_err-read.ensures.uncounted (λ is.
+    let same : c.in_err-read.field-0.0 ≡ fault.TooLarge = cc (is) in
+    no (p.1 ∙ ap Err (p.2 ∙ same)))
+
+-- ---- a number is given twice
+
+pub returns-in_err-refs-clause-loads : goal.returns-in_err-refs-clause-loads
+returns-in_err-refs-clause-loads g c =
+    let p = err_from_is_err_and c.from_residual-in_err-refs.result c.from_residual-in_err-refs.ensures.1 in
+    let read = c.in_ok-read.read in
+    rw (p.1, p.2) (number_fault (g.F.Files.held c.args.files.now) (pairs_of c.args.env.now) c.args.config.now
+    read.speller read.statements.acls read.statements.rules c.tables-specs.result c.in_err-refs.field-0.0
+    (record { lines = c.in_ok-read.ensures.accepted; specs_are = c.tables-specs.ensures.specs })
+    (λ line code is. c.in_err-refs.ensures.refused line code (ap Err is)))
+
+pub returns-in_err-refs-clause-failed : goal.returns-in_err-refs-clause-failed
+returns-in_err-refs-clause-failed g c = λ is.
+    let p = err_from_is_err_and c.from_residual-in_err-refs.result c.from_residual-in_err-refs.ensures.1 in
+    let same : c.in_err-refs.field-0.0 ≡ fault.Failed = cc (p.1, p.2, is) in
+    absurd (c.in_err-refs.ensures.no_file (ap Err same))
+
+pub returns-in_err-refs-clause-too_large : goal.returns-in_err-refs-clause-too_large
+returns-in_err-refs-clause-too_large g c = λ is.
+    let p = err_from_is_err_and c.from_residual-in_err-refs.result c.from_residual-in_err-refs.ensures.1 in
+    let same : c.in_err-refs.field-0.0 ≡ fault.TooLarge = cc (p.1, p.2, is) in
+    absurd (c.in_err-refs.ensures.no_expression (ap Err same))
+
+pub returns-in_err-refs-clause-uncounted : goal.returns-in_err-refs-clause-uncounted
+returns-in_err-refs-clause-uncounted g c = λ no. c.in_ok-read.ensures.uncounted (λ is. cc)
+
+-- ---- the references aren't filled
+
+pub returns-in_err-fill-clause-loads : goal.returns-in_err-fill-clause-loads
+returns-in_err-fill-clause-loads g c =
+    let p = err_from_is_err_and c.from_residual-in_err-fill.result c.from_residual-in_err-fill.ensures.1 in
+    let read = c.in_ok-read.read in
+    rw (p.1, p.2) (fill_fault (g.F.Files.held c.args.files.now) (pairs_of c.args.env.now) c.args.config.now
+    read.speller read.statements.acls read.statements.rules c.tables-specs.result c.in_ok-refs.refs c.fill.new.refs c.in_err-fill.field-0.0
+    (record {
+      brings = record { lines = c.in_ok-read.ensures.accepted; specs_are = c.tables-specs.ensures.specs };
+      once = c.in_ok-refs.ensures.once;
+      refs_are = c.in_ok-refs.ensures.ok;
+    }) c.in_err-fill.ensures.filled)
+
+pub returns-in_err-fill-clause-failed : goal.returns-in_err-fill-clause-failed
+returns-in_err-fill-clause-failed g c = λ is.
+    let p = err_from_is_err_and c.from_residual-in_err-fill.result c.from_residual-in_err-fill.ensures.1 in
+    let same : c.in_err-fill.field-0.0 ≡ fault.Failed = cc (p.1, p.2, is) in
+    let read = c.in_ok-read.read in
+    let (rose, reads) = c.in_err-fill.ensures.failed (ap Err same) in (
+      rose,
+      fill_reads (g.F.Files.held c.args.files.now) (pairs_of c.args.env.now) c.args.config.now
+          read.speller read.statements.acls read.statements.rules c.tables-specs.result c.in_ok-refs.refs (g.F.Files.last c.fill.new.files)
+          (record {
+            brings = record { lines = c.in_ok-read.ensures.accepted; specs_are = c.tables-specs.ensures.specs };
+            once = c.in_ok-refs.ensures.once;
+            refs_are = c.in_ok-refs.ensures.ok;
+          }) reads,
+    )
+
+pub returns-in_err-fill-clause-too_large : goal.returns-in_err-fill-clause-too_large
+returns-in_err-fill-clause-too_large g c = λ is.
+    let p = err_from_is_err_and c.from_residual-in_err-fill.result c.from_residual-in_err-fill.ensures.1 in
+    let same : c.in_err-fill.field-0.0 ≡ fault.TooLarge = cc (p.1, p.2, is) in
+    let read = c.in_ok-read.read in
+    let (count, large) = c.in_ok-read.ensures.uncounted (λ is. cc) in
+    let (rose, asks) = c.in_err-fill.ensures.too_large (ap Err same) in (
+      rw count at rose,
+      fill_asks (g.F.Files.held c.args.files.now) (pairs_of c.args.env.now) c.args.config.now
+          read.speller read.statements.acls read.statements.rules c.tables-specs.result c.in_ok-refs.refs (g.M.ReMaker.large c.fill.new.maker)
+          (record {
+            brings = record { lines = c.in_ok-read.ensures.accepted; specs_are = c.tables-specs.ensures.specs };
+            once = c.in_ok-refs.ensures.once;
+            refs_are = c.in_ok-refs.ensures.ok;
+          }) asks,
+    )
+
+pub returns-in_err-fill-clause-uncounted : goal.returns-in_err-fill-clause-uncounted
+returns-in_err-fill-clause-uncounted g c = λ no.
+    let p = err_from_is_err_and c.from_residual-in_err-fill.result c.from_residual-in_err-fill.ensures.1 in
+    let (count, large) = c.in_ok-read.ensures.uncounted (λ is. cc) in
+    let (count', large') = c.in_err-fill.ensures.uncounted (λ is.
+    let same : c.in_err-fill.field-0.0 ≡ fault.TooLarge = cc (is) in
+    no (p.1 ∙ ap Err (p.2 ∙ same))) in
+    (count' ∙ count, large' ∙ large)
+
+pub returns-in_err-fill-clause-named : goal.returns-in_err-fill-clause-named
+returns-in_err-fill-clause-named g c =
+    let read = c.in_ok-read.read in
+    elim c.in_err-fill.ensures.named [
+      | inl same ↦ inl same
+      | inr reads ↦ inr (fill_reads (g.F.Files.held c.args.files.now) (pairs_of c.args.env.now) c.args.config.now
+          read.speller read.statements.acls read.statements.rules c.tables-specs.result c.in_ok-refs.refs (g.F.Files.last c.fill.new.files)
+          (record {
+            brings = record { lines = c.in_ok-read.ensures.accepted; specs_are = c.tables-specs.ensures.specs };
+            once = c.in_ok-refs.ensures.once;
+            refs_are = c.in_ok-refs.ensures.ok;
+          }) reads)
+    ]
+
+-- ---- they are
+
+pub new-requires : goal.new-requires
+new-requires g c =
+    let read = c.in_ok-read.read in
+    has_heads (map table_head read.speller.heads) read.statements.acls read.statements.rules c.fill.new.refs
+    c.in_ok-read.ensures.heads.0 c.in_ok-read.ensures.heads.1
+    (c.in_ok-fill.ensures.heads ∙ c.in_ok-refs.ensures.heads
+    ∙ ap (λ (s : ReferenceSpecs). map table_head s.heads) c.tables-specs.ensures.specs)
+
+pub returns-clause-loads : goal.returns-clause-loads
+returns-clause-loads g c =
+    let read = c.in_ok-read.read in
+    rw c.new.ensures (fill_whole (g.F.Files.held c.args.files.now) (pairs_of c.args.env.now) c.args.config.now
+    read.speller read.statements.acls read.statements.rules c.tables-specs.result c.in_ok-refs.refs c.fill.new.refs
+    (record {
+      brings = record { lines = c.in_ok-read.ensures.accepted; specs_are = c.tables-specs.ensures.specs };
+      once = c.in_ok-refs.ensures.once;
+      refs_are = c.in_ok-refs.ensures.ok;
+    }) c.in_ok-fill.ensures.filled)
+
+pub returns-clause-uncounted : goal.returns-clause-uncounted
+returns-clause-uncounted g c = λ no.
+    let (count, large) = c.in_ok-read.ensures.uncounted (λ is. cc) in
+    let (count', large') = c.in_ok-fill.ensures.uncounted (λ is. cc) in
+    (count' ∙ count, large' ∙ large)
+
+pub returns-clause-named : goal.returns-clause-named
+returns-clause-named g c =
+    let read = c.in_ok-read.read in
+    elim c.in_ok-fill.ensures.named [
+      | inl same ↦ inl same
+      | inr reads ↦ inr (fill_reads (g.F.Files.held c.args.files.now) (pairs_of c.args.env.now) c.args.config.now
+          read.speller read.statements.acls read.statements.rules c.tables-specs.result c.in_ok-refs.refs (g.F.Files.last c.fill.new.files)
+          (record {
+            brings = record { lines = c.in_ok-read.ensures.accepted; specs_are = c.tables-specs.ensures.specs };
+            once = c.in_ok-refs.ensures.once;
+            refs_are = c.in_ok-refs.ensures.ok;
+          }) reads)
+    ]

@@ -1,5 +1,5 @@
-use Rattle.std.proofs.Common.{◌≡◌, ◌<◌, ◌∙◌, Some, Err, inl, inr, ap, arith, subst, refl}
-use Rattle.hxeval.specs.Run.{setting, Ran, Headline, SourceFails, RunJudgesLast}
+use Rattle.std.proofs.Common.{◌≡◌, ◌<◌, ◌∙◌, Err, IsSomeAnd, inl, inr, ap, arith, subst, refl}
+use Rattle.hxeval.specs.Run.{setting, Ran, Headline, SourceFails, RunJudgesLast, RunReads}
 use Rattle.hxeval.proofs.RunLemmas.{source_moved}
 use Rattle.hxeval.proofs.StatusLemmas.{headline, ran_completed, finished_status, ran_finished, finished_by, finished_line, is_config_refused, is_outside, is_large, large_line, sink_rose, complete}
 use Rattle.hxeval.proofs.run.run.Goals as goal
@@ -29,10 +29,13 @@ returns-in-Ok-clause-complete g c = λ name is files source sink large.
     (returns-in-Ok-clause-ran g c name is)
 
 pub returns-in-Ok-clause-named : goal.returns-in-Ok-clause-named
-returns-in-Ok-clause-named g c = elim c.in-Ok.ensures.named [
-  | inl same ↦ inl same
-  | inr last ↦ inr (last ∙ c.in-Some.ensures)
-]
+returns-in-Ok-clause-named g c = λ name is.
+    let same : c.in-Some.name.now ≡ name = cc (c.in-Some.ensures, is) in
+    elim c.in-Ok.ensures.named [
+      | inl stays ↦ inl stays
+      | inr last ↦ inr (subst (λ n. IsSomeAnd (g.F.Files.last c.attempt.new.files)
+          (RunReads (setting c.args.env.now (g.F.Files.held c.args.files.now) n (g.S.Source.left c.args.record_in.now)))) same last)
+    ]
 
 pub returns-in-Err-clause-status : goal.returns-in-Err-clause-status
 returns-in-Err-clause-status g c =
@@ -63,7 +66,12 @@ returns-in-Err-clause-outside g c = λ name is five.
     elim (is_outside c.in-Err.fault fault) [
       | inl files ↦
           let (rose, last, stays) = c.in-Err.ensures.files_failed (ap Err files) in
-          inl (rose, last ∙ ap Some same, rw stays at (rw files at line))
+          inl (
+            rose,
+            subst (λ n. IsSomeAnd (g.F.Files.last c.attempt.new.files)
+                (RunReads (setting c.args.env.now (g.F.Files.held c.args.files.now) n (g.S.Source.left c.args.record_in.now)))) same last,
+            rw stays at (rw files at line),
+          )
       | inr source ↦
           let (rose, fails) = c.in-Err.ensures.source_failed (ap Err source) in
           inr (
@@ -101,7 +109,10 @@ returns-in-Err-clause-complete g c = λ name is files source sink large.
     (λ eight. large (returns-in-Err-clause-too_large g c name is eight).0) (returns-in-Err-clause-ran g c name is)
 
 pub returns-in-Err-clause-named : goal.returns-in-Err-clause-named
-returns-in-Err-clause-named g c = elim c.in-Err.ensures.named [
-  | inl same ↦ inl same
-  | inr last ↦ inr (last ∙ c.in-Some.ensures)
-]
+returns-in-Err-clause-named g c = λ name is.
+    let same : c.in-Some.name.now ≡ name = cc (c.in-Some.ensures, is) in
+    elim c.in-Err.ensures.named [
+      | inl stays ↦ inl stays
+      | inr last ↦ inr (subst (λ n. IsSomeAnd (g.F.Files.last c.attempt.new.files)
+          (RunReads (setting c.args.env.now (g.F.Files.held c.args.files.now) n (g.S.Source.left c.args.record_in.now)))) same last)
+    ]
