@@ -1,5 +1,5 @@
 -- What the code keeps of references stays as it is kept, and is shown as it is changed.
-use Rattle.std.proofs.Common.{◌≡◌, ◌≢◌, ℕ, ◌<◌, ◌==◌, Bool, true, false, List, [], ◌∷◌, ◌++◌, length, refl, ap, ◌∙◌, arith, inl, inr, length-append, length-set}
+use Rattle.std.proofs.Common.{◌≡◌, ◌≢◌, ℕ, suc, ◌-◌, ◌<◌, ◌==◌, Bool, true, false, List, [], ◌∷◌, ◌++◌, length, refl, ap, ◌∙◌, arith, inl, inr, length-append, length-set}
 use Rattle.std.specs.Prelude.{Option, None, Some, is_some, option_map, slice_get, slice_index_or, slice_set}
 use Rattle.std.proofs.lemmas.Bool.{cases_Bool, eqb-true, eqb-false, cases_lt}
 use Rattle.std.proofs.lemmas.List.{map-set}
@@ -11,12 +11,17 @@ use Rattle.hx_match.specs.Patterns.{PatternText}
 use Rattle.hx_sample.specs.declared.sample.Value.{Value}
 use Rattle.hx_sample.specs.Find.{found_entry, Entry}
 use Rattle.hx_sample.specs.Tables.{found_at, TableHead}
-use Rattle.hx_refs.specs.Kept.{kept_uses, shown_entries, shown_references, AreKept, AreRead, AreReadAt, IsKept, Kept, TakePatterns}
-use Rattle.hx_refs.specs.References.{changed_at, searched_lists, version_entries, Reference}
+use Rattle.hx_refs.specs.Changes.{fault_at}
+use Rattle.hx_refs.specs.Kept.{kept_uses, shown_entries, shown_references, AreKept, AreRead, AreReadAt, Kept, TakePatterns}
+use Rattle.hx_refs.specs.References.{changed_at, searched_lists, version_entries, AreEmpty, Reference}
+use Rattle.hx_refs.specs.declared.fault.RefFault.{RefFault}
 use Rattle.hx_refs.specs.declared.limits.Limits.{Limits}
 use Rattle.hx_refs.specs.Uses.{use_with, uses_of, Use}
+use Rattle.hx_refs.specs.Versions.{versions_between, AreReadEach, IsKept}
 use Rattle.hx_refs.specs.declared.stored.Stored.{Stored}
+use Rattle.hx_refs.specs.declared.versions.KeptVersion.{KeptVersion}
 use Rattle.hx_refs.proofs.ListLemmas.{get_last, get_more, get_past, get_set_other, get_set_same}
+use Rattle.hx_refs.proofs.VersionLemmas.{all_empty, have_none, HaveNone}
 use Rattle.hx_refs.proofs.UseLemmas.{known_use, use_is, uses_of_more, uses_of_others}
 
 -- ---- uses
@@ -31,12 +36,23 @@ none_read : (uses : List Use) (entries : List Stored) → shown_entries entries 
 none_read uses [] none = tt
 none_read uses (stored ∷ entries) none = absurd (cc)
 
+none_read_each : (uses : List Use) (versions : List KeptVersion) → HaveNone versions → AreReadEach uses versions
+none_read_each uses [] none = tt
+none_read_each uses (v ∷ versions) none =
+    (none_read uses v.entries.items none.0, none_read_each uses versions none.1)
+
 -- a use may be added where there is no entry
-pub kept_with_use : (uses : List Use) (entries : List Stored) (u : Use) → u.by ≢ by.Found → u.by ≢ by.Bool
-    → shown_entries entries ≡ [] → IsKept uses entries → IsKept (uses ++ u ∷ []) entries
-kept_with_use uses entries u found bool none kept = record {
+pub kept_with_use : (uses : List Use) (curr next : ℕ) (versions : List KeptVersion) (u : Use)
+    → u.by ≢ by.Found → u.by ≢ by.Bool → AreEmpty (versions_between curr next versions)
+    → IsKept uses curr next versions → IsKept (uses ++ u ∷ []) curr next versions
+kept_with_use uses curr next versions u found bool empty kept = record {
   methods = more_methods uses u found bool kept.methods;
-  read = none_read (uses ++ u ∷ []) entries none;
+  order = kept.order;
+  numbers = kept.numbers;
+  read = none_read_each (uses ++ u ∷ []) versions
+      (have_none curr next versions kept.numbers
+      (λ other low high. all_empty curr (suc (next - curr)) versions empty other low (omega (arith, kept.order))));
+  counted = kept.counted;
 }
 
 -- the patterns at the place of a use are by its method and with its case
@@ -67,6 +83,14 @@ pub changed_shown : (kept : List Kept) (r : ℕ) (k new : Kept) (change : Refere
 changed_shown kept r k new change within is same =
     let found : slice_get kept r ≡ Some k = slice_get_read kept (length kept) r k refl within is in
     rw (map-set (λ l. l.shown) kept r new, slice_get-map (λ l. l.shown) kept r, found, same) refl
+
+-- the fault of the reference at a position is its own
+pub fault_here : (limits : Limits) (heads : List TableHead) (kept : List Kept) (r : ℕ) (k : Kept) (own : Reference → Option RefFault)
+    → r < length kept → k ≡ slice_index_or kept r k
+    → fault_at (record { limits = limits; heads = heads; references = shown_references kept }) r own ≡ own k.shown
+fault_here limits heads kept r k own within is =
+    let found : slice_get kept r ≡ Some k = slice_get_read kept (length kept) r k refl within is in
+    rw (slice_get-map {A = Kept} {B = Reference} (λ l. l.shown) kept r, found) refl
 
 -- a change that isn't shown
 pub shown_same : (kept : List Kept) (r : ℕ) (k new : Kept) → k ≡ slice_index_or kept r k → new.shown ≡ k.shown

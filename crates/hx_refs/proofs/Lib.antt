@@ -1,5 +1,9 @@
 pub mod ListLemmas
 pub mod UseLemmas
+pub mod VersionLemmas
+pub mod ChoiceLemmas
+pub mod ReferenceLemmas
 pub mod KeptLemmas
 pub mod AdditionLemmas
 pub mod LineLemmas
+pub mod NamingLemmas

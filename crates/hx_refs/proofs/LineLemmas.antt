@@ -1,7 +1,7 @@
 -- Lines of a file and the pairs that they give.
 use Rattle.std.proofs.Common.{◌≡◌, ◌++◌, [], ◌∷◌, List, Option, None, Some, sym, ap, append-nil, append_assoc}
 use Rattle.std.specs.List.{cons_option}
-use Rattle.std.specs.Prelude.{filter_map, option_to_list}
+use Rattle.std.specs.Prelude.{option_to_list}
 use Rattle.std.proofs.lemmas.List.Sums.{prefix_len-le-length, suffix_len-le-length}
 
 -- how many bytes at either end pass a test: no more than there are

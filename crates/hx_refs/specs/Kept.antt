@@ -65,10 +65,6 @@ abbrev pub TakePatterns : List Use → Type 0
 TakePatterns [] = ⊤
 TakePatterns (u ∷ uses) = (u.by ≢ by.Found) × (u.by ≢ by.Bool) × TakePatterns uses
 
-pub record IsKept (uses : List Use) (entries : List Stored) : Type 0 where
-  pub methods : TakePatterns uses
-  pub read : AreRead uses entries
-
 -- ---- references
 
 abbrev pub shown_references : List Kept → List Reference
@@ -96,9 +92,9 @@ kept_demands kept limits = record {
   limits = limits;
 }
 
--- entries and a serial number are those that the pairs become in the version that is searched
-abbrev pub IsAdded : Kept → List Pair → List Entry → ℕ → Type 0
-IsAdded kept pairs entries serial =
-    IfSome (version_of kept.shown None)
-    (λ version. (entries ≡ new_entries 0 version.serial pairs)
+-- entries and a serial number are those that the pairs become in the version of a number
+abbrev pub IsAdded : Kept → ℕ → List Pair → List Entry → ℕ → Type 0
+IsAdded kept number pairs entries serial =
+    IfSome (version_of kept.shown (Some number))
+    (λ version. (entries ≡ new_entries number version.serial pairs)
     × (serial ≡ version.serial + length pairs))

@@ -2,6 +2,9 @@
 pub mod References
 pub mod Uses
 pub mod Additions
+pub mod Changes
+pub mod Naming
 pub mod FileLines
 -- views of the code, for the contracts of private functions
 pub mod Kept
+pub mod Versions

@@ -99,19 +99,20 @@ fn push_entry(entries: &mut Vec<Stored>, entry: Stored) -> Result<(), NoMemory>
     Ok(())
 }
 
-/// The entries that the pairs become in a version that has `count` entries, after that of the
-/// number `serial`.
+/// The entries that the pairs become in the version of a number, which has `count` entries, after
+/// that of the serial number `serial`.
 pub(crate) fn new_entries<M: ReMaker>(
     alloc: Global,
     limits: Limits,
     reference: &KeptReference,
+    version: u32,
     count: usize,
     serial: u32,
     pairs: &[KeptPair],
     maker: &mut M,
 ) -> Result<Added, RefFault>
     ensures entries { IfOk result (λ added.
-        shown_entries added.entries.items ≡ new_entries 0 serial pairs.now) }
+        shown_entries added.entries.items ≡ new_entries version serial pairs.now) }
     ensures serial { IfOk result (λ added. added.serial ≡ serial + length pairs.now) }
     ensures read { IfOk result (λ added. AreRead reference.now.uses added.entries.items) }
     ensures none { OnOk result (pairs_fault (kept_demands reference.now limits)
@@ -128,7 +129,7 @@ pub(crate) fn new_entries<M: ReMaker>(
     let mut serial = serial;
     let mut rest = pairs;
     while let [pair, others @ ..] = rest {
-        let entry = reference.new_entry(alloc, limits, count, serial, pair, maker)?;
+        let entry = reference.new_entry(alloc, limits, version, count, serial, pair, maker)?;
         push_entry(&mut entries, entry)?;
         count += 1;
         serial += 1;

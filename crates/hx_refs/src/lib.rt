@@ -1,9 +1,12 @@
 //! The references of a configuration: lists of patterns and maps, the ways in which they are
-//! searched, and their entries. `specs/References.antt` says what references are, `specs/Uses.antt`
-//! how they are used, `specs/Additions.antt` what an addition makes of them, and
-//! `specs/FileLines.antt` which entries the lines of a file give.
+//! searched, their versions, and their entries. `specs/References.antt` says what references are,
+//! `specs/Uses.antt` how they are used, `specs/Additions.antt` what an addition makes of them,
+//! `specs/Changes.antt` what the other calls on entries and versions make of them,
+//! `specs/Naming.antt` which of them a word names, and `specs/FileLines.antt` which entries the
+//! lines of a file give.
 #![tactic(auto)]
 
+mod choice;
 mod entries;
 mod fault;
 mod heads;
@@ -11,12 +14,15 @@ mod info;
 mod judging;
 mod limits;
 mod lines;
+mod naming;
 mod pairs;
 mod reference;
 mod refs;
 mod searching;
+mod side;
 mod stored;
 mod uses;
+mod versions;
 
 pub use entries::Entries;
 pub use fault::RefFault;
@@ -24,3 +30,4 @@ pub use info::RefInfo;
 pub use limits::Limits;
 pub use pairs::Pairs;
 pub use refs::Refs;
+pub use side::Side;

@@ -1,12 +1,16 @@
-ghost use Rattle.std.specs.Prelude.{◌≡◌, ◌≢◌, ◌+◌, ◌<◌, ◌++◌, [], ◌∷◌, List, slice_get, true, None, is_some, if◌then◌else◌, IfOk, IfErr, IfSome, IfNone, OnOk, OnErr, option_map};
+ghost use Rattle.std.specs.Prelude.{◌≡◌, ◌≢◌, ℕ, ◌+◌, ◌^◌, ◌<◌, ◌++◌, min, [], ◌∷◌, List, slice_get, true, Option, Some, None, is_some, IfOk, IfErr, IfSome, IfNone, OnOk, OnErr, option_map};
 ghost use Rattle.std.specs.Option.{option_copied};
 ghost use Rattle.hx_sample.specs.Find.{found_entry};
 ghost use Rattle.hx_sample.specs.Seen.{value_of};
 ghost use Rattle.hx_refs.specs.Additions.{pair_fault, version_fault, with_pairs, CountsLarge, IsReadAs, MayRefuse, Pair, VersionAsksFor};
+ghost use Rattle.hx_refs.specs.Changes.{answer, cleared, commit_fault, deletion_fault, preparation_fault, value_fault, with_current_version, with_new_version, with_values, with_version, without_entries, MayFail};
 ghost use Rattle.hx_refs.specs.Kept.{kept_demands, pattern_texts, shown_entries, shown_entry, AreRead, IsAdded};
+ghost use Rattle.hx_refs.specs.Naming.{has_file, is_named, side_fault};
 ghost use Rattle.hx_refs.specs.References.{entry_number, info_of, new_reference, version_entries, version_of, version_place, with_output, AreEmpty};
 ghost use Rattle.hx_refs.specs.Uses.{use_parts, use_with, uses_in_order};
+ghost use Rattle.hx_refs.specs.Versions.{is_chosen, HasVersion};
 
+use crate::choice::{Choice, has_chosen};
 use crate::entries::Entries;
 use crate::fault::RefFault;
 use crate::info::RefInfo;
@@ -14,15 +18,23 @@ use crate::judging::{Added, new_entries, read_keys, refuses_value};
 use crate::limits::Limits;
 use crate::pairs::KeptPair;
 use crate::searching::{Search, found};
+use crate::side::Side;
 use crate::stored::Stored;
 use crate::uses::{KeptUse, place_with, use_in_order, use_with};
+use crate::versions::{
+    KeptVersion, append, clear, delete, drop_below, entries_of, filling_of, first_entries, set,
+    total_count,
+};
 use hx_outside::ReMaker;
 use hx_sample::Sample;
 use hx_text::{By, NoMemory, Octets, Out};
 use std::alloc::Global;
 use std::marker::Model;
 
-/// A reference with its uses, and its one version.
+/// How far the numbers of the entries of one version are from those of the next.
+const FIRST_NUMBER: u64 = 0x1_0000_0000;
+
+/// A reference with its uses, and those of its versions that had additions, by their numbers.
 #[derive(Drop)]
 pub(crate) struct KeptReference {
     id: u32,
@@ -32,8 +44,9 @@ pub(crate) struct KeptReference {
     as_int: bool,
     as_ip: bool,
     uses: Vec<KeptUse>,
-    serial: u32,
-    entries: Vec<Stored>,
+    curr: u32,
+    next: u32,
+    versions: Vec<KeptVersion>,
 }
 
 impl Model for KeptReference {
@@ -41,8 +54,7 @@ impl Model for KeptReference {
 
     ghost Value = { Kept };
 
-    ghost use Rattle.std.specs.Prelude.{[], ◌∷◌};
-    ghost use Rattle.hx_refs.specs.Kept.{shown_entries, IsKept};
+    ghost use Rattle.hx_refs.specs.Versions.{versions_between, IsKept};
 
     ghost view = { λ reference. record {
       shown = record {
@@ -51,17 +63,15 @@ impl Model for KeptReference {
         two_column = reference.two_column;
         acl = reference.acl;
         outputs = record { as_int = reference.as_int; as_ip = reference.as_ip };
-        curr = 0;
-        next = 0;
-        versions = record {
-          serial = reference.serial;
-          entries = shown_entries reference.entries.items;
-        } ∷ [];
+        curr = reference.curr;
+        next = reference.next;
+        versions = versions_between reference.curr reference.next reference.versions.items;
       };
       uses = reference.uses.items;
     } };
 
-    ghost invariant = { λ reference. IsKept reference.uses.items reference.entries.items };
+    ghost invariant = { λ reference.
+        IsKept reference.uses.items reference.curr reference.next reference.versions.items };
 }
 
 impl KeptReference {
@@ -90,8 +100,9 @@ impl KeptReference {
             as_int: false,
             as_ip: false,
             uses: Vec::new(alloc),
-            serial: 0,
-            entries: Vec::new(alloc),
+            curr: 0,
+            next: 0,
+            versions: Vec::new(alloc),
         })
     }
 
@@ -105,16 +116,25 @@ impl KeptReference {
         }
     }
 
+    /// The number of the last version that was prepared.
+    fn last(&self) -> u32
+        ensures { result ≡ self.now.shown.next }
+    {
+        self.next
+    }
+
     pub(crate) fn info(&self) -> RefInfo
         ensures { result ≡ info_of self.now.shown }
     {
+        // The number of the last version, which is of 32 bits, bounds how many there are.
+        let next = self.last();
         RefInfo {
             id: self.id,
             two_column: self.two_column,
             acl: self.acl,
-            curr: 0,
-            next: 0,
-            count: self.entries.len() as u64,
+            curr: self.curr,
+            next,
+            count: total_count(self.versions.as_slice()),
         }
     }
 
@@ -148,20 +168,16 @@ impl KeptReference {
         use_in_order(self.uses.as_slice(), place)
     }
 
-    /// The entries of a version, if there is one of the number; without a number it is the one that
-    /// is searched.
-    fn version(&self, ver: Option<u32>) -> Option<&[Stored]>
-        ensures entries { IfSome result (λ entries.
-            shown_entries entries.now ≡ version_entries self.now.shown ver) }
-        ensures none { IfNone result (version_entries self.now.shown ver ≡ []) }
-        ensures place { version_place self.now.shown ver
-            ≡ (if is_some result then version_place self.now.shown None else None) }
-        ensures version { version_of self.now.shown ver
-            ≡ (if is_some result then version_of self.now.shown None else None) }
+    /// The number of a version, if there is one; without a number it is the one that is searched.
+    fn number(&self, ver: Option<u32>) -> Option<u32>
+        ensures none { IfNone result (version_place self.now.shown ver ≡ None) }
+        ensures place { IfSome result (λ number. version_place self.now.shown ver
+            ≡ version_place self.now.shown (Some number)) }
+        ensures version { IfSome result (HasVersion self.now.shown) }
     {
         match ver {
-            None => Some(self.entries.as_slice()),
-            Some(0) => Some(self.entries.as_slice()),
+            None => Some(self.curr),
+            Some(number) if self.curr <= number && number <= self.next => Some(number),
             Some(_) => None,
         }
     }
@@ -170,10 +186,18 @@ impl KeptReference {
     pub(crate) fn entries(&self, ver: Option<u32>) -> Entries<'_>
         ensures { result ≡ version_entries self.now.shown ver }
     {
-        match self.version(ver) {
-            Some(entries) => Entries::new(entries),
+        match self.number(ver) {
+            Some(number) => Entries::new(entries_of(self.versions.as_slice(), number)),
             None => Entries::new(&[]),
         }
+    }
+
+    /// The entries of the version that is searched.
+    fn searched_entries(&self) -> &[Stored]
+        ensures shown { shown_entries result.now ≡ version_entries self.now.shown None }
+        ensures read { AreRead self.now.uses result.now }
+    {
+        first_entries(self.versions.as_slice(), self.curr)
     }
 
     /// The entry that is found for a sample by a use.
@@ -190,7 +214,7 @@ impl KeptReference {
     {
         let place = place_with(self.uses.as_slice(), by, ci);
         let search = Search { by, ci, place };
-        found(alloc, search, self.entries.as_slice(), sample)
+        found(alloc, search, self.searched_entries(), sample)
     }
 
     /// Appends a use. No entry is read by it, so there is none.
@@ -207,19 +231,20 @@ impl KeptReference {
         Ok(())
     }
 
-    /// The entry that a pair becomes in a version that has `count` entries, after that of the
-    /// number `serial`.
+    /// The entry that a pair becomes in the version of a number, which has `count` entries, after
+    /// that of the serial number `serial`.
     pub(crate) fn new_entry<M: ReMaker>(
         &self,
         alloc: Global,
         limits: Limits,
+        version: u32,
         count: usize,
         serial: u32,
         pair: &KeptPair,
         maker: &mut M,
     ) -> Result<Stored, RefFault>
         ensures entry { IfOk result (λ stored. shown_entry stored ≡ record {
-          number = entry_number 0 (serial + 1);
+          number = entry_number version (serial + 1);
           key = pair.now.key;
           value = pair.now.value;
         }) }
@@ -245,50 +270,49 @@ impl KeptReference {
         if limits.adds <= serial {
             return Err(RefFault::VersionWorn);
         }
-        let number = u64::from(serial) + 1;
+        let number = u64::from(version) * FIRST_NUMBER + u64::from(serial) + 1;
         Stored::new(alloc, number, pair, patterns)
     }
 
-    /// The entries that the pairs become in the one version.
+    /// The entries that the pairs become in the version of a number.
     fn judged<M: ReMaker>(
         &self,
         alloc: Global,
         limits: Limits,
+        number: u32,
         pairs: &[KeptPair],
         maker: &mut M,
     ) -> Result<Added, RefFault>
-        ensures entries { IfOk result (λ added. IsAdded self.now pairs.now
+        requires { HasVersion self.now.shown number }
+        ensures entries { IfOk result (λ added. IsAdded self.now number pairs.now
             (shown_entries added.entries.items) added.serial) }
         ensures read { IfOk result (λ added. AreRead self.now.uses added.entries.items) }
         ensures none { OnOk result (version_fault (kept_demands self.now limits)
-            (version_of self.now.shown None) pairs.now ≡ None) }
+            (version_of self.now.shown (Some number)) pairs.now ≡ None) }
         ensures refused { IfErr result (MayRefuse (version_fault (kept_demands self.now limits)
-            (version_of self.now.shown None) pairs.now)) }
+            (version_of self.now.shown (Some number)) pairs.now)) }
         ensures large { CountsLarge result (VersionAsksFor (kept_demands self.now limits)
-            (version_of self.now.shown None) pairs.now)
+            (version_of self.now.shown (Some number)) pairs.now)
             (record { too_large = M.too_large maker.old; large = M.large maker.old })
             (record { too_large = M.too_large maker.new; large = M.large maker.new }) }
     {
-        let count = self.entries.len();
-        new_entries(alloc, limits, self, count, self.serial, pairs, maker)
+        let (count, serial) = filling_of(self.versions.as_slice(), number);
+        new_entries(alloc, limits, self, number, count, serial, pairs, maker)
     }
 
-    /// Appends entries to the one version.
-    #[tactic(auto, using(crate::proofs::AdditionLemmas::all_read))]
-    fn append(&mut self, added: Added) -> Result<(), NoMemory>
-        requires { AreRead self.old.uses added.entries.items }
+    /// Appends entries to the version of a number.
+    fn append(&mut self, number: u32, added: Added) -> Result<(), NoMemory>
+        requires version { HasVersion self.old.shown number }
+        requires read { AreRead self.old.uses added.entries.items }
+        requires pairs { (pairs : List Pair)
+            × IsAdded self.old number pairs (shown_entries added.entries.items) added.serial }
         ensures ok { OnOk result ((pairs : List Pair)
-            → IsAdded self.old pairs (shown_entries added.entries.items) added.serial
-            → self.new ≡ record self.old { shown = with_pairs None pairs self.old.shown }) }
+            → IsAdded self.old number pairs (shown_entries added.entries.items) added.serial
+            → self.new
+            ≡ record self.old { shown = with_pairs (Some number) pairs self.old.shown }) }
         ensures err { OnErr result (self.new ≡ self.old) }
     {
-        let Added {
-            mut entries,
-            serial,
-        } = added;
-        self.entries.append(&mut entries)?;
-        self.serial = serial;
-        Ok(())
+        append(&mut self.versions, number, added)
     }
 
     /// The pairs as the last entries of a version, all of them or none.
@@ -312,11 +336,153 @@ impl KeptReference {
             (record { too_large = M.too_large maker.old; large = M.large maker.old })
             (record { too_large = M.too_large maker.new; large = M.large maker.new }) }
     {
-        if self.version(ver).is_none() {
+        let Some(number) = self.number(ver) else {
+            return Err(RefFault::BadVersion);
+        };
+        let added = self.judged(alloc, limits, number, pairs, maker)?;
+        self.append(number, added)?;
+        Ok(())
+    }
+
+    /// Removes the entries that are chosen from the version that is searched.
+    pub(crate) fn delete(&mut self, choice: &Choice<'_>) -> Result<(), RefFault>
+        ensures answer { result
+            ≡ answer tt (deletion_fault (is_chosen choice.now) self.old.shown) }
+        ensures ok { OnOk result (self.new ≡ record self.old {
+          shown = with_version None (without_entries (is_chosen choice.now)) self.old.shown;
+        }) }
+        ensures err { OnErr result (self.new ≡ self.old) }
+    {
+        if !has_chosen(self.searched_entries(), choice) {
+            return Err(RefFault::KeyNotFound);
+        }
+        delete(&mut self.versions, self.curr, choice);
+        Ok(())
+    }
+
+    /// Changes the value of the entries that are chosen in the version that is searched, of all of
+    /// them or of none.
+    pub(crate) fn set(
+        &mut self,
+        alloc: Global,
+        choice: &Choice<'_>,
+        value: &[u8],
+    ) -> Result<(), RefFault>
+        ensures ok { OnOk result (self.new ≡ record self.old {
+          shown = with_version None (with_values (is_chosen choice.now) value.now)
+              self.old.shown;
+        }) }
+        ensures none { OnOk result
+            (value_fault (is_chosen choice.now) value.now self.old.shown ≡ None) }
+        ensures refused { IfErr result
+            (MayFail (value_fault (is_chosen choice.now) value.now self.old.shown)) }
+        ensures kept { OnErr result (self.new ≡ self.old) }
+    {
+        if !has_chosen(self.searched_entries(), choice) {
+            return Err(RefFault::KeyNotFound);
+        }
+        if refuses_value(self.as_int, self.as_ip, value) {
+            return Err(RefFault::BadValue);
+        }
+        self.set_values(alloc, choice, value)?;
+        Ok(())
+    }
+
+    fn set_values(
+        &mut self,
+        alloc: Global,
+        choice: &Choice<'_>,
+        value: &[u8],
+    ) -> Result<(), NoMemory>
+        ensures ok { OnOk result (self.new ≡ record self.old {
+          shown = with_version None (with_values (is_chosen choice.now) value.now)
+              self.old.shown;
+        }) }
+        ensures err { OnErr result (self.new ≡ self.old) }
+    {
+        set(alloc, &mut self.versions, self.curr, choice, value)
+    }
+
+    /// Removes the entries of a version. One that the reference hasn't changes nothing.
+    pub(crate) fn clear(&mut self, ver: Option<u32>)
+        ensures { self.new
+            ≡ record self.old { shown = with_version ver cleared self.old.shown } }
+    {
+        if let Some(number) = self.number(ver) {
+            clear(&mut self.versions, number);
+        }
+    }
+
+    /// One version more. It is answered by its number.
+    pub(crate) fn prepare(&mut self, limits: Limits) -> Result<u32, RefFault>
+        ensures answer { result
+            ≡ answer (self.old.shown.next + 1) (preparation_fault limits self.old.shown) }
+        ensures ok { OnOk result
+            (self.new ≡ record self.old { shown = with_new_version self.old.shown }) }
+        ensures err { OnErr result (self.new ≡ self.old) }
+    {
+        if limits.versions <= self.next {
+            return Err(RefFault::NoMoreVersions);
+        }
+        self.next += 1;
+        Ok(self.next)
+    }
+
+    /// The version of a number is searched from now on, and those below it are dropped.
+    pub(crate) fn commit(&mut self, number: u32) -> Result<(), RefFault>
+        ensures answer { result ≡ answer tt (commit_fault number self.old.shown) }
+        ensures ok { OnOk result (self.new
+            ≡ record self.old { shown = with_current_version number self.old.shown }) }
+        ensures err { OnErr result (self.new ≡ self.old) }
+    {
+        if number <= self.curr || self.next < number {
             return Err(RefFault::BadVersion);
         }
-        let added = self.judged(alloc, limits, pairs, maker)?;
-        self.append(added)?;
+        drop_below(&mut self.versions, number);
+        self.curr = number;
         Ok(())
+    }
+
+    /// Its number.
+    fn id(&self) -> u32
+        ensures { result ≡ self.now.shown.id }
+    {
+        self.id
+    }
+
+    /// Whether a word names it: by the number that the word names, given as `named_number` gives
+    /// it, or else by its file.
+    pub(crate) fn is_named(&self, number: Option<u64>, word: &[u8]) -> bool
+        ensures { (named : Option ℕ) → number ≡ option_map (min (2 ^ 32)) named
+            → result ≡ is_named named word.now self.now.shown }
+    {
+        match number {
+            Some(number) => u64::from(self.id()) == number,
+            None => self.has_file(word),
+        }
+    }
+
+    fn has_file(&self, name: &[u8]) -> bool
+        ensures { result ≡ has_file name.now self.now.shown }
+    {
+        match &self.file {
+            Some(file) => file.as_slice() == name,
+            None => false,
+        }
+    }
+
+    /// Why it isn't used on a side.
+    pub(crate) fn side_fault(&self, side: Side) -> Option<RefFault>
+        ensures { result ≡ side_fault side self.now.shown }
+    {
+        match side {
+            Side::Acl if self.acl => None,
+            Side::Acl => Some(RefFault::UnknownRef),
+            Side::AclWrite if !self.acl => Some(RefFault::UnknownRef),
+            Side::AclWrite if self.two_column => Some(RefFault::UsedAsMap),
+            Side::AclWrite => None,
+            Side::Map if self.two_column => None,
+            Side::Map => Some(RefFault::NeedsMap),
+        }
     }
 }

@@ -1,16 +1,22 @@
 ghost use Rattle.std.specs.Prelude.{◌≡◌, ◌≢◌, ◌<◌, [], ◌∷◌, All, length, slice_get, None, Some, IfOk, IfErr, IfSome, OnOk, OnErr, option_map};
 ghost use Rattle.std.specs.Option.{option_copied};
 ghost use Rattle.hx_refs.specs.Additions.{addition_fault, after_addition, AdditionAsksFor, CountsLarge, MayRefuse};
+ghost use Rattle.hx_refs.specs.Changes.{after_change_of_value, after_clearing, after_commit, after_deletion, after_preparation, answer, commit_fault, deletion_fault, fault_at, has_key, has_number, preparation_fault, prepared_version, value_fault, MayFail};
+ghost use Rattle.hx_refs.specs.Naming.{resolution};
 ghost use Rattle.hx_refs.specs.References.{after_output, entries_in, file_of, info_of, no_references, with_new, HasHadNone};
 ghost use Rattle.hx_refs.specs.Uses.{after_use, head_for, use_parts, uses_in_order, uses_of, KeepsToCase};
+ghost use Rattle.hx_refs.specs.Versions.{is_chosen};
 
+use crate::choice::Choice;
 use crate::entries::Entries;
 use crate::fault::RefFault;
 use crate::heads::KeptHead;
 use crate::info::RefInfo;
 use crate::limits::Limits;
+use crate::naming::named_number;
 use crate::pairs::{KeptPair, Pairs};
 use crate::reference::KeptReference;
+use crate::side::Side;
 use hx_outside::ReMaker;
 use hx_pool::Steps;
 use hx_sample::{Hit, Sample, Tables};
@@ -18,6 +24,16 @@ use hx_text::{By, NoMemory, Out};
 use std::alloc::Global;
 use std::marker::Model;
 use std::sync::ledger::Ledger;
+
+/// The position, unless there is a fault.
+fn answer(position: u32, fault: Option<RefFault>) -> Result<u32, RefFault>
+    ensures { result ≡ answer position fault }
+{
+    match fault {
+        None => Ok(position),
+        Some(fault) => Err(fault),
+    }
+}
 
 /// The references of a configuration, by their positions. Contracts see the limits, the heads in
 /// the order of their numbers, and the references in their order.
@@ -226,7 +242,8 @@ impl Refs {
     /// Appends copies of the pairs, in their order, as the last entries of a version of the
     /// reference at the position `r`: of the version `ver`, or without one of that which is
     /// searched. They are all appended, or none is and the references are as before. Time is linear
-    /// in the pairs, whatever is there already.
+    /// in the pairs, whatever entries are there already; but the first addition to a version also
+    /// moves those above it that had additions.
     ///
     /// `BadVersion` exactly where the reference has no such version. Then of the first pair that is
     /// refused: `BadPattern` exactly where one of the uses can't read the key as a pattern,
@@ -277,6 +294,184 @@ impl Refs {
         let limits = self.limits;
         let reference = &mut self.references[r as usize];
         reference.add(alloc, limits, ver, pairs, maker)
+    }
+
+    /// Removes all entries with the key from the version of the reference at the position `r` that
+    /// is searched. `KeyNotFound` exactly where it has none; nothing is changed then. It takes no
+    /// memory.
+    ///
+    /// There are more than `r` references. HAProxy management guide 2.4, section 9.3, `del acl`,
+    /// `del map`.
+    pub fn del_key(&mut self, r: u32, key: &[u8]) -> Result<(), RefFault>
+        requires { r < length self.old.references }
+        ensures answer { result
+            ≡ answer tt (fault_at self.old r (deletion_fault (has_key key.now))) }
+        ensures ok { OnOk result (self.new ≡ after_deletion self.old r (has_key key.now)) }
+        ensures err { OnErr result (self.new ≡ self.old) }
+    {
+        self.delete(r, &Choice::Key(key))
+    }
+
+    /// Removes the entry with the number from the version of the reference at the position `r` that
+    /// is searched. `KeyNotFound` exactly where it has none; nothing is changed then. It takes no
+    /// memory.
+    ///
+    /// There are more than `r` references. HAProxy management guide 2.4, section 9.3, `del acl`,
+    /// `del map`.
+    pub fn del_id(&mut self, r: u32, number: u64) -> Result<(), RefFault>
+        requires { r < length self.old.references }
+        ensures answer { result
+            ≡ answer tt (fault_at self.old r (deletion_fault (has_number number))) }
+        ensures ok { OnOk result (self.new ≡ after_deletion self.old r (has_number number)) }
+        ensures err { OnErr result (self.new ≡ self.old) }
+    {
+        self.delete(r, &Choice::Number(number))
+    }
+
+    fn delete(&mut self, r: u32, choice: &Choice<'_>) -> Result<(), RefFault>
+        requires { r < length self.old.references }
+        ensures answer { result
+            ≡ answer tt (fault_at self.old r (deletion_fault (is_chosen choice.now))) }
+        ensures ok { OnOk result (self.new ≡ after_deletion self.old r (is_chosen choice.now)) }
+        ensures err { OnErr result (self.new ≡ self.old) }
+    {
+        let reference = &mut self.references[r as usize];
+        reference.delete(choice)
+    }
+
+    /// Changes the value of all entries with the key in the version of the reference at the
+    /// position `r` that is searched, to copies of `value`. Their places, numbers and keys stay.
+    ///
+    /// `KeyNotFound` exactly where there is no such entry, and else `BadValue` exactly where an
+    /// output can't read the value. `NoMemory` where memory runs out. Nothing is changed then.
+    ///
+    /// There are more than `r` references. HAProxy management guide 2.4, section 9.3, `set map`.
+    pub fn set_key(&mut self, r: u32, key: &[u8], value: &[u8]) -> Result<(), RefFault>
+        requires { r < length self.old.references }
+        ensures ok { OnOk result
+            (self.new ≡ after_change_of_value self.old r (has_key key.now) value.now) }
+        ensures none { OnOk result
+            (fault_at self.old r (value_fault (has_key key.now) value.now) ≡ None) }
+        ensures refused { IfErr result
+            (MayFail (fault_at self.old r (value_fault (has_key key.now) value.now))) }
+        ensures kept { OnErr result (self.new ≡ self.old) }
+    {
+        self.set(r, &Choice::Key(key), value)
+    }
+
+    /// Changes the value of the entry with the number in the version of the reference at the
+    /// position `r` that is searched, to a copy of `value`. Its place, number and key stay. What is
+    /// refused, and what stands then, is as for [`Refs::set_key`].
+    ///
+    /// There are more than `r` references. HAProxy management guide 2.4, section 9.3, `set map`.
+    pub fn set_id(&mut self, r: u32, number: u64, value: &[u8]) -> Result<(), RefFault>
+        requires { r < length self.old.references }
+        ensures ok { OnOk result
+            (self.new ≡ after_change_of_value self.old r (has_number number) value.now) }
+        ensures none { OnOk result
+            (fault_at self.old r (value_fault (has_number number) value.now) ≡ None) }
+        ensures refused { IfErr result
+            (MayFail (fault_at self.old r (value_fault (has_number number) value.now))) }
+        ensures kept { OnErr result (self.new ≡ self.old) }
+    {
+        self.set(r, &Choice::Number(number), value)
+    }
+
+    fn set(&mut self, r: u32, choice: &Choice<'_>, value: &[u8]) -> Result<(), RefFault>
+        requires { r < length self.old.references }
+        ensures ok { OnOk result
+            (self.new ≡ after_change_of_value self.old r (is_chosen choice.now) value.now) }
+        ensures none { OnOk result
+            (fault_at self.old r (value_fault (is_chosen choice.now) value.now) ≡ None) }
+        ensures refused { IfErr result
+            (MayFail (fault_at self.old r (value_fault (is_chosen choice.now) value.now))) }
+        ensures kept { OnErr result (self.new ≡ self.old) }
+    {
+        let alloc = self.alloc;
+        let reference = &mut self.references[r as usize];
+        reference.set(alloc, choice, value)
+    }
+
+    /// Removes the entries of a version of the reference at the position `r`: of the version `ver`,
+    /// or without one of that which is searched. The serial number of the last entry stays, so that
+    /// entries that are added later get numbers of their own. A version that the reference hasn't
+    /// changes nothing. It takes no memory.
+    ///
+    /// There are more than `r` references. HAProxy management guide 2.4, section 9.3, `clear acl`,
+    /// `clear map`.
+    pub fn clear(&mut self, r: u32, ver: Option<u32>)
+        requires { r < length self.old.references }
+        ensures { self.new ≡ after_clearing self.old r ver }
+    {
+        let reference = &mut self.references[r as usize];
+        reference.clear(ver);
+    }
+
+    /// Prepares one version more of the reference at the position `r`, without entries, and answers
+    /// its number: one more than that of the last that was prepared. It isn't searched before it is
+    /// committed. `NoMoreVersions` exactly where the number of the last is that of the limits;
+    /// nothing is changed then. It takes no memory.
+    ///
+    /// There are more than `r` references. HAProxy management guide 2.4, section 9.3,
+    /// `prepare acl`, `prepare map`.
+    pub fn prepare(&mut self, r: u32) -> Result<u32, RefFault>
+        requires { r < length self.old.references }
+        ensures answer { result ≡ answer (prepared_version self.old r)
+            (fault_at self.old r (preparation_fault self.old.limits)) }
+        ensures ok { OnOk result (self.new ≡ after_preparation self.old r) }
+        ensures err { OnErr result (self.new ≡ self.old) }
+    {
+        let limits = self.limits;
+        let reference = &mut self.references[r as usize];
+        reference.prepare(limits)
+    }
+
+    /// The version `ver` of the reference at the position `r` is searched from now on, with the
+    /// entries that it has. The versions below it are dropped, and those above it stay as they are.
+    /// `BadVersion` exactly where it isn't one that was prepared after that which is searched;
+    /// nothing is changed then. It takes no memory.
+    ///
+    /// There are more than `r` references. HAProxy management guide 2.4, section 9.3,
+    /// `commit acl`, `commit map`.
+    pub fn commit<L: Ledger>(
+        &mut self,
+        r: u32,
+        ver: u32,
+        _steps: &mut Steps<L>,
+    ) -> Result<(), RefFault>
+        requires { r < length self.old.references }
+        ensures answer { result ≡ answer tt (fault_at self.old r (commit_fault ver)) }
+        ensures ok { OnOk result (self.new ≡ after_commit self.old r ver) }
+        ensures err { OnErr result (self.new ≡ self.old) }
+    {
+        let reference = &mut self.references[r as usize];
+        reference.commit(ver)
+    }
+
+    /// The position of the reference that a word names for a side. `#` and decimal digits, which
+    /// may be any number of them, name the reference with that number, and never a file. Any other
+    /// word names the reference of that file.
+    ///
+    /// `UnknownRef` exactly where no reference has the number or the file, or on one of the sides
+    /// `Acl` and `AclWrite` no ACL uses the one that has it. Else `NeedsMap` exactly where its
+    /// entries have no values on the side `Map`, and `UsedAsMap` exactly where they have values on
+    /// the side `AclWrite`. It takes no memory.
+    ///
+    /// HAProxy management guide 2.4, section 9.3, `show acl`, `add acl`, `show map`.
+    pub fn resolve(&self, word: &[u8], side: Side) -> Result<u32, RefFault>
+        ensures { result ≡ resolution self.now word.now side }
+    {
+        let number = named_number(word);
+        let mut position = 0;
+        let mut rest = self.references.as_slice();
+        while let [reference, others @ ..] = rest {
+            if reference.is_named(number, word) {
+                return answer(position, reference.side_fault(side));
+            }
+            position += 1;
+            rest = others;
+        }
+        Err(RefFault::UnknownRef)
     }
 }
 

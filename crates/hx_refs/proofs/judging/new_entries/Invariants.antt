@@ -8,7 +8,7 @@ abbrev pub invariant-loop-rest : goal.invariant-loop-rest
 invariant-loop-rest g l =
     let demands = kept_demands l.reference l.limits in
     record {
-      entries : shown_entries l.entries.items ++ new_entries 0 l.serial l.rest ≡ new_entries 0 l.fn.serial l.pairs;
+      entries : shown_entries l.entries.items ++ new_entries l.version l.serial l.rest ≡ new_entries l.version l.fn.serial l.pairs;
       serial : l.serial + length l.rest ≡ l.fn.serial + length l.pairs;
       read : AreRead l.reference.uses l.entries.items;
       fault :

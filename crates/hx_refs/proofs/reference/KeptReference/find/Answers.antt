@@ -3,7 +3,6 @@ use Rattle.hx_refs.proofs.reference.KeptReference.find.Goals as goal
 
 pub found-requires : goal.found-requires
 found-requires c =
-    rw c.as_slice-2.ensures.value
-    (search_reads c.self.inside.uses.items c.self.inside.entries.items c.args.by c.args.ci c.place_with-place.result
-    (rw (← c.self.view_is) at c.requires)
-    (rw c.as_slice.ensures.value at c.place_with-place.ensures) c.self.invariant.read)
+    search_reads c.self.inside.uses.items c.searched_entries.result.now c.args.by c.args.ci c.place_with-place.result
+    (rw (← c.self.view_is) at c.requires) (rw c.as_slice.ensures.value at c.place_with-place.ensures)
+    (rw (← c.self.view_is) at c.searched_entries.ensures.read)

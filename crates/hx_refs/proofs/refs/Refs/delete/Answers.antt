@@ -1,0 +1,19 @@
+use Rattle.std.proofs.Common.{ap}
+use Rattle.std.proofs.lemmas.List.{length-map}
+use Rattle.std.proofs.lemmas.Result.{on_ok_weaker}
+use Rattle.std.specs.Prelude.{None}
+use Rattle.hx_refs.specs.Changes.{with_version, without_entries}
+use Rattle.hx_refs.specs.Versions.{is_chosen}
+use Rattle.hx_refs.proofs.KeptLemmas.{changed_shown}
+use Rattle.hx_refs.proofs.refs.Refs.delete.Goals as goal
+
+pub returns-clause-ok : goal.returns-clause-ok
+returns-clause-ok c =
+    let kept = c.self.inside.references.items in
+    let within = rw (length-map kept (λ k. k.shown)) at (rw (← c.self.view_is) at c.requires) in
+    rw (← c.self.view_is)
+    (on_ok_weaker c.delete.result
+    (λ same. ap (λ references. record { limits = c.self.inside.limits; heads = c.self.inside.heads.items; references = references })
+    (changed_shown kept c.args.r c.index_mut-reference.result.now c.delete.new.self (with_version None (without_entries (is_chosen c.args.choice.now)))
+    within c.index_mut-reference.ensures.value (ap (λ k. k.shown) same)))
+    c.delete.ensures.ok)
