@@ -1,3 +1,4 @@
+use crate::edits::{edits_case, edits_in_case};
 use crate::fetch::fetch_case;
 use crate::http::{read_head_case, read_head_in_case};
 use crate::lists::{cookies_case, hdr_values_case, params_case};
@@ -102,7 +103,7 @@ fn sink_call(
     }
 }
 
-/// Calls of words, lists in lines, and heads.
+/// Calls of words, and of lists in lines.
 fn word_call(
     alloc: Global,
     out: &mut String,
@@ -116,8 +117,22 @@ fn word_call(
         b"hdr_values" => hdr_values_case(out, args),
         b"cookies" => cookies_case(out, args),
         b"params" => params_case(out, args),
+        _ => head_call(alloc, out, name, args),
+    }
+}
+
+/// Calls of heads, and of edits of their messages.
+fn head_call(
+    alloc: Global,
+    out: &mut String,
+    name: &[u8],
+    args: &[Vec<u8>],
+) -> Result<(), CaseFault> {
+    match name {
         b"read_head" => read_head_case(alloc, out, args),
         b"read_head_in" => read_head_in_case(alloc, out, args),
+        b"edits" => edits_case(alloc, out, args),
+        b"edits_in" => edits_in_case(alloc, out, args),
         _ => text_call(alloc, out, name, args),
     }
 }

@@ -32,13 +32,18 @@ fn show_head(out: &mut String, read: Result<(Message, usize), HeadFault>) -> Res
     match read {
         Ok((message, len)) => {
             write!(out, "{len} ")?;
-            show_parts(out, &message)?;
-            show_lines(out, &message)
+            show_message(out, &message)
         }
         Err(HeadFault::NotAHead) => Ok(out.push_str("not a head")?),
         Err(HeadFault::TooManyHeaders) => Ok(out.push_str("too many headers")?),
         Err(HeadFault::NoMemory) => Err(CaseFault::NoMemory),
     }
+}
+
+/// Writes the method, the target, the minor number, the path, the query, and the lines.
+pub fn show_message(out: &mut String, message: &Message) -> Result<(), CaseFault> {
+    show_parts(out, message)?;
+    show_lines(out, message)
 }
 
 fn show_parts(out: &mut String, message: &Message) -> Result<(), CaseFault> {

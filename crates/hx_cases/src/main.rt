@@ -3,6 +3,7 @@
 #![tactic(auto)]
 
 mod dispatch;
+mod edits;
 mod fetch;
 mod http;
 mod lists;

@@ -1,7 +1,7 @@
 //! The texts of faults, as their `Display` prints them.
 
 use hx_cases_base::CaseFault;
-use hx_http::HeadFault;
+use hx_http::{EditFault, HeadFault};
 use hx_outside::{Failed, FileFault, ReadFault, SinkFault};
 use hx_record::RecordFault;
 use hx_text::NoMemory;
@@ -20,6 +20,7 @@ pub fn texts_case(out: &mut String, args: &[Vec<u8>]) -> Result<(), CaseFault> {
         b"FileFault" => file_texts(out),
         b"ReadFault" => read_texts(out),
         b"HeadFault" => head_texts(out),
+        b"EditFault" => edit_texts(out),
         b"RecordFault" => record_texts(out),
         b"WordFault" => word_texts(out),
         b"ArgFault" => arg_texts(out),
@@ -53,6 +54,18 @@ fn head_texts(out: &mut String) -> Result<(), CaseFault> {
         HeadFault::NotAHead,
         HeadFault::TooManyHeaders,
         HeadFault::NoMemory,
+    ] {
+        write!(out, "[{fault}]")?;
+    }
+    Ok(())
+}
+
+fn edit_texts(out: &mut String) -> Result<(), CaseFault> {
+    for fault in [
+        EditFault::BadBytes,
+        EditFault::TooMany,
+        EditFault::NoPath,
+        EditFault::NoMemory,
     ] {
         write!(out, "[{fault}]")?;
     }

@@ -1,0 +1,3 @@
+pub mod UseLemmas
+pub mod BuildLemmas
+pub mod CondLemmas
