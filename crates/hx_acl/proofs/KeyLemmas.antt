@@ -1,15 +1,14 @@
 -- Keys that are the patterns of an ACL, and entries of tables that have them.
-use Rattle.std.proofs.Common.{◌≡◌, ◌||◌, Bool, true, false, ℕ, List, [], ◌∷◌, Option, None, Some, refl, ap, sym, ◌∙◌, is_some, map, inl, inr}
+use Rattle.std.proofs.Common.{◌≡◌, ◌||◌, Bool, true, false, ℕ, List, [], ◌∷◌, Option, None, Some, refl, ap, sym, ◌∙◌, is_some, map}
 use Rattle.std.specs.Prelude.{◌↔◌, slice_get, option_and_then}
 use Rattle.std.specs.List.{list_any}
-use Rattle.std.proofs.lemmas.Bool.{cases_Bool}
 use Rattle.hx_ast.specs.declared.fetch.Fetch.{Fetch}
 use Rattle.hx_fetch.specs.Fetches.{occurrences_of}
 use Rattle.hx_fetch.specs.World.{Context}
 use Rattle.hx_sample.specs.Cast.{cast_of}
 use Rattle.hx_sample.specs.Find.{Entry, found_entry}
 use Rattle.hx_sample.specs.Keys.{hits, kind_by}
-use Rattle.hx_sample.specs.Tables.{TableHead, entries_at, found_at}
+use Rattle.hx_sample.specs.Tables.{TableHead, entries_at}
 use Rattle.hx_sample.specs.declared.sample.Value.{Value}
 use Rattle.hx_sample.specs.declared.sample.Value.TheVariants as value
 use Rattle.hx_text.specs.declared.kinds.By.{By}

@@ -1,5 +1,5 @@
 -- The network of the predefined ACL LOCALHOST.
-use Rattle.std.proofs.Common.{◌≡◌, ◌==◌, Bool, false, codes, Some, refl, ap}
+use Rattle.std.proofs.Common.{◌≡◌, ◌==◌, false, codes, Some, refl, ap}
 use Rattle.std.specs.Net.Reader.{read_ipv6, read_segments, read_ipv4, read_octet, read_number}
 use Rattle.std.specs.Option.{option_map_or}
 use Rattle.hx_sample.specs.Keys.{as_ipv4, has_address, is_in_network}

@@ -1,5 +1,5 @@
 -- How the code names the predefined ACLs.
-use Rattle.std.specs.Prelude.{List, [], ◌∷◌, codes}
+use Rattle.std.specs.Prelude.{[], ◌∷◌, codes}
 use Rattle.hx_ast.specs.declared.fetch.Fetch.TheVariants as fetch
 use Rattle.hx_text.specs.declared.kinds.By.TheVariants as method
 use Rattle.hx_acl.specs.declared.predefined.MethodAcl.{MethodAcl}

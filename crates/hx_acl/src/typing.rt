@@ -6,7 +6,7 @@ use hx_expr::{can_cast, is_typed, kind_by};
 
 /// Whether there is a cast at each converter, and one of the value to the type that the match
 /// method looks at.
-pub(crate) fn is_decl_typed(decl: &Decl) -> bool
+pub fn is_decl_typed(decl: &Decl) -> bool
     ensures { result ≡ is_decl_typed decl.now }
 {
     is_typed(&decl.expr) && can_cast(decl.expr.kind(), kind_by(decl.by))
@@ -25,8 +25,9 @@ fn is_conj_typed(conj: &[Term]) -> bool
     true
 }
 
-/// The same of each ACL that stands in a condition itself.
-pub(crate) fn is_cond_typed(cond: &[Conj]) -> bool
+/// Whether of each ACL that stands in a condition itself there is a cast at each converter, and one
+/// of the value to the type that the match method looks at.
+pub fn is_cond_typed(cond: &[Conj]) -> bool
     ensures { result ≡ is_cond_typed cond.now }
 {
     for conj in cond {

@@ -22,6 +22,9 @@ number_sign = 35
 abbrev pub dollar_sign : ℕ
 dollar_sign = 36
 
+abbrev pub percent_sign : ℕ
+percent_sign = 37
+
 abbrev pub single_quote : ℕ
 single_quote = 39
 
@@ -55,8 +58,14 @@ equals_sign = 61
 abbrev pub question_mark : ℕ
 question_mark = 63
 
+abbrev pub open_bracket : ℕ
+open_bracket = 91
+
 abbrev pub backslash : ℕ
 backslash = 92
+
+abbrev pub close_bracket : ℕ
+close_bracket = 93
 
 abbrev pub underscore : ℕ
 underscore = 95
@@ -82,6 +91,10 @@ close_brace = 125
 -- a space or a tab
 abbrev pub is_blank : ℕ → Bool
 is_blank b = b == space || b == tab
+
+-- a byte that no value of a header may have: CR, LF or NUL (RFC 9110, section 5.5)
+abbrev pub is_bad_value_byte : ℕ → Bool
+is_bad_value_byte b = b == carriage_return || b == line_feed || b == 0
 
 -- the byte is the one that is given, where one is
 abbrev pub is_given : Option ℕ → ℕ → Bool

@@ -159,8 +159,13 @@ fn plain_conv(alloc: Global, conv: &Conv) -> Result<TextConv, NoMemory>
     Ok(TextConv { built })
 }
 
-/// The text as a regular expression.
-fn made_regex<M: ReMaker>(
+/// The regular expression that the text writes, made by `maker` in memory of `alloc`; `ci` says
+/// whether it ignores the case of letters.
+///
+/// `NotUtf8` and `BadRegex` come exactly where the text isn't UTF-8, or is UTF-8 and no expression.
+/// `TooLarge` only where the maker's count of texts that were too large rose; the last such text is
+/// then this one. `NoMemory` where memory runs out. No other fault comes.
+pub fn made_regex<M: ReMaker>(
     alloc: Global,
     text: &[u8],
     ci: bool,

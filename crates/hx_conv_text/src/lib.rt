@@ -20,5 +20,5 @@ mod substitution;
 mod texts;
 mod url;
 
-pub use conv::{TextConv, apply, build_text};
+pub use conv::{TextConv, apply, build_text, made_regex};
 pub use substitution::expand;

@@ -12,7 +12,8 @@ use Rattle.httparse.specs.Spans.{span_bytes, header_bytes, IsHeaderWithin}
 use Rattle.httparse.specs.declared.spans.Span.{Span}
 use Rattle.httparse.specs.declared.spans.HeaderSpan.{HeaderSpan}
 use Rattle.hx_http.specs.declared.fault.EditFault.TheVariants.{TooMany}
-use Rattle.hx_http.specs.Edits.{has_name, is_bad_value_byte, set_header_fault, without_header}
+use Rattle.hx_base.specs.Bytes.{is_bad_value_byte}
+use Rattle.hx_http.specs.Edits.{has_name, set_header_fault, without_header}
 use Rattle.hx_http.specs.Head.{header_limit}
 use Rattle.hx_http.specs.Parts.{Parts}
 use Rattle.hx_http.specs.Spans.{lines_without, Extends}

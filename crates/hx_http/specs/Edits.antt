@@ -1,13 +1,13 @@
 -- Edits of the head of a request: what each makes of its parts, and which fault refuses it (HAProxy
 -- configuration manual 2.4, section 4.2, `http-request add-header`, `del-header`, `set-header`,
 -- `replace-value`, `set-method`, `set-path`, `set-query`, `set-uri`).
-use Rattle.std.specs.Prelude.{◌≡◌, ℕ, ◌-◌, nat_lt, Bool, ◌&&◌, ◌||◌, not, ◌==◌, List, [], ◌∷◌, ◌++◌, length, take, filter, slice_get, slice_set, Option, None, Some, is_some, if◌then◌else◌, nat_eq, codes, ⊤}
+use Rattle.std.specs.Prelude.{◌≡◌, ℕ, ◌-◌, nat_lt, Bool, ◌&&◌, ◌||◌, not, List, [], ◌∷◌, ◌++◌, length, take, filter, slice_get, slice_set, Option, None, Some, is_some, if◌then◌else◌, nat_eq, codes, ⊤}
 use Rattle.std.specs.Char.{is_ascii_graphic}
 use Rattle.std.specs.List.{list_all, list_any, starts_with}
 use Rattle.std.specs.Option.{option_map_or}
 use Rattle.std.specs.Str.{bytes_eq, str_eq_ignore_ascii_case}
 use Rattle.httparse.specs.Grammar.{is_token}
-use Rattle.hx_base.specs.Bytes.{carriage_return, line_feed, question_mark}
+use Rattle.hx_base.specs.Bytes.{is_bad_value_byte, question_mark}
 use Rattle.hx_http.specs.declared.fault.EditFault.{EditFault}
 use Rattle.hx_http.specs.declared.fault.EditFault.TheVariants.{BadBytes, TooMany, NoPath, NoMemory}
 use Rattle.hx_http.specs.Head.{header_limit}
@@ -29,8 +29,8 @@ abbrev pub without_header : List ℕ → Parts → Parts
 without_header name head =
     record head { headers = filter (λ line. not (has_name name line)) head.headers }
 
--- `set-header`: the head without the header lines that have the name, and then with one, which comes
--- after all others
+-- `set-header`: the head without the header lines that have the name, and then with one, which
+-- comes after all others
 abbrev pub with_only_header : List ℕ → List ℕ → Parts → Parts
 with_only_header name value head = with_header name value (without_header name head)
 
@@ -40,10 +40,6 @@ with_value i value head = record head {
   headers = option_map_or (λ line. slice_set head.headers i (line.0, value))
       (slice_get head.headers i) head.headers;
 }
-
--- a byte that no value of a header may have: CR, LF or NUL (RFC 9110, section 5.5)
-abbrev pub is_bad_value_byte : ℕ → Bool
-is_bad_value_byte b = b == carriage_return || b == line_feed || b == 0
 
 -- why a value is refused
 abbrev pub value_fault : List ℕ → Option EditFault

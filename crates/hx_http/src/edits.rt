@@ -1,8 +1,7 @@
 //! A copy of a message, whether two are the same, and edits of header lines.
 ghost use Rattle.std.specs.Prelude.{◌≡◌, ◌<◌, ◌↔◌, None, length, IsTrue, IfOk, IfErr, OnOk, OnErr};
-ghost use Rattle.std.specs.List.{list_any};
 ghost use Rattle.httparse.specs.Grammar.{is_token};
-ghost use Rattle.hx_http.specs.Edits.{with_header, without_header, with_only_header, with_value, is_bad_value_byte, value_fault, add_header_fault, set_header_fault, MayFail};
+ghost use Rattle.hx_http.specs.Edits.{with_header, without_header, with_only_header, with_value, value_fault, add_header_fault, set_header_fault, MayFail};
 
 use crate::buffer::{append, append_line, append_parts};
 use crate::fault::EditFault;
@@ -10,19 +9,12 @@ use crate::lines::{count_others, remove_named, replace_named, same_lines};
 use crate::message::{Message, limit_after};
 use crate::spans::MAX_HEADERS;
 use httparse::spans::HeaderSpan;
-use hx_text::NoMemory;
-
-/// Whether a byte may not stand in a header's value.
-fn has_bad_byte(value: &[u8]) -> bool
-    ensures { result ≡ list_any is_bad_value_byte value.now }
-{
-    value.iter().any(|b| *b == b'\r' || *b == b'\n' || *b == 0)
-}
+use hx_text::{NoMemory, has_bad_value_byte};
 
 impl Message {
-    /// An equal message, with bytes of its own, from where this one has its memory. Bytes that are no
-    /// part of this message, as those that followed the head, aren't copied. `NoMemory` where memory
-    /// runs out.
+    /// An equal message, with bytes of its own, from where this one has its memory. Bytes that are
+    /// no part of this message, as those that followed the head, aren't copied. `NoMemory` where
+    /// memory runs out.
     pub fn copy(&self) -> Result<Message, NoMemory>
         ensures { IfOk result (λ copied. copied ≡ self.now) }
     {
@@ -72,7 +64,7 @@ impl Message {
             (add_header_fault name.now value.now self.old)) }
         ensures kept { OnErr result (self.new ≡ self.old) }
     {
-        if has_bad_byte(value) {
+        if has_bad_value_byte(value) {
             return Err(EditFault::BadBytes);
         }
         if self.len() >= MAX_HEADERS {
@@ -93,8 +85,8 @@ impl Message {
     }
 
     /// Takes away all header lines of the name, whatever the case of its letters, and adds one with
-    /// copies of the name and the value after all others. The value is kept as it is given, with any
-    /// spaces and tabs at its ends.
+    /// copies of the name and the value after all others. The value is kept as it is given, with
+    /// any spaces and tabs at its ends.
     ///
     /// `BadBytes` exactly where CR, LF or NUL is in the value. Then `TooMany` exactly where the
     /// message would have more than 101 header lines, of which none had the name. In place of any
@@ -110,7 +102,7 @@ impl Message {
             (set_header_fault name.now value.now self.old)) }
         ensures kept { OnErr result (self.new ≡ self.old) }
     {
-        if has_bad_byte(value) {
+        if has_bad_value_byte(value) {
             return Err(EditFault::BadBytes);
         }
         let kept = self.count_others(name);
@@ -140,7 +132,7 @@ impl Message {
         ensures refused { IfErr result (MayFail (value_fault value.now)) }
         ensures kept { OnErr result (self.new ≡ self.old) }
     {
-        if has_bad_byte(value) {
+        if has_bad_value_byte(value) {
             return Err(EditFault::BadBytes);
         }
         let value = append(&mut self.bytes, value)?;
@@ -157,8 +149,8 @@ impl Message {
         count_others(self.bytes.as_slice(), self.spans.lines.as_slice(), name)
     }
 
-    /// Drops the bytes that are no part of the message, where there are more bytes than the limit. All
-    /// stay where there is no memory for a copy of the parts.
+    /// Drops the bytes that are no part of the message, where there are more bytes than the limit.
+    /// All stay where there is no memory for a copy of the parts.
     pub(crate) fn drop_unused(&mut self)
         ensures { self.new ≡ self.old }
     {
@@ -180,7 +172,8 @@ impl Message {
         Ok(())
     }
 
-    /// Puts one line after all others in place of those of the name. There is one of these at least.
+    /// Puts one line after all others in place of those of the name. There is one of these at
+    /// least.
     fn replace_lines(&mut self, name: &[u8], value: &[u8]) -> Result<(), NoMemory>
         requires { length (without_header name.now self.old).headers < length self.old.headers }
         ensures ok { OnOk result (self.new ≡ with_only_header name.now value.now self.old) }

@@ -38,9 +38,9 @@ pub fn another_path_in_a_target(target: &[u8], path: &[u8])
         → HasPath (prefix ++ (path.now ++ query_text query)) prefix path.now query }
 {}
 
-/// Another path in a target that has one: what stands before the old path, the new path, and `?` and
-/// the query where there are these. The path that the target then has is the new one up to its first
-/// `?`, and the same is so where the target was `*`.
+/// Another path in a target that has one: what stands before the old path, the new path, and `?`
+/// and the query where there are these. The path that the target then has is the new one up to its
+/// first `?`, and the same is so where the target was `*`.
 pub fn target_with_another_path(target: &[u8], path: &[u8])
     ensures parts { (prefix old : List ℕ) (query : Option (List ℕ))
         → HasPath target.now prefix old query
@@ -49,8 +49,8 @@ pub fn target_with_another_path(target: &[u8], path: &[u8])
         → path_of (target_with_path path.now target.now) ≡ Some (before_query path.now) }
 {}
 
-/// Another query in a target leaves its path, and is the query that it then has, but where there was
-/// none and the new one is empty.
+/// Another query in a target leaves its path, and is the query that it then has, but where there
+/// was none and the new one is empty.
 pub fn target_with_another_query(target: &[u8], query: &[u8])
     ensures path { path_of (target_with_query query.now target.now) ≡ path_of target.now }
     ensures some { IsSome (query_of target.now)

@@ -13,8 +13,8 @@
 //! ```
 //!
 //! `specs/Head.antt` says what the bytes of a request begin with, as the function `head_of`,
-//! `specs/Target.antt` what the path and the query of a target are, and `specs/Edits.antt` what each
-//! edit makes of a message, and which fault refuses it.
+//! `specs/Target.antt` what the path and the query of a target are, and `specs/Edits.antt` what
+//! each edit makes of a message, and which fault refuses it.
 #![tactic(auto)]
 
 mod buffer;

@@ -30,8 +30,8 @@ impl Model for Message {
     ghost invariant = { λ m. AreWithin (length m.bytes.items) m.spans };
 }
 
-/// The limit of a message that begins with so many bytes. It is several times as many, so that edits
-/// wrote more than is copied when bytes are dropped.
+/// The limit of a message that begins with so many bytes. It is several times as many, so that
+/// edits wrote more than is copied when bytes are dropped.
 pub(crate) fn limit_after(len: usize) -> usize {
     len.saturating_mul(4).max(1024)
 }

@@ -20,8 +20,8 @@ fn is_visible(text: &[u8]) -> bool
 impl Message {
     /// Gives the message a copy of the text as its method.
     ///
-    /// `BadBytes` exactly where the text is no token (RFC 9110, sections 5.6.2 and 9.1). In place of
-    /// any answer there may be `NoMemory`. After a fault the message is as before.
+    /// `BadBytes` exactly where the text is no token (RFC 9110, sections 5.6.2 and 9.1). In place
+    /// of any answer there may be `NoMemory`. After a fault the message is as before.
     ///
     /// HAProxy configuration manual 2.4, section 4.2, `http-request set-method`.
     pub fn set_method(&mut self, text: &[u8]) -> Result<(), EditFault>
@@ -39,14 +39,14 @@ impl Message {
         Ok(())
     }
 
-    /// Puts a copy of the text in place of the path of the target. What stands before the path, as a
-    /// scheme and an authority, stays, and so does what stands after it, as `?` and the query. The
-    /// target `*` is replaced whole. The text may have a `?` of its own, from which on it is then a
-    /// part of the query.
+    /// Puts a copy of the text in place of the path of the target. What stands before the path, as
+    /// a scheme and an authority, stays, and so does what stands after it, as `?` and the query.
+    /// The target `*` is replaced whole. The text may have a `?` of its own, from which on it is
+    /// then a part of the query.
     ///
     /// `BadBytes` exactly where the text has a byte outside 0x21 to 0x7E or doesn't begin with `/`.
-    /// Then `NoPath` exactly where the target has no path and isn't `*`. In place of any answer there
-    /// may be `NoMemory`. After a fault the message is as before.
+    /// Then `NoPath` exactly where the target has no path and isn't `*`. In place of any answer
+    /// there may be `NoMemory`. After a fault the message is as before.
     ///
     /// HAProxy configuration manual 2.4, section 4.2, `http-request set-path`.
     pub fn set_path(&mut self, text: &[u8]) -> Result<(), EditFault>
@@ -69,8 +69,8 @@ impl Message {
     }
 
     /// Puts a copy of the text in place of the query of the target, which follows the first `?`.
-    /// Where the target has no `?`, one is added at its end and then the text, but nothing where the
-    /// text is empty. A `?` is never taken away.
+    /// Where the target has no `?`, one is added at its end and then the text, but nothing where
+    /// the text is empty. A `?` is never taken away.
     ///
     /// `BadBytes` exactly where the text has a byte outside 0x21 to 0x7E. In place of any answer
     /// there may be `NoMemory`. After a fault the message is as before.
@@ -97,10 +97,11 @@ impl Message {
         Ok(())
     }
 
-    /// Gives the message a copy of the text as its target: scheme, authority, path and query at once.
+    /// Gives the message a copy of the text as its target: scheme, authority, path and query at
+    /// once.
     ///
-    /// `BadBytes` exactly where the text is empty or has a byte outside 0x21 to 0x7E. In place of any
-    /// answer there may be `NoMemory`. After a fault the message is as before.
+    /// `BadBytes` exactly where the text is empty or has a byte outside 0x21 to 0x7E. In place of
+    /// any answer there may be `NoMemory`. After a fault the message is as before.
     ///
     /// HAProxy configuration manual 2.4, section 4.2, `http-request set-uri`.
     pub fn set_uri(&mut self, text: &[u8]) -> Result<(), EditFault>

@@ -1,7 +1,7 @@
 ghost use Rattle.std.specs.Prelude.{◌≡◌, ◌≤◌, length};
 ghost use Rattle.std.specs.List.{prefix_len, suffix_len};
 ghost use Rattle.hx_base.specs.Bytes.{is_blank};
-ghost use Rattle.hx_lists.specs.Blanks.{trim_blanks};
+ghost use Rattle.hx_lists.specs.Blanks.{first_blanks, last_blanks, trim_blanks};
 
 fn is_blank(byte: u8) -> bool
     ensures { result ≡ is_blank byte }
@@ -31,4 +31,17 @@ pub(crate) fn trim_blanks(bytes: &[u8]) -> &[u8]
 {
     let rest = &bytes[leading_blanks(bytes)..];
     &rest[..rest.len() - trailing_blanks(rest)]
+}
+
+/// The bytes in three parts: the spaces and tabs that they begin with, what stands between, and the
+/// spaces and tabs that they end with (RFC 9110, section 5.6.3). Where they are spaces and tabs
+/// alone, the first part is all of them.
+pub fn cut_blanks(bytes: &[u8]) -> (&[u8], &[u8], &[u8])
+    ensures first { result.0.now ≡ first_blanks bytes.now }
+    ensures between { result.1.now ≡ trim_blanks bytes.now }
+    ensures last { result.2.now ≡ last_blanks bytes.now }
+{
+    let (first, rest) = bytes.split_at(leading_blanks(bytes));
+    let (between, last) = rest.split_at(rest.len() - trailing_blanks(rest));
+    (first, between, last)
 }

@@ -42,16 +42,17 @@ impl<'a> Iterator for HdrValues<'a> {
 
     fn next(&mut self) -> Option<&'a [u8]> {
         let line = self.rest?;
-        let (piece, rest) = first_piece(line);
+        let (piece, rest) = first_hdr_piece(line);
         self.rest = rest;
         Some(trim_blanks(piece))
     }
 }
 
 /// What stands before the first comma outside quoted strings, and what follows that comma, if there
-/// is one.
+/// is one: the first of the pieces of which `hdr_values` gives the values, with the blanks at its
+/// ends.
 #[tactic(auto, using(crate::proofs::PieceLemmas::steps))]
-fn first_piece<'a>(line: &'a [u8]) -> (&'a [u8], Option<&'a [u8]>)
+pub fn first_hdr_piece<'a>(line: &'a [u8]) -> (&'a [u8], Option<&'a [u8]>)
     ensures { hdr_pieces line.now
         ≡ result.0.now ∷ option_map_or hdr_pieces (option_copied result.1) [] }
 {

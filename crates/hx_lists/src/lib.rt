@@ -19,7 +19,8 @@ pub mod laws;
 mod named;
 mod pairs;
 
-pub use header::{HdrValues, hdr_values};
+pub use blanks::cut_blanks;
+pub use header::{HdrValues, first_hdr_piece, hdr_values};
 pub use named::{Cookies, Params};
 
 /// The cookies of a `Cookie` line, each a name and a value, in their order (RFC 6265, section

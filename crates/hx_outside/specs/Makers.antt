@@ -30,6 +30,12 @@ pub record MakerState : Type 0 where
   pub too_large : ℕ
   pub large : Option ExpressionText
 
+-- the last text that was too large for a maker is one that was asked for
+pub record LastIsAsked (Asked : ExpressionText → Type 0) (state : MakerState) : Type 0 where
+  pub text : ExpressionText
+  pub is : state.large ≡ Some text
+  pub asked : Asked text
+
 -- the maker's state after this answer for the text `asked`
 abbrev pub maker_after : {T : Type 0} → MakerState → ExpressionText → Result T ReFault → MakerState
 maker_after state asked (Ok _) = state

@@ -6,7 +6,7 @@ use Rattle.std.proofs.lemmas.Bool.{cases_Bool}
 use Rattle.std.proofs.lemmas.List.{at_drop_more, get_or-append_right, get_or-drop, get_or-map, length-map, length-replicate, length-take-le, map-set, replicate_more, same_from_push, set-get_or}
 use Rattle.std.proofs.lemmas.List.Edits.{map_over_more}
 use Rattle.hx_sample.specs.Find.{Entry}
-use Rattle.hx_refs.specs.Changes.{with_value, without_chosen}
+use Rattle.hx_sample.specs.Changes.{with_value, without_chosen}
 use Rattle.hx_refs.specs.Kept.{pattern_texts, shown_entries, shown_entry, AreRead}
 use Rattle.hx_refs.specs.Uses.{Use}
 use Rattle.hx_refs.specs.Versions.{chosen_count}

@@ -5,5 +5,6 @@ pub mod ChoiceLemmas
 pub mod ReferenceLemmas
 pub mod KeptLemmas
 pub mod AdditionLemmas
+pub mod TableLemmas
 pub mod LineLemmas
 pub mod NamingLemmas

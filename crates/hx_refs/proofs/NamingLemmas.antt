@@ -1,5 +1,5 @@
 -- Words that name references.
-use Rattle.std.proofs.Common.{◌≡◌, ◌≢◌, ℕ, suc, ◌+◌, ◌<◌, ◌≤◌, ◌==◌, true, leb, cond, not, List, [], ◌∷◌, length, get_or, min, refl, sym, ap, arith, inl, inr}
+use Rattle.std.proofs.Common.{◌≡◌, ◌≢◌, ℕ, suc, ◌+◌, ◌<◌, ◌≤◌, ◌==◌, true, leb, cond, List, [], ◌∷◌, length, get_or, min, refl, sym, ap, arith, inl, inr}
 use Rattle.std.specs.Prelude.{Option, None, Some, Result, Err, option_and_then, option_map, slice_get}
 use Rattle.std.specs.List.{position_or_len}
 use Rattle.std.specs.Option.{option_map_or}

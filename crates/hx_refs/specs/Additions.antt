@@ -4,7 +4,7 @@ use Rattle.std.specs.Prelude.{◌≡◌, ℕ, ◌+◌, ◌&&◌, ◌||◌, nat_l
 use Rattle.std.specs.List.{list_any}
 use Rattle.std.specs.Option.{option_map_or}
 use Rattle.hx_outside.specs.Count.{Rose}
-use Rattle.hx_outside.specs.Makers.{ExpressionText, MakerState}
+use Rattle.hx_outside.specs.Makers.{ExpressionText, LastIsAsked, MakerState}
 use Rattle.hx_text.specs.declared.kinds.By.TheVariants as by
 use Rattle.hx_text.specs.Address.{ip_of}
 use Rattle.hx_text.specs.Number.{int_of}
@@ -157,12 +157,6 @@ abbrev pub MayRefuse : Option RefFault → RefFault → Type 0
 MayRefuse own TooLarge = ⊤
 MayRefuse own NoMemory = ⊤
 MayRefuse own fault = own ≡ Some fault
-
--- the last text that was too large for a maker is one that was asked for
-pub record LastIsAsked (Asked : ExpressionText → Type 0) (state : MakerState) : Type 0 where
-  pub text : ExpressionText
-  pub is : state.large ≡ Some text
-  pub asked : Asked text
 
 -- What a maker of regular expressions knows before and after a call. With `TooLarge` its count of
 -- texts that were too large rose, and the last of them is one that the call asked for. With any

@@ -2,10 +2,10 @@
 -- are refused (HAProxy management guide 2.4, section 9.3, `del map`, `set map`, `clear map`,
 -- `prepare map`, `commit map`, and the same of `acl`).
 use Rattle.std.specs.Prelude.{◌≡◌, ℕ, ◌+◌, ◌-◌, ◌==◌, ◌&&◌, nat_le, nat_lt, Bool, not, List, [], ◌∷◌, ◌++◌, map, drop, slice_get, Option, None, Some, Result, Ok, Err, if◌then◌else◌, ⊤}
-use Rattle.std.specs.List.{filter, list_any}
+use Rattle.std.specs.List.{list_any}
 use Rattle.std.specs.Option.{option_map_or}
-use Rattle.std.specs.Str.{bytes_eq}
 use Rattle.hx_sample.specs.Find.{Entry}
+use Rattle.hx_sample.specs.Changes.{with_value, without_chosen}
 use Rattle.hx_refs.specs.declared.fault.RefFault.{RefFault}
 use Rattle.hx_refs.specs.declared.fault.RefFault.TheVariants.{BadVersion, KeyNotFound, BadValue, NoMoreVersions, NoMemory}
 use Rattle.hx_refs.specs.declared.limits.Limits.{Limits}
@@ -14,20 +14,9 @@ use Rattle.hx_refs.specs.References.{changed_at, empty_version, version_entries,
 
 -- ---- entries
 
--- the entries with a key, and the one with a number
-abbrev pub has_key : List ℕ → Entry → Bool
-has_key key entry = bytes_eq entry.key key
-
+-- the entry has the number
 abbrev pub has_number : ℕ → Entry → Bool
 has_number number entry = entry.number == number
-
--- the entries without those that a test chooses
-abbrev pub without_chosen : (Entry → Bool) → List Entry → List Entry
-without_chosen test entries = filter (λ entry. not (test entry)) entries
-
--- the entry, with the value if a test chooses it; its number and its key stay
-abbrev pub with_value : (Entry → Bool) → List ℕ → Entry → Entry
-with_value test value entry = if test entry then record entry { value = value } else entry
 
 -- ---- a version
 

@@ -3,8 +3,10 @@ pub mod References
 pub mod Uses
 pub mod Additions
 pub mod Changes
+pub mod TableChanges
 pub mod Naming
 pub mod FileLines
 -- views of the code, for the contracts of private functions
 pub mod Kept
 pub mod Versions
+pub mod TableAnswers

@@ -2,7 +2,8 @@
 use Rattle.std.specs.Prelude.{◌≡◌, ◌≢◌, ℕ, zero, suc, ◌+◌, ◌-◌, ◌≤◌, ◌<◌, ◌==◌, Bool, List, [], ◌∷◌, ◌++◌, length, drop, slice_get, Option, Some, if◌then◌else◌, ⊤}
 use Rattle.std.specs.Option.{option_map_or}
 use Rattle.hx_sample.specs.Find.{Entry}
-use Rattle.hx_refs.specs.Changes.{has_key, has_number}
+use Rattle.hx_refs.specs.Changes.{has_number}
+use Rattle.hx_sample.specs.Changes.{has_key}
 use Rattle.hx_refs.specs.Kept.{shown_entries, AreRead, TakePatterns}
 use Rattle.hx_refs.specs.References.{empty_version, Reference, Version}
 use Rattle.hx_refs.specs.Uses.{Use}

@@ -1,6 +1,6 @@
 ghost use Rattle.std.specs.Prelude.{◌≡◌, ◌≤◌, length, map, replicate, List, IfOk, OnOk, OnErr};
 ghost use Rattle.std.specs.List.{list_any};
-ghost use Rattle.hx_refs.specs.Changes.{with_value, without_chosen};
+ghost use Rattle.hx_sample.specs.Changes.{with_value, without_chosen};
 ghost use Rattle.hx_refs.specs.Kept.{shown_entries, shown_entry, AreRead};
 ghost use Rattle.hx_refs.specs.Uses.{Use};
 ghost use Rattle.hx_refs.specs.Versions.{chosen_count, is_chosen};

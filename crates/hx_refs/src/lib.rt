@@ -2,6 +2,7 @@
 //! searched, their versions, and their entries. `specs/References.antt` says what references are,
 //! `specs/Uses.antt` how they are used, `specs/Additions.antt` what an addition makes of them,
 //! `specs/Changes.antt` what the other calls on entries and versions make of them,
+//! `specs/TableChanges.antt` what a change that a rule asks for makes of them,
 //! `specs/Naming.antt` which of them a word names, and `specs/FileLines.antt` which entries the
 //! lines of a file give.
 #![tactic(auto)]
@@ -21,6 +22,7 @@ mod refs;
 mod searching;
 mod side;
 mod stored;
+mod table_changes;
 mod uses;
 mod versions;
 

@@ -1,5 +1,7 @@
 ghost use Rattle.std.specs.Prelude.{◌≡◌, ◌≢◌, ℕ, ◌+◌, ◌^◌, ◌<◌, ◌++◌, min, [], ◌∷◌, List, slice_get, true, Option, Some, None, is_some, IfOk, IfErr, IfSome, IfNone, OnOk, OnErr, option_map};
+ghost use Rattle.std.specs.List.{list_any};
 ghost use Rattle.std.specs.Option.{option_copied};
+ghost use Rattle.hx_sample.specs.Changes.{has_key};
 ghost use Rattle.hx_sample.specs.Find.{found_entry};
 ghost use Rattle.hx_sample.specs.Seen.{value_of};
 ghost use Rattle.hx_refs.specs.Additions.{pair_fault, version_fault, with_pairs, CountsLarge, IsReadAs, MayRefuse, Pair, VersionAsksFor};
@@ -342,6 +344,14 @@ impl KeptReference {
         let added = self.judged(alloc, limits, number, pairs, maker)?;
         self.append(number, added)?;
         Ok(())
+    }
+
+    /// Whether an entry of the version that is searched has the key.
+    pub(crate) fn has_key(&self, key: &[u8]) -> bool
+        ensures { result
+            ≡ list_any (has_key key.now) (version_entries self.now.shown None) }
+    {
+        has_chosen(self.searched_entries(), &Choice::Key(key))
     }
 
     /// Removes the entries that are chosen from the version that is searched.

@@ -1,9 +1,11 @@
 ghost use Rattle.std.specs.Prelude.{◌≡◌, ◌≢◌, ◌<◌, [], ◌∷◌, All, length, slice_get, None, Some, IfOk, IfErr, IfSome, OnOk, OnErr, option_map};
 ghost use Rattle.std.specs.Option.{option_copied};
 ghost use Rattle.hx_refs.specs.Additions.{addition_fault, after_addition, AdditionAsksFor, CountsLarge, MayRefuse};
-ghost use Rattle.hx_refs.specs.Changes.{after_change_of_value, after_clearing, after_commit, after_deletion, after_preparation, answer, commit_fault, deletion_fault, fault_at, has_key, has_number, preparation_fault, prepared_version, value_fault, MayFail};
+ghost use Rattle.hx_refs.specs.Changes.{after_change_of_value, after_clearing, after_commit, after_deletion, after_preparation, answer, commit_fault, deletion_fault, fault_at, has_number, preparation_fault, prepared_version, value_fault, MayFail};
+ghost use Rattle.hx_sample.specs.Changes.{has_key};
 ghost use Rattle.hx_refs.specs.Naming.{resolution};
 ghost use Rattle.hx_refs.specs.References.{after_output, entries_in, file_of, info_of, no_references, with_new, HasHadNone};
+ghost use Rattle.hx_refs.specs.TableChanges.{is_key_of};
 ghost use Rattle.hx_refs.specs.Uses.{after_use, head_for, use_parts, uses_in_order, uses_of, KeepsToCase};
 ghost use Rattle.hx_refs.specs.Versions.{is_chosen};
 
@@ -17,9 +19,10 @@ use crate::naming::named_number;
 use crate::pairs::{KeptPair, Pairs};
 use crate::reference::KeptReference;
 use crate::side::Side;
+use crate::table_changes::is_fit;
 use hx_outside::ReMaker;
 use hx_pool::Steps;
-use hx_sample::{Hit, Sample, Tables};
+use hx_sample::{Change, Hit, Sample, TableFault, Tables};
 use hx_text::{By, NoMemory, Out};
 use std::alloc::Global;
 use std::marker::Model;
@@ -206,6 +209,16 @@ impl Refs {
     {
         let reference = &self.references[r as usize];
         reference.entries(ver)
+    }
+
+    /// Whether an entry of the reference at the position `r` has the key, in the version that is
+    /// searched.
+    pub(crate) fn has_key(&self, r: u32, key: &[u8]) -> bool
+        requires { r < length self.now.references }
+        ensures { result ≡ is_key_of self.now r key.now }
+    {
+        let reference = &self.references[r as usize];
+        reference.has_key(key)
     }
 
     /// Appends an entry with copies of the key and of the value to a version of the reference at
@@ -477,10 +490,13 @@ impl Refs {
 
 impl Tables for Refs {
     ghost use Rattle.hx_refs.specs.References.{searched_lists};
+    ghost use Rattle.hx_refs.specs.TableChanges.{after_table_change};
 
     ghost heads = { λ refs. refs.heads };
 
     ghost lists = { searched_lists };
+
+    ghost after_change = { after_table_change };
 
     fn find<L: Ledger>(
         &self,
@@ -495,5 +511,17 @@ impl Tables for Refs {
             Some(entry) => Ok(Some(entry.hit())),
             None => Ok(None),
         }
+    }
+
+    fn change<M: ReMaker>(
+        &mut self,
+        table: u32,
+        change: Change<'_>,
+        maker: &mut M,
+    ) -> Result<(), TableFault> {
+        if !is_fit(&change) {
+            return Ok(());
+        }
+        self.change_fit(table, change, maker)
     }
 }

@@ -5,6 +5,7 @@ pub mod Vars
 pub mod Keys
 pub mod Find
 pub mod Tables
+pub mod Changes
 -- views of the code, for the contracts of private functions
 pub mod Stored
 pub mod Listed

@@ -1,12 +1,15 @@
-ghost use Rattle.std.specs.Prelude.{◌≡◌, ◌<◌, IfOk, length, option_map};
+ghost use Rattle.std.specs.Prelude.{◌≡◌, ◌<◌, IfOk, OnOk, OnErr, length, option_map};
+ghost use Rattle.hx_sample.specs.Changes.{change_of, ChangeAsksFor, ChangeCountsLarge, ChangesList};
 ghost use Rattle.hx_sample.specs.Seen.{value_of};
 ghost use Rattle.hx_sample.specs.Tables.{TakesValue, empty_heads, empty_lists, entry_of, found_at};
 
 use crate::sample::Sample;
+use hx_outside::ReMaker;
 use hx_pool::Steps;
 use hx_text::NoMemory;
 use std::alloc::Global;
 use std::sync::ledger::Ledger;
+use thiserror::Error;
 
 /// An entry that was found, lent from the tables: its number, its key, and the value under the key,
 /// which is empty in a list of keys alone.
@@ -17,17 +20,57 @@ pub struct Hit<'a> {
     pub value: &'a [u8],
 }
 
+/// A change of a list, as a rule asks for it (HAProxy configuration manual 2.4, section 4.2,
+/// `http-request add-acl` and the actions like it).
+#[derive(Clone, Copy, Debug)]
+pub enum Change<'a> {
+    /// the key is appended, where no entry has it
+    Add { key: &'a [u8] },
+    /// the entries with the key are removed
+    Del { key: &'a [u8] },
+    /// the entries with the key get the value; where there is none, one is appended
+    SetMap { key: &'a [u8], value: &'a [u8] },
+    /// the entries of a map with the key are removed
+    DelMap { key: &'a [u8] },
+}
+
+/// Why a change came to no end.
+#[derive(Clone, Copy, Debug, PartialEq, Eq, Error)]
+pub enum TableFault {
+    /// A key is a regular expression that is too large. The count of the maker that was lent rose.
+    #[error("the regular expression is too large")]
+    TooLarge,
+    /// Memory ran out, which says nothing of the arguments.
+    #[error("out of memory")]
+    NoMemory,
+}
+
+impl From<NoMemory> for TableFault {
+    ghost use Rattle.std.specs.Prelude.{◌≡◌};
+    ghost use Rattle.hx_sample.specs.declared.tables.TableFault.TheVariants as fault;
+
+    ghost from_gives = { λ _ given. given ≡ fault.NoMemory };
+
+    fn from(_: NoMemory) -> TableFault {
+        TableFault::NoMemory
+    }
+}
+
 /// Lists of patterns and maps, in which values are looked up. Each head is a way to search one of
 /// the lists: by a match method, and ignoring case or not (HAProxy configuration manual 2.4,
 /// section 7.1). Contracts see the heads as a list, and the entries of each list.
 pub trait Tables {
-    ghost use Rattle.std.specs.Prelude.{List};
+    ghost use Rattle.std.specs.Prelude.{ℕ, List};
+    ghost use Rattle.hx_sample.specs.Changes.{ListChange};
     ghost use Rattle.hx_sample.specs.Find.{Entry};
     ghost use Rattle.hx_sample.specs.Tables.{TableHead};
 
     ghost heads: { Self → List TableHead };
 
     ghost lists: { Self → List (List Entry) };
+
+    /// what a change of the list at a position makes of them
+    ghost after_change: { Self → ℕ → ListChange → Self };
 
     /// The entry that the value of `sample` finds in the list of the head `head`, counted from 0:
     /// the first whose key hits the value. By `beg` with case it is the first of the longest that
@@ -48,10 +91,40 @@ pub trait Tables {
         requires kind { TakesValue (heads self.now) head (value_of sample.now) }
         ensures { IfOk result (λ hit. option_map entry_of hit
             ≡ found_at (heads self.now) (lists self.now) head (value_of sample.now)) };
+
+    /// Changes the list at the position `table`. `Add` appends an entry with the key and without a
+    /// value where no entry has the key. `Del` and `DelMap` remove all entries with the key.
+    /// `SetMap` gives the value to all entries with the key, whose places and numbers stay; where
+    /// there is none, it appends one. A change with an empty key, or with CR, LF or NUL in the key
+    /// or the value, changes nothing and is no fault, and so it is where the object takes no such
+    /// entry or value. Other lists stay, and all heads do.
+    ///
+    /// `TooLarge` only where the maker's count of texts that were too large rose; the last such
+    /// text is then the key, which a head by `reg` of this list reads. `NoMemory` where memory runs
+    /// out. With both nothing is changed.
+    ///
+    /// There are more than `table` lists. HAProxy configuration manual 2.4, section 4.2,
+    /// `http-request add-acl`, `del-acl`, `del-map`, `set-map`.
+    fn change<M: ReMaker>(
+        &mut self,
+        table: u32,
+        change: Change<'_>,
+        maker: &mut M,
+    ) -> Result<(), TableFault>
+        requires table { table < length (lists self.old) }
+        ensures ok { OnOk result (self.new ≡ after_change self.old table (change_of change.entry)) }
+        ensures kept { OnErr result (self.new ≡ self.old) }
+        ensures heads { heads self.new ≡ heads self.old }
+        ensures lists { OnOk result (ChangesList table (change_of change.entry) (lists self.old)
+            (lists self.new)) }
+        ensures large { ChangeCountsLarge result
+            (ChangeAsksFor (heads self.old) table (change_of change.entry))
+            (record { too_large = M.too_large maker.old; large = M.large maker.old })
+            (record { too_large = M.too_large maker.new; large = M.large maker.new }) };
 }
 
 /// Tables in which nothing is found, for expressions that look nothing up: one head, by `str` with
-/// case, whose list has no entries.
+/// case, whose list has no entries and takes none.
 #[derive(Clone, Copy, Debug, Drop)]
 pub struct EmptyTables;
 
@@ -59,6 +132,8 @@ impl Tables for EmptyTables {
     ghost heads = { λ tables. empty_heads };
 
     ghost lists = { λ tables. empty_lists };
+
+    ghost after_change = { λ tables table asked. tables };
 
     #[tactic(auto, using(crate::proofs::FindLemmas::nothing_found))]
     fn find<L: Ledger>(
@@ -69,5 +144,14 @@ impl Tables for EmptyTables {
         _steps: &mut Steps<L>,
     ) -> Result<Option<Hit<'_>>, NoMemory> {
         Ok(None)
+    }
+
+    fn change<M: ReMaker>(
+        &mut self,
+        _table: u32,
+        _change: Change<'_>,
+        _maker: &mut M,
+    ) -> Result<(), TableFault> {
+        Ok(())
     }
 }

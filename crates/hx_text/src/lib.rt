@@ -23,6 +23,7 @@ mod network;
 mod numbers;
 mod octets;
 mod printing;
+mod values;
 
 pub use address::{Ip, read_ip};
 pub use cut::{cut_at, without_cr};
@@ -34,3 +35,4 @@ pub use network::{Net, read_net};
 pub use numbers::{print_i64, read_i64, read_number};
 pub use octets::Octets;
 pub use printing::print_ip;
+pub use values::has_bad_value_byte;

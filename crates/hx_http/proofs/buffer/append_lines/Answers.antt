@@ -1,6 +1,5 @@
 use Rattle.std.proofs.Common.{arith}
 use Rattle.std.proofs.lemmas.List.Elements.{All-push}
-use Rattle.httparse.specs.declared.spans.HeaderSpan.{HeaderSpan}
 use Rattle.httparse.specs.Spans.{IsHeaderWithin}
 use Rattle.hx_http.proofs.ExtendLemmas.{lines_extended, Extends-trans}
 use Rattle.hx_http.proofs.LineLemmas.{copied_more, empty_line}

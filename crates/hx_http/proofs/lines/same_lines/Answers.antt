@@ -1,5 +1,4 @@
 use Rattle.std.proofs.Common.{arith}
-use Rattle.httparse.specs.declared.spans.HeaderSpan.{HeaderSpan}
 use Rattle.httparse.specs.Spans.{header_bytes}
 use Rattle.hx_http.proofs.LineLemmas.{same_at, empty_line}
 use Rattle.hx_http.proofs.lines.same_lines.Goals as goal

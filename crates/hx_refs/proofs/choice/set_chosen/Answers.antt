@@ -1,7 +1,7 @@
 use Rattle.std.proofs.Common.{◌≡◌, ◌+◌, ◌<◌, true, false, length, drop, set, refl, sym, ap, ◌∙◌, arith, length-set}
 use Rattle.std.specs.Prelude.{slice_set}
 use Rattle.std.proofs.lemmas.List.{length-map, set-get_or}
-use Rattle.hx_refs.specs.Changes.{with_value}
+use Rattle.hx_sample.specs.Changes.{with_value}
 use Rattle.hx_refs.specs.Kept.{shown_entries, shown_entry}
 use Rattle.hx_refs.specs.Versions.{chosen_count, is_chosen}
 use Rattle.hx_refs.proofs.ChoiceLemmas.{count_more, given_value, none_left, not_reached, passed_over, popped, read_entry_set, shown_read}

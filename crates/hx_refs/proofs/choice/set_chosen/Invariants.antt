@@ -1,5 +1,5 @@
 use Rattle.std.proofs.Common.{◌≡◌, ◌++◌, List, length, map, replicate, take, drop}
-use Rattle.hx_refs.specs.Changes.{with_value}
+use Rattle.hx_sample.specs.Changes.{with_value}
 use Rattle.hx_refs.specs.Kept.{shown_entries, AreRead}
 use Rattle.hx_refs.specs.Uses.{Use}
 use Rattle.hx_refs.specs.Versions.{chosen_count, is_chosen}

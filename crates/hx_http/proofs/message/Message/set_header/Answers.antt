@@ -7,12 +7,12 @@ pub returns-then-kept-ge-MAX_HEADERS-clause-refused :
     goal.returns-then-kept-ge-MAX_HEADERS-clause-refused
 returns-then-kept-ge-MAX_HEADERS-clause-refused c =
     too_many c.args.name.now c.args.value.now c.args.self.now
-    (sym c.has_bad_byte.ensures ∙ c.if-has_bad_byte.false) (omega (arith, c.count_others-kept.ensures))
+    (sym c.has_bad_value_byte.ensures ∙ c.if-has_bad_value_byte.false) (omega (arith, c.count_others-kept.ensures))
 
 pub returns-in_ok-replace_lines-clause-none : goal.returns-in_ok-replace_lines-clause-none
 returns-in_ok-replace_lines-clause-none c =
     few_enough c.args.name.now c.args.value.now c.args.self.now
-    (sym c.has_bad_byte.ensures ∙ c.if-has_bad_byte.false) (omega (arith, c.count_others-kept.ensures))
+    (sym c.has_bad_value_byte.ensures ∙ c.if-has_bad_value_byte.false) (omega (arith, c.count_others-kept.ensures))
 
 pub returns-in_ok-push_line-clause-ok : goal.returns-in_ok-push_line-clause-ok
 returns-in_ok-push_line-clause-ok c =
@@ -23,4 +23,4 @@ returns-in_ok-push_line-clause-ok c =
 pub returns-in_ok-push_line-clause-none : goal.returns-in_ok-push_line-clause-none
 returns-in_ok-push_line-clause-none c =
     few_enough c.args.name.now c.args.value.now c.args.self.now
-    (sym c.has_bad_byte.ensures ∙ c.if-has_bad_byte.false) (omega (arith, c.count_others-kept.ensures))
+    (sym c.has_bad_value_byte.ensures ∙ c.if-has_bad_value_byte.false) (omega (arith, c.count_others-kept.ensures))

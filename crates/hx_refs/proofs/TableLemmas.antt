@@ -1,0 +1,257 @@
+-- What changes of lists, as rules ask for them, make of the references, and what they answer.
+use Rattle.std.proofs.Common.{◌≡◌, ℕ, ◌+◌, ◌*◌, ◌^◌, ◌<◌, ◌==◌, Bool, true, false, List, [], ◌∷◌, length, refl, ap, sym, arith, inl, inr}
+use Rattle.std.specs.Prelude.{Option, None, Some, slice_get, slice_set, Result, Ok, Err, if◌then◌else◌, ⊤}
+use Rattle.std.specs.List.{list_any}
+use Rattle.std.specs.Option.{option_map_or}
+use Rattle.std.proofs.lemmas.Bool.{cases_Bool, eqb-true}
+use Rattle.std.proofs.lemmas.List.{map-set, set-get_or}
+use Rattle.std.proofs.lemmas.Option.{slice_get-map, slice_get_cases, get_or_from_slice_get}
+use Rattle.hx_outside.specs.Makers.{ExpressionText, MakerState}
+use Rattle.hx_sample.specs.Changes.{has_key, is_fit, without_chosen, ChangeCountsLarge, ChangesFit, ChangesList, HasNewValue, HasOneMore, IsChanged, IsReadBy, ListChange, Addition, Removal, NewValue}
+use Rattle.hx_sample.specs.Find.{Entry}
+use Rattle.hx_sample.specs.Tables.{TableHead}
+use Rattle.hx_refs.specs.Additions.{addition_fault, after_addition, demands_on, with_entries, with_pairs, AdditionAsksFor, CountsLarge, Demands, IsReadAs, Pair, VersionAsksFor}
+use Rattle.hx_refs.specs.Changes.{after_change_of_value, after_deletion, deletion_fault, fault_at, fault_unless, value_fault, with_reference, with_values, with_version, without_entries}
+use Rattle.hx_refs.specs.References.{changed_at, searched_lists, version_entries, version_of, Reference, References, Version}
+use Rattle.hx_refs.specs.TableAnswers.{table_answer}
+use Rattle.hx_refs.specs.TableChanges.{after_fit_change, is_key_of, unless_refused, with_new_value, with_pair}
+use Rattle.hx_refs.specs.Uses.{uses_from}
+use Rattle.hx_refs.specs.declared.fault.RefFault.{RefFault}
+use Rattle.hx_refs.specs.declared.fault.RefFault.TheVariants.{UnknownRef, BadVersion, KeyNotFound, BadPattern, BadValue, NeedsMap, UsedAsMap, VersionFull, VersionWorn, NoMoreVersions, TooLarge, NoMemory}
+use Rattle.hx_refs.proofs.ListLemmas.{get_set_same}
+
+-- ---- the reference at a position
+
+reference_at : (refs : References) (r : ℕ) → r < length refs.references
+    → (reference : Reference) × (slice_get refs.references r ≡ Some reference)
+reference_at refs r within = elim (slice_get_cases refs.references r).1 [
+  | inl w ↦ (w.0, w.2)
+  | inr past ↦ absurd (omega (arith, past.0))
+]
+
+-- ---- what a call answers to a change
+
+counted_answered : (a : Result ⊤ RefFault) (A B : ExpressionText → Type 0) (before now : MakerState)
+    → ((text : ExpressionText) → A text → B text) → CountsLarge a A before now
+    → ChangeCountsLarge (table_answer a) B before now
+counted_answered (Ok x) A B before now wider counts = counts
+counted_answered (Err TooLarge) A B before now wider counts = (
+  counts.0,
+  record {
+    text = counts.1.text;
+    is = counts.1.is;
+    asked = wider counts.1.text counts.1.asked;
+  },
+)
+counted_answered (Err NoMemory) A B before now wider counts = counts
+counted_answered (Err UnknownRef) A B before now wider counts = counts
+counted_answered (Err BadVersion) A B before now wider counts = counts
+counted_answered (Err KeyNotFound) A B before now wider counts = counts
+counted_answered (Err BadPattern) A B before now wider counts = counts
+counted_answered (Err BadValue) A B before now wider counts = counts
+counted_answered (Err NeedsMap) A B before now wider counts = counts
+counted_answered (Err UsedAsMap) A B before now wider counts = counts
+counted_answered (Err VersionFull) A B before now wider counts = counts
+counted_answered (Err VersionWorn) A B before now wider counts = counts
+counted_answered (Err NoMoreVersions) A B before now wider counts = counts
+
+-- ---- what reads a key
+
+read_by : (heads : List TableHead) (number r : ℕ) (key : List ℕ) (text : ExpressionText)
+    → IsReadAs (uses_from number heads r) key text → IsReadBy heads r key text
+read_by [] number r key text asked = asked
+read_by (h ∷ heads) number r key text asked = elim (cases_Bool (h.list == r)) [
+  | inl same ↦ elim (rw same at asked) [
+    | inl here ↦ inl (here.0, eqb-true h.list r same, here.1)
+    | inr later ↦ inr (read_by heads (number + 1) r key text later)
+  ]
+  | inr other ↦ inr (read_by heads (number + 1) r key text (rw other at asked))
+]
+
+lone_asks : (demands : Demands) (version : Option Version) (pair : Pair) (text : ExpressionText)
+    → VersionAsksFor demands version (pair ∷ []) text → IsReadAs demands.uses pair.key text
+lone_asks demands None pair text asked = absurd asked
+lone_asks demands (Some version) pair text asked = elim asked [
+  | inl read ↦ read
+  | inr after ↦ absurd after.1
+]
+
+-- what an addition of a pair reads is its key, by a head of the list
+asked_by : (refs : References) (r : ℕ) (pair : Pair) → r < length refs.references → (text : ExpressionText)
+    → AdditionAsksFor refs r None (pair ∷ []) text → IsReadBy refs.heads r pair.key text
+asked_by refs r pair within text asked =
+    let found = reference_at refs r within in
+    read_by refs.heads 0 r pair.key text
+    (lone_asks (demands_on refs r found.0) (version_of found.0 None) pair text (rw found.1 at asked))
+
+-- the maker's count, by what an addition answers
+pub addition_counts : (a : Result ⊤ RefFault) (refs : References) (r : ℕ) (pair : Pair) (before now : MakerState)
+    → r < length refs.references → CountsLarge a (AdditionAsksFor refs r None (pair ∷ [])) before now
+    → ChangeCountsLarge (table_answer a) (IsReadBy refs.heads r pair.key) before now
+addition_counts a refs r pair before now within counts =
+    counted_answered a (AdditionAsksFor refs r None (pair ∷ [])) (IsReadBy refs.heads r pair.key) before now
+    (asked_by refs r pair within) counts
+
+-- ---- lists
+
+-- the list of the reference at a position
+list_at : (refs : References) (r : ℕ) (reference : Reference) → slice_get refs.references r ≡ Some reference
+    → slice_get (searched_lists refs) r ≡ Some (version_entries reference None)
+list_at refs r reference is =
+    rw (slice_get-map {A = Reference} {B = List Entry} (λ x. version_entries x None) refs.references r, is) refl
+
+-- the lists with that of a changed reference
+lists_with : (refs : References) (r : ℕ) (reference : Reference) (change : Reference → Reference)
+    → slice_get refs.references r ≡ Some reference
+    → searched_lists (with_reference r change refs)
+    ≡ slice_set (searched_lists refs) r (version_entries (change reference) None)
+lists_with refs r reference change is =
+    rw is (map-set {A = Reference} {B = List Entry} (λ x. version_entries x None) refs.references r (change reference))
+
+set_same : (xs : List (List Entry)) (r : ℕ) (x : List Entry) → slice_get xs r ≡ Some x → slice_set xs r x ≡ xs
+set_same xs r x is = rw (get_or_from_slice_get xs r x x is) at (set-get_or xs r x)
+
+changed_list : (asked : ListChange) (xs : List (List Entry)) (r : ℕ) (before after : List Entry) → slice_get xs r ≡ Some before
+    → IsChanged asked before after → ChangesFit true r asked xs (slice_set xs r after)
+changed_list asked xs r before after is changed = rw (get_set_same xs r before after is, is) (refl, changed)
+
+same_list : (asked : ListChange) (xs : List (List Entry)) (r : ℕ) (before : List Entry) → slice_get xs r ≡ Some before
+    → IsChanged asked before before → ChangesFit true r asked xs xs
+same_list asked xs r before is changed = rw (set_same xs r before is) at (changed_list asked xs r before before is changed)
+
+-- the entries of the first of these versions
+abbrev first_of : List Version → List Entry
+first_of versions = option_map_or (λ version. version.entries) (slice_get versions 0) []
+
+one_more : (number : ℕ) (pair : Pair) (versions : List Version)
+    → HasOneMore pair.key pair.value (first_of versions) (first_of (changed_at 0 (with_entries number (pair ∷ [])) versions))
+one_more number pair [] = inl refl
+one_more number pair (version ∷ versions) = inr (number * 2 ^ 32 + (version.serial + 1), refl)
+
+new_values : (key value : List ℕ) (versions : List Version)
+    → HasNewValue key value (first_of versions) (first_of (changed_at 0 (with_values (has_key key) value) versions))
+new_values key value [] = inl refl
+new_values key value (version ∷ versions) = inr refl
+
+fewer : (key : List ℕ) (versions : List Version)
+    → first_of (changed_at 0 (without_entries (has_key key)) versions) ≡ without_chosen (has_key key) (first_of versions)
+fewer key [] = refl
+fewer key (version ∷ versions) = refl
+
+none_chosen : (test : Entry → Bool) (entries : List Entry) → list_any test entries ≡ false → entries ≡ without_chosen test entries
+none_chosen test [] none = refl
+none_chosen test (entry ∷ entries) none = elim (cases_Bool (test entry)) [
+  | inl this ↦ absurd (true_isnt (rw this at none))
+  | inr other ↦
+      let rest = none_chosen test entries (rw other at none) in
+      rw other (ap (λ (es : List Entry). entry ∷ es) rest)
+]
+  where
+    true_isnt : true ≡ false → ⊥
+    true_isnt is = cc
+
+-- ---- what each change makes of the list
+
+-- a list with a pair more, or the same where the pair is refused
+paired : (refs : References) (r : ℕ) (asked : ListChange) (pair : Pair) (reference : Reference)
+    → slice_get refs.references r ≡ Some reference
+    → ((after : List Entry) → HasOneMore pair.key pair.value (version_entries reference None) after
+    → IsChanged asked (version_entries reference None) after)
+    → ChangesFit true r asked (searched_lists refs) (searched_lists (with_pair refs r pair))
+paired refs r asked pair reference is suits = go (addition_fault refs r None (pair ∷ []))
+  where
+    go : (own : Option RefFault)
+        → ChangesFit true r asked (searched_lists refs)
+        (searched_lists (unless_refused own (after_addition refs r None (pair ∷ [])) refs))
+    go (Some fault) =
+        same_list asked (searched_lists refs) r (version_entries reference None) (list_at refs r reference is)
+        (suits (version_entries reference None) (inl refl))
+    go None =
+        rw (lists_with refs r reference (with_pairs None (pair ∷ [])) is)
+        (changed_list asked (searched_lists refs) r (version_entries reference None)
+        (version_entries (with_pairs None (pair ∷ []) reference) None) (list_at refs r reference is)
+        (suits (version_entries (with_pairs None (pair ∷ []) reference) None)
+        (one_more (reference.curr + 0) pair reference.versions)))
+
+-- an entry has the key where one of the reference has it
+key_here : (refs : References) (r : ℕ) (key : List ℕ) (reference : Reference) → slice_get refs.references r ≡ Some reference
+    → is_key_of refs r key ≡ list_any (has_key key) (version_entries reference None)
+key_here refs r key reference is = rw is refl
+
+added : (refs : References) (r : ℕ) (key : List ℕ) (reference : Reference) → slice_get refs.references r ≡ Some reference
+    → ChangesFit true r (Addition key) (searched_lists refs) (searched_lists (after_fit_change refs r (Addition key)))
+added refs r key reference is = go (is_key_of refs r key) (key_here refs r key reference is)
+  where
+    go : (here : Bool) → here ≡ list_any (has_key key) (version_entries reference None)
+        → ChangesFit true r (Addition key) (searched_lists refs)
+        (searched_lists (if here then refs else with_pair refs r (record { key = key; value = [] })))
+    go true here =
+        same_list (Addition key) (searched_lists refs) r (version_entries reference None) (list_at refs r reference is)
+        (rw (← here) refl)
+    go false none =
+        paired refs r (Addition key) (record { key = key; value = [] }) reference is (λ after more. rw (← none) more)
+
+none_by : (here : Bool) (fault : RefFault) → Some fault ≡ fault_unless here KeyNotFound → here ≡ false
+none_by true fault is = absurd (cc)
+none_by false fault is = refl
+
+removed : (refs : References) (r : ℕ) (key : List ℕ) (reference : Reference) → slice_get refs.references r ≡ Some reference
+    → ChangesFit true r (Removal key) (searched_lists refs) (searched_lists (after_fit_change refs r (Removal key)))
+removed refs r key reference is =
+    let same : fault_at refs r (deletion_fault (has_key key)) ≡ deletion_fault (has_key key) reference = rw is refl in
+    go (fault_at refs r (deletion_fault (has_key key))) same
+  where
+    go : (own : Option RefFault) → own ≡ deletion_fault (has_key key) reference
+        → ChangesFit true r (Removal key) (searched_lists refs)
+        (searched_lists (unless_refused own (after_deletion refs r (has_key key)) refs))
+    go (Some fault) own =
+        same_list (Removal key) (searched_lists refs) r (version_entries reference None) (list_at refs r reference is)
+        (none_chosen (has_key key) (version_entries reference None)
+        (none_by (list_any (has_key key) (version_entries reference None)) fault own))
+    go None own =
+        rw (lists_with refs r reference (with_version None (without_entries (has_key key))) is)
+        (changed_list (Removal key) (searched_lists refs) r (version_entries reference None)
+        (version_entries (with_version None (without_entries (has_key key)) reference) None) (list_at refs r reference is)
+        (fewer key reference.versions))
+
+valued : (refs : References) (r : ℕ) (key value : List ℕ) (reference : Reference) → slice_get refs.references r ≡ Some reference
+    → list_any (has_key key) (version_entries reference None) ≡ true
+    → ChangesFit true r (NewValue key value) (searched_lists refs) (searched_lists (with_new_value refs r key value))
+valued refs r key value reference is here = go (fault_at refs r (value_fault (has_key key) value))
+  where
+    go : (own : Option RefFault)
+        → ChangesFit true r (NewValue key value) (searched_lists refs)
+        (searched_lists (unless_refused own (after_change_of_value refs r (has_key key) value) refs))
+    go (Some fault) =
+        same_list (NewValue key value) (searched_lists refs) r (version_entries reference None) (list_at refs r reference is)
+        (rw here (inl refl))
+    go None =
+        rw (lists_with refs r reference (with_version None (with_values (has_key key) value)) is)
+        (changed_list (NewValue key value) (searched_lists refs) r (version_entries reference None)
+        (version_entries (with_version None (with_values (has_key key) value) reference) None) (list_at refs r reference is)
+        (rw here (new_values key value reference.versions)))
+
+set_or_added : (refs : References) (r : ℕ) (key value : List ℕ) (reference : Reference) → slice_get refs.references r ≡ Some reference
+    → ChangesFit true r (NewValue key value) (searched_lists refs) (searched_lists (after_fit_change refs r (NewValue key value)))
+set_or_added refs r key value reference is = go (is_key_of refs r key) (key_here refs r key reference is)
+  where
+    go : (here : Bool) → here ≡ list_any (has_key key) (version_entries reference None)
+        → ChangesFit true r (NewValue key value) (searched_lists refs)
+        (searched_lists (if here then with_new_value refs r key value else with_pair refs r (record { key = key; value = value })))
+    go true here = valued refs r key value reference is (sym here)
+    go false none =
+        paired refs r (NewValue key value) (record { key = key; value = value }) reference is (λ after more. rw (← none) more)
+
+fit_lists : (refs : References) (r : ℕ) (asked : ListChange) → r < length refs.references
+    → ChangesFit true r asked (searched_lists refs) (searched_lists (after_fit_change refs r asked))
+fit_lists refs r (Addition key) within =
+    let found = reference_at refs r within in added refs r key found.0 found.1
+fit_lists refs r (Removal key) within =
+    let found = reference_at refs r within in removed refs r key found.0 found.1
+fit_lists refs r (NewValue key value) within =
+    let found = reference_at refs r within in set_or_added refs r key value found.0 found.1
+
+-- what a change that is fit makes of all lists
+pub changed_lists : (refs new : References) (r : ℕ) (asked : ListChange) → r < length refs.references → is_fit asked ≡ true
+    → new ≡ after_fit_change refs r asked → ChangesList r asked (searched_lists refs) (searched_lists new)
+changed_lists refs new r asked within fit is = rw (fit, is) (fit_lists refs r asked within)
