@@ -7,4 +7,5 @@ pub mod Fetches
 pub mod Convs
 pub mod Types
 pub mod Acls
+pub mod Actions
 pub mod Statements

@@ -11,6 +11,7 @@
 //! ```
 #![tactic(auto)]
 
+mod action;
 mod conv;
 mod expr;
 mod fetch;
@@ -19,10 +20,11 @@ mod statement;
 mod typing;
 mod val;
 
+pub use action::{Action, Format, Part, RedirectKind};
 pub use conv::Conv;
 pub use expr::{Convs, Expr};
 pub use fetch::Fetch;
 pub use items::Items;
-pub use statement::{AclUse, Action, Cond, Conj, Decl, Heads, Rule, Statement, Term, Texts};
+pub use statement::{AclUse, Cond, Conj, Decl, Heads, Rule, Statement, Term, Texts};
 pub use typing::kind_out;
 pub use val::Val;

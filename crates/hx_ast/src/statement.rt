@@ -1,3 +1,4 @@
+use crate::action::{Action, Format};
 use crate::expr::Expr;
 use crate::items::Items;
 use hx_text::{By, Octets};
@@ -49,14 +50,6 @@ pub struct Term {
     pub acl: AclUse,
 }
 
-/// What a rule of `http-request` does (HAProxy configuration manual 2.4, section 4.2): a variant
-/// for each action, whose fields are its arguments in their order.
-#[derive(Debug, Drop)]
-pub enum Action {
-    /// `deny [status N]`: the request is denied with the status N, 403 without it
-    Deny(Option<u16>),
-}
-
 /// A rule: an action, and when it is taken.
 #[derive(Debug, Drop)]
 pub struct Rule {
@@ -84,6 +77,26 @@ pub enum Statement {
         /// what it declares
         decl: Decl,
     },
-    /// `http-request`
+    /// `http-request ACTION [if|unless CONDITION]`
     Rule(Rule),
+    /// `redirect ..`: tried after the rules of `http-request`; its action is `Action::Redirect`
+    Redirect(Rule),
+    /// `use_backend FORMAT [if|unless CONDITION]`: what the format gives is the backend
+    Backend {
+        /// the number of its line in the configuration, counted from 1
+        line: u64,
+        /// FORMAT
+        format: Format,
+        /// whether it is taken where the condition doesn't hold, as with `unless`
+        unless: bool,
+        /// when it is taken, and always without one
+        cond: Option<Cond>,
+    },
+    /// `default_backend NAME`: the backend where no other is taken
+    Fallback {
+        /// the number of its line in the configuration, counted from 1
+        line: u64,
+        /// NAME
+        name: Octets,
+    },
 }

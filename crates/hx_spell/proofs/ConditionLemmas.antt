@@ -13,11 +13,11 @@ use Rattle.hx_ast.specs.declared.Term.{Term}
 use Rattle.hx_spell.specs.declared.fault.SpellFault.{SpellFault}
 use Rattle.hx_spell.specs.Arguments.{◌>>=◌}
 use Rattle.hx_spell.specs.Codes.{bad_condition}
-use Rattle.hx_spell.specs.Conditions.{Marks, Terms, after_marks, after_marks_word, cond_end, cond_from, cond_of, cond_reading, is_acl_name, is_known_acl, is_or, marks_of, named_term, next_conj, next_word, no_marks, no_terms, own_decl, own_term, with_conj, with_marks, with_term, word_inside, word_outside}
+use Rattle.hx_spell.specs.Conditions.{Terms, after_marks, after_marks_word, cond_end, cond_from, cond_of, cond_reading, is_acl_name, is_known_acl, is_or, marks_of, named_term, next_word, no_marks, no_terms, own_decl, own_term, with_conj, with_marks, with_term, word_inside, word_outside}
 use Rattle.hx_spell.specs.Declarations.{decl_of}
 use Rattle.hx_spell.specs.Known.{Known, Reading}
-use Rattle.hx_spell.specs.Relation.{SpellCond}
-use Rattle.hx_spell.proofs.ConditionReadLemmas.{cond_read, outside}
+use Rattle.hx_spell.specs.ConditionRelation.{SpellCond}
+use Rattle.hx_spell.proofs.ConditionReadLemmas.{cond_read}
 use Rattle.hx_spell.proofs.ConditionSpellLemmas.{cond_spells}
 use Rattle.hx_spell.proofs.ConditionWordLemmas.{name_is}
 use Rattle.hx_spell.proofs.DeclarationLemmas.{decl_coded, decl_is_decl}

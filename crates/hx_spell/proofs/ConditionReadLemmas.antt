@@ -1,6 +1,6 @@
 -- Words that spell a condition are read as it.
-use Rattle.std.proofs.Common.{◌≡◌, ◌≢◌, ℕ, zero, suc, ◌+◌, ◌<◌, Bool, true, false, List, [], ◌∷◌, ◌++◌, length, take, drop, map, position, None, Some, Ok, refl, sym, ◌∙◌, ap, subst, inl, inr, append_assoc, append-nil, arith}
-use Rattle.std.specs.Prelude.{◌||◌, Result, codes, option_map, sum}
+use Rattle.std.proofs.Common.{◌≡◌, ◌≢◌, ℕ, zero, suc, ◌+◌, ◌<◌, Bool, true, false, List, [], ◌∷◌, ◌++◌, length, drop, map, position, None, Some, Ok, refl, sym, ◌∙◌, ap, subst, inl, inr, append_assoc, append-nil, arith}
+use Rattle.std.specs.Prelude.{◌||◌, codes, option_map, sum}
 use Rattle.std.specs.List.{list_any}
 use Rattle.std.specs.Str.{bytes_eq}
 use Rattle.std.proofs.Math.Seq.{take-append_seam}
@@ -9,19 +9,17 @@ use Rattle.std.proofs.lemmas.List.Elements.{All-head, All-tail}
 use Rattle.hx_ast.specs.Acls.{IsAclName, is_name_byte}
 use Rattle.hx_ast.specs.declared.AclUse.{AclUse}
 use Rattle.hx_ast.specs.declared.AclUse.TheVariants.{Named, Own}
-use Rattle.hx_ast.specs.declared.Decl.{Decl}
 use Rattle.hx_ast.specs.declared.Term.{Term}
 use Rattle.hx_spell.specs.Arguments.{◌>>=◌}
 use Rattle.hx_spell.specs.ConditionView.{is_closing, marked, opened}
-use Rattle.hx_spell.specs.Conditions.{Marks, Terms, after_marks_word, cond_from, cond_of, is_known_acl, is_odd, is_or, no_marks, no_terms, own_decl, turned, with_marks, with_term, word_outside}
+use Rattle.hx_spell.specs.Conditions.{Marks, Terms, after_marks_word, cond_from, is_known_acl, is_odd, is_or, no_marks, turned, with_marks, with_term, word_outside}
 use Rattle.hx_spell.specs.Known.{Known, Reading}
-use Rattle.hx_spell.specs.Relation.{AreMarks, SpellCond, SpellConj, SpellNamed, SpellOwn, SpellTerm, marks}
-use Rattle.hx_spell.specs.Relation.SpellCond.{LastConj, NextConj}
-use Rattle.hx_spell.specs.Relation.SpellConj.{LastTerm, NextTerm}
-use Rattle.hx_spell.proofs.ConditionStepLemmas.{after_braces, closed_at, in_braces, position_first, position_later}
+use Rattle.hx_spell.specs.ConditionRelation.{AreMarks, SpellCond, SpellConj, SpellNamed, SpellOwn, SpellTerm, marks}
+use Rattle.hx_spell.specs.ConditionRelation.SpellCond.{LastConj, NextConj}
+use Rattle.hx_spell.specs.ConditionRelation.SpellConj.{LastTerm, NextTerm}
+use Rattle.hx_spell.proofs.ConditionStepLemmas.{after_braces, in_braces, position_first, position_later}
 use Rattle.hx_spell.proofs.ConditionWordLemmas.{BeginsUnmarked, after_written, counted, equal_bytes, is_or_of, marks_written, name_reads, name_unmarked, negated_by, odd_sum, other_bytes}
 use Rattle.hx_spell.proofs.DeclarationLemmas.{decl_law}
-use Rattle.hx_spell.proofs.ResultLemmas.{then_ok}
 
 -- ---- the terms outside braces
 

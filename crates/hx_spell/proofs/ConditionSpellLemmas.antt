@@ -1,6 +1,6 @@
 -- Words that are read as a condition spell it.
 use Rattle.std.proofs.Common.{◌≡◌, ℕ, ◌<◌, Bool, true, false, List, [], ◌∷◌, ◌++◌, map, None, Ok, Err, refl, sym, ◌∙◌, ap, subst, inl, inr, append_assoc, append-nil}
-use Rattle.std.specs.Prelude.{◌⊎◌, ◌+◌, ◌&&◌, ◌||◌, Result, codes, if◌then◌else◌, nat_lt, not, sum}
+use Rattle.std.specs.Prelude.{◌⊎◌, ◌+◌, ◌&&◌, Result, codes, if◌then◌else◌, nat_lt, not, sum}
 use Rattle.std.specs.List.{list_any}
 use Rattle.std.specs.Str.{bytes_eq}
 use Rattle.std.proofs.lemmas.Bool.{cases_Bool, ltb-true}
@@ -13,12 +13,12 @@ use Rattle.hx_ast.specs.declared.Term.{Term}
 use Rattle.hx_spell.specs.declared.fault.SpellFault.{SpellFault}
 use Rattle.hx_spell.specs.Arguments.{◌>>=◌}
 use Rattle.hx_spell.specs.Codes.{bad_condition, unknown_acl}
-use Rattle.hx_spell.specs.ConditionView.{is_closing, marked, opened}
-use Rattle.hx_spell.specs.Conditions.{Marks, Terms, after_marks, after_marks_word, cond_end, cond_from, is_acl_name, is_known_acl, is_odd, is_or, marks_of, named_term, next_conj, no_marks, own_decl, own_term, with_conj, with_marks, with_term}
+use Rattle.hx_spell.specs.ConditionView.{is_closing, marked}
+use Rattle.hx_spell.specs.Conditions.{Marks, Terms, after_marks, after_marks_word, cond_end, cond_from, is_acl_name, is_known_acl, is_odd, is_or, marks_of, named_term, next_conj, no_marks, own_decl, with_marks, with_term}
 use Rattle.hx_spell.specs.Known.{Known, Reading}
-use Rattle.hx_spell.specs.Relation.{AreMarks, IsOr, SpellCond, SpellConj, SpellNamed, SpellOwn, SpellTerm, marks}
-use Rattle.hx_spell.specs.Relation.SpellCond.{LastConj, NextConj}
-use Rattle.hx_spell.specs.Relation.SpellConj.{LastTerm, NextTerm}
+use Rattle.hx_spell.specs.ConditionRelation.{AreMarks, IsOr, SpellCond, SpellConj, SpellNamed, SpellOwn, SpellTerm, marks}
+use Rattle.hx_spell.specs.ConditionRelation.SpellCond.{LastConj, NextConj}
+use Rattle.hx_spell.specs.ConditionRelation.SpellConj.{LastTerm, NextTerm}
 use Rattle.hx_spell.proofs.ConditionReadLemmas.{negated_whole, outside}
 use Rattle.hx_spell.proofs.ConditionStepLemmas.{own_then, with_inside}
 use Rattle.hx_spell.proofs.ConditionWordLemmas.{counted, counted_last, equal_bytes, marks_split, name_is, none_counted, not_true, or_is, other_bytes, same_bytes}

@@ -1,14 +1,12 @@
 -- The steps of the code through the words of a condition.
-use Rattle.std.proofs.Common.{◌≡◌, ℕ, zero, suc, ◌+◌, ◌-◌, Bool, true, false, List, [], ◌∷◌, ◌++◌, length, take, drop, position, Option, None, Some, Ok, Err, refl, sym, ◌∙◌, ap, inl, inr, cond, append_assoc, append-nil, add-one, arith}
+use Rattle.std.proofs.Common.{◌≡◌, ℕ, suc, ◌+◌, Bool, true, false, List, [], ◌∷◌, ◌++◌, length, take, drop, position, Option, None, Some, Ok, Err, refl, sym, ◌∙◌, ap, inl, inr, cond, append_assoc, append-nil, add-one, arith}
 use Rattle.std.specs.Bool.{beq}
 use Rattle.std.proofs.lemmas.Bool.{cases_lt, le-ltb, lt-ltb}
 use Rattle.std.proofs.Math.Dec.{ltb}
 use Rattle.std.proofs.Math.Numerals.{one-add}
 use Rattle.std.specs.List.{list_all, prefix_len}
 use Rattle.hx_ast.specs.Acls.{is_name_byte}
-use Rattle.std.specs.Prelude.{◌==◌, ◌||◌, nat_lt, not, option_map, Result, codes, if◌then◌else◌}
-use Rattle.std.specs.Str.{bytes_eq}
-use Rattle.std.proofs.lemmas.Option.{none-some, same_Some}
+use Rattle.std.specs.Prelude.{◌==◌, ◌||◌, nat_lt, not, option_map, Result}
 use Rattle.hx_ast.specs.declared.AclUse.TheVariants.{Own}
 use Rattle.hx_ast.specs.declared.Decl.{Decl}
 use Rattle.hx_ast.specs.declared.Term.{Term}

@@ -1,7 +1,7 @@
 -- The words of conditions: marks, names, and what stands between conjunctions.
-use Rattle.std.proofs.Common.{◌≡◌, ◌≢◌, ℕ, zero, suc, ◌+◌, ◌<◌, ◌%◌, Bool, true, false, List, [], ◌∷◌, ◌++◌, length, drop, refl, sym, ◌∙◌, ap, subst, arith, inl, inr, replicate}
-use Rattle.std.specs.Prelude.{◌==◌, ◌&&◌, ◌||◌, ◌⊎◌, codes, nat_lt, not, sum}
-use Rattle.std.specs.List.{All, AllPass, list_all, prefix_len}
+use Rattle.std.proofs.Common.{◌≡◌, ◌≢◌, ℕ, zero, suc, ◌+◌, ◌<◌, ◌%◌, Bool, true, false, List, [], ◌∷◌, ◌++◌, length, drop, refl, sym, ◌∙◌, ap, subst, arith, inl, inr}
+use Rattle.std.specs.Prelude.{◌==◌, ◌||◌, ◌⊎◌, codes, nat_lt, not, sum}
+use Rattle.std.specs.List.{list_all}
 use Rattle.std.specs.Str.{bytes_eq}
 use Rattle.std.proofs.Math.Numerals.{one-add}
 use Rattle.std.proofs.lemmas.Bool.{eqb-true, lt-ltb, ltb-true}
@@ -11,7 +11,7 @@ use Rattle.std.proofs.lemmas.List.Sums.{AllPass-from_list_all, list_all-from_All
 use Rattle.std.proofs.lemmas.Slice.Eq.{bytes_eq-Decides}
 use Rattle.hx_ast.specs.Acls.{IsAclName, is_name_byte}
 use Rattle.hx_spell.specs.Conditions.{Marks, after_marks, exclamation_mark, is_acl_name, is_name, is_odd, is_or, marks_of, no_marks, turned, with_marks}
-use Rattle.hx_spell.specs.Relation.{AreMarks, IsOr, marks}
+use Rattle.hx_spell.specs.ConditionRelation.{AreMarks, IsOr, marks}
 use Rattle.hx_spell.proofs.ResultLemmas.{both}
 
 -- ---- bytes

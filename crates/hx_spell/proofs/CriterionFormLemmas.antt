@@ -28,7 +28,7 @@ use Rattle.hx_spell.specs.Arguments.{◌>>=◌, optional}
 use Rattle.hx_spell.specs.Codes.{bad_argument, form_fault}
 use Rattle.hx_spell.specs.Criteria.{Criterion, FetchWay, MapWay, MethodFetch, conv_by, conv_call, conv_fault_by, convs_after, criterion, criterion_of_steps, derived_fetches, derived_methods, derived_of_parts, derived_way, fetch_by, fetch_fault_by, fetch_way, map_arguments, map_file, map_table, plain_conv, plain_way, value_of_map}
 use Rattle.hx_spell.specs.Expressions.{call_meaning, fault_of, made_of}
-use Rattle.hx_spell.specs.Known.{Known, Reading, ReferenceForm, file_form, file_or_new, has_columns, most_references, nothing_known, with_file, with_reference}
+use Rattle.hx_spell.specs.Known.{Known, Reading, ReferenceForm, file_form, file_or_new, has_columns, most_references, named_reading, nothing_known, with_file, with_named_file, with_reference}
 use Rattle.hx_spell.specs.Tables.{Maker, Table, conv_table, entry_at, fetch_table}
 use Rattle.hx_spell.proofs.CallTextLemmas.{IsReading}
 use Rattle.hx_spell.proofs.ResultLemmas.{Gives, both, some_map, then_gives}
@@ -59,6 +59,13 @@ pub file_coded : (line : ℕ) (name : List ℕ) (two : Bool) (known : Known)
     → IsCoded (with_file line name two known)
 file_coded line name two known = found_coded (file_form line name two) known _
 
+-- the same of a file that `-f` or a map converter names
+pub named_file_coded : (line : ℕ) (name : List ℕ) (two : Bool) (known : Known)
+    → IsCoded (with_named_file line name two known)
+named_file_coded line name two known =
+    then_gives (λ file. Unit {0}) (λ file. Unit {0}) (with_file line name two known)
+    (λ file. Ok (named_reading file)) (file_coded line name two known) (λ file any. tt)
+
 -- ---- tables
 
 entry_by : {A : Type 0} (P : A → Type 0) (b : Bool) (first : A) (later : Option A) → P first
@@ -67,11 +74,11 @@ entry_by P true first later such others = such
 entry_by P false first later such others = others
 
 -- what stands in each row is such
-abbrev EachEntry : {A : Type 0} → (A → Type 0) → Table A → Type 0
+abbrev pub EachEntry : {A : Type 0} → (A → Type 0) → Table A → Type 0
 EachEntry P [] = Unit {0}
 EachEntry P (row ∷ rows) = P row.1 × EachEntry P rows
 
-entry_such : {A : Type 0} (P : A → Type 0) (table : Table A) → EachEntry P table
+pub entry_such : {A : Type 0} (P : A → Type 0) (table : Table A) → EachEntry P table
     → (name : List ℕ) → IfSome (entry_at table name) P
 entry_such P [] each name = tt
 entry_such P (row ∷ rows) each name =
@@ -98,7 +105,7 @@ each_map = each_passes (λ (way : MapWay). is_map_method way.by) map_table refl
 pub map_entry : (name : List ℕ) → IfSome (entry_at map_table name) IsMapWay
 map_entry name = entry_such IsMapWay map_table each_map name
 
-map_value_such : (out : Out) → ReadsSuch (IsReadableAs out) (value_of_map out)
+pub map_value_such : (out : Out) → ReadsSuch (IsReadableAs out) (value_of_map out)
 map_value_such output.Str text x is = tt
 map_value_such output.Int text x is =
     let (n, read, same) = some_map (λ n. text) (int_of text) x is in
@@ -114,7 +121,7 @@ ReadsConv read = IsConv read.value
 map_file_coded : (line : ℕ) (name : Option (List ℕ)) (known : Known)
     → IsCoded (map_file line name known)
 map_file_coded line None known = tt
-map_file_coded line (Some name) known = file_coded line name true known
+map_file_coded line (Some name) known = named_file_coded line name true known
 
 map_gives : (line : ℕ) (way : MapWay) → IsMapWay way → (args : List (List ℕ)) (known : Known)
     → Gives ReadsConv (map_arguments line way args known)
@@ -143,7 +150,7 @@ conv_call_gives line call known =
     conv_by_gives line (entry_at map_table call.name)
     (map_entry call.name) call known
 
-fault_gives : {A : Type 0} (P : A → Type 0) (fault : ArgFault) → fault ≢ arg.NoMemory
+pub fault_gives : {A : Type 0} (P : A → Type 0) (fault : ArgFault) → fault ≢ arg.NoMemory
     → Gives P (Err (form_fault fault))
 fault_gives P arg.Unclosed never = tt
 fault_gives P arg.AfterClose never = tt
@@ -171,7 +178,7 @@ abbrev pub with_first : Reading Conv → Reading (List Conv) → Result (Reading
 with_first first others =
     Ok (record { value = first.value ∷ others.value; known = others.known })
 
-none_gives : (line : ℕ) (steps : List Step) (known : Known) → steps ≡ []
+pub none_gives : (line : ℕ) (steps : List Step) (known : Known) → steps ≡ []
     → Gives ReadsConvs (convs_after line steps known)
 none_gives line [] known is = tt
 none_gives line (step ∷ steps) known is = absurd (let never : ⊥ = cc in never)
@@ -185,7 +192,7 @@ first_gives line steps read such later =
     (λ first fits. then_gives ReadsConvs ReadsConvs (convs_after line steps first.known)
     (with_first first) (later first.known) (λ others all. (fits, all)))
 
-convs_give : (line : ℕ) (steps : List Step) (known : Known) → IsReading steps
+pub convs_give : (line : ℕ) (steps : List Step) (known : Known) → IsReading steps
     → calls_of_steps steps ≢ Err arg.NoMemory → Gives ReadsConvs (convs_after line steps known)
 convs_give line [] known reading never = tt
 convs_give line (Last call rest ∷ steps) known reading never =

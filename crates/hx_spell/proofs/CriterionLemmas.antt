@@ -17,7 +17,7 @@ use Rattle.hx_spell.specs.Codes.{unsupported}
 use Rattle.hx_spell.specs.Criteria.{Criterion, FetchWay, MapWay, MethodFetch, conv_call, conv_fault_by, convs_after, criterion, criterion_of, criterion_of_steps, fetch_by, fetch_fault_by, fetch_way, map_table, plain_conv}
 use Rattle.hx_spell.specs.Expressions.{fault_of}
 use Rattle.hx_spell.specs.Known.{Known, Reading, nothing_known}
-use Rattle.hx_spell.specs.Relation.{WriteConvs, WritesCriterion}
+use Rattle.hx_spell.specs.ExpressionRelation.{WriteConvs, WritesCriterion}
 use Rattle.hx_spell.specs.Tables.{Maker, conv_table, entry_at}
 use Rattle.hx_spell.proofs.CallTextLemmas.{AreOf, IsReading, is_reading, longer_is, read_as, same_calls, spelled_steps, steps_never_lack, steps_spelled}
 use Rattle.hx_spell.proofs.CriterionFormLemmas.{ReadsCriterion, steps_give, with_first}
@@ -31,14 +31,14 @@ then_same (Err fault) f g same = refl
 -- ---- converters
 
 -- the converters of calls
-abbrev convs_of_calls : ℕ → List CallForm → Known → Result (Reading (List Conv)) SpellFault
+abbrev pub convs_of_calls : ℕ → List CallForm → Known → Result (Reading (List Conv)) SpellFault
 convs_of_calls line [] known = Ok (record { value = []; known = known })
 convs_of_calls line (call ∷ calls) known =
     conv_call line call known >>= (λ first. convs_of_calls line calls first.known >>=
     with_first first)
 
 -- steps that are of these calls
-convs_by_calls : (line : ℕ) (steps : List Step) (calls : List CallForm) (rest : List ℕ)
+pub convs_by_calls : (line : ℕ) (steps : List Step) (calls : List CallForm) (rest : List ℕ)
     (known : Known) → IsReading steps → calls_of_steps steps ≡ read_as calls rest
     → convs_after line steps known ≡ convs_of_calls line calls known
 convs_by_calls line [] calls rest known reading is =
@@ -70,16 +70,16 @@ no_conv None name fault x is =
     no_fault (entry_at conv_table name) fault (λ c. Ok (plain_conv nothing_known c)) x is
 
 -- the steps are of calls
-abbrev Called : List Step → Type 0
+abbrev pub Called : List Step → Type 0
 Called steps = (calls : List CallForm) × AreOf calls steps
 
-longer_called : (call : CallForm) (rest : List ℕ) (steps : List Step) → Called steps
+pub longer_called : (call : CallForm) (rest : List ℕ) (steps : List Step) → Called steps
     → Called (More call rest ∷ steps)
 longer_called call rest steps (calls, (left, are)) =
     (call ∷ calls, (left, ap (λ r. longer_calls call r) are))
 
 -- steps that are read as converters have no fault
-convs_called : (line : ℕ) (steps : List Step) (known : Known) (convs : Reading (List Conv))
+pub convs_called : (line : ℕ) (steps : List Step) (known : Known) (convs : Reading (List Conv))
     → convs_after line steps known ≡ Ok convs → Called steps
 convs_called line [] known convs is = ([], ([], refl))
 convs_called line (Last call rest ∷ steps) known convs is = (call ∷ [], (rest, refl))
@@ -96,7 +96,7 @@ convs_called line (Faulty name fault ∷ steps) known convs is =
     (λ first. convs_after line steps first.known >>= with_first first) convs is in
     absurd (no_conv (entry_at map_table name) name fault first made)
 
-convs_written : (line : ℕ) (calls : List CallForm) (known : Known) (convs : Reading (List Conv))
+pub convs_written : (line : ℕ) (calls : List CallForm) (known : Known) (convs : Reading (List Conv))
     → convs_of_calls line calls known ≡ Ok convs → WriteConvs line known calls convs
 convs_written line [] known convs is = cc
 convs_written line (call ∷ calls) known convs is =
@@ -107,7 +107,7 @@ convs_written line (call ∷ calls) known convs is =
     and_then_ok (convs_of_calls line calls first.known) (with_first first) convs after in
     (first, others, cc, made, convs_written line calls first.known others read)
 
-convs_read : (line : ℕ) (calls : List CallForm) (known : Known) (convs : Reading (List Conv))
+pub convs_read : (line : ℕ) (calls : List CallForm) (known : Known) (convs : Reading (List Conv))
     → WriteConvs line known calls convs → convs_of_calls line calls known ≡ Ok convs
 convs_read line [] known convs is = ap (λ c. Ok c) (sym is)
 convs_read line (call ∷ calls) known convs (first, others, is, made, write) =
@@ -172,7 +172,7 @@ criterion_of_whole : (line : ℕ) (text : List ℕ) (known : Known) (calls : Lis
     → criterion_of line text known ≡ criterion_of_calls line calls known
 unfolding criterion_of
 criterion_of_whole line text known calls (rest, are) =
-    criterion_by_calls line (steps_of None text) calls rest known (is_reading text) are
+    criterion_by_calls line (steps_of None text) calls rest known (is_reading None text) are
 
 written : (line : ℕ) (text : List ℕ) (before : Known) (calls : List CallForm)
     (read : Reading Criterion) → SpellsCalls None calls text
@@ -228,7 +228,7 @@ criterion_gives : (line : ℕ) (text : List ℕ) (before : Known)
     → Gives ReadsCriterion (criterion_of line text before)
 unfolding criterion_of
 criterion_gives line text before =
-    steps_give line (steps_of None text) before (is_reading text) (steps_never_lack text)
+    steps_give line (steps_of None text) before (is_reading None text) (steps_never_lack None text)
 
 -- a text that is refused is refused by a code
 pub criterion_coded : (line : ℕ) (text : List ℕ) (before : Known)

@@ -1,7 +1,7 @@
 -- A text and words are read as the ACL that they spell, so they spell one at most; others are
 -- refused by a code.
 use Rattle.std.proofs.Common.{◌≡◌, ◌≢◌, ◌↔◌, ℕ, ◌||◌, Bool, true, false, cond, List, [], ◌∷◌, Option, None, Some, Ok, Err, refl, sym, ◌∙◌, subst}
-use Rattle.std.specs.Prelude.{Result, is_some, position, nat_lt, length}
+use Rattle.std.specs.Prelude.{Result, is_some}
 use Rattle.std.specs.Option.{ok_or}
 use Rattle.hx_text.specs.declared.By.{By}
 use Rattle.hx_text.specs.declared.Kind.{Kind}
@@ -15,14 +15,15 @@ use Rattle.hx_ast.specs.Types.{expr_kind}
 use Rattle.hx_spell.specs.declared.fault.SpellFault.{SpellFault}
 use Rattle.hx_spell.specs.declared.fault.SpellFault.TheVariants as spell
 use Rattle.hx_spell.specs.Arguments.{◌>>=◌}
-use Rattle.hx_spell.specs.Codes.{bad_argument, file_kind, too_many_references, unsupported}
+use Rattle.hx_spell.specs.Codes.{bad_argument, unsupported}
 use Rattle.hx_spell.specs.Criteria.{Criterion, criterion_of}
 use Rattle.hx_spell.specs.Declarations.{Way, bare_decl, decl_by, decl_of, decl_reading, file_heads, has_no_patterns, heads_of_keys, ignores_case, pattern_decl, unless_fault, way_of, way_of_kind, with_words_head, words_form, words_head}
 use Rattle.hx_spell.specs.Flags.{AfterFlags, Flag, Flags, IgnoreCase, TwoColumns, Numeric, File, Method, Number, End, begins_as_flag, flag_argument, flag_table, flag_word, flags_end, flags_from, may_stand, method_table, no_flags, with_searched}
-use Rattle.hx_spell.specs.Known.{Known, Reading, ReferenceForm, file_form, file_or_new, has_columns, is_of_file, most_references, with_file, with_reference}
+use Rattle.hx_spell.specs.Known.{Known, Reading, with_named_file, with_reference}
 use Rattle.hx_spell.specs.Patterns.{Keys, Operator, compares_numbers, key_or_fault, keys_of, number_keys, operator_or_key, operator_table, word_key}
-use Rattle.hx_spell.specs.Relation.{SpellDecl}
+use Rattle.hx_spell.specs.AclRelation.{SpellDecl}
 use Rattle.hx_spell.specs.Tables.{entry_at}
+use Rattle.hx_spell.proofs.CriterionFormLemmas.{named_file_coded, reference_coded}
 use Rattle.hx_spell.proofs.CriterionLemmas.{criterion_coded, criterion_is_expr, criterion_law}
 use Rattle.hx_spell.proofs.FlagLemmas.{after_flags, flags_law}
 use Rattle.hx_spell.proofs.ResultLemmas.{Gives, and_then_ok, both, given_value, never_without_memory, then_gives, then_ok}
@@ -145,25 +146,14 @@ coded_tested : {A : Type 0} (b : Bool) (r s : Result A SpellFault)
 coded_tested {A} b r s first second =
     tested_gives (λ (x : A). Unit {0}) b r s (λ yes. first) (λ no. second)
 
-reference_coded : (form : ReferenceForm) (known : Known) → IsCoded (with_reference form known)
-reference_coded form known =
-    coded_tested (nat_lt (length known.references) most_references) _ (Err too_many_references) tt tt
-
-file_coded : (form : ReferenceForm) (known : Known) (found : Option ℕ)
-    → IsCoded (file_or_new form known found)
-file_coded form known (Some place) =
-    coded_tested (has_columns known place form.two_column) _ (Err file_kind) tt tt
-file_coded form known None = reference_coded form known
-
 argument_coded : (line : ℕ) (flag : Flag) (text : List ℕ) (flags : Flags) (known : Known)
     → IsCoded (flag_argument line flag text flags known)
 argument_coded line IgnoreCase text flags known = tt
 argument_coded line TwoColumns text flags known = tt
 argument_coded line Numeric text flags known = tt
 argument_coded line File text flags known =
-    then_coded (with_file line text flags.two known) (λ file. Ok (with_searched flags file))
-    (file_coded (file_form line text flags.two) known (position (is_of_file text) known.references))
-    (λ file. tt)
+    then_coded (with_named_file line text flags.two known) (λ file. Ok (with_searched flags file))
+    (named_file_coded line text flags.two known) (λ file. tt)
 argument_coded line Method text flags known =
     then_coded (ok_or (entry_at method_table text) unsupported) _
     (found_coded (entry_at method_table text) 9) (λ by. tt)

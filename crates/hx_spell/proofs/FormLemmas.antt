@@ -69,9 +69,13 @@ unless_none : (b : Bool) (o : Option ℕ) (n : ℕ) → cond b None o ≡ Some n
 unless_none true o n is = absurd (none-some n is)
 unless_none false o n is = is
 
-pub width_such : (text : List ℕ) (n : ℕ) → width_of 128 text ≡ Some n → n ≤ 128
+pub width_within : (most : ℕ) (text : List ℕ) (n : ℕ) → width_of most text ≡ Some n → n ≤ most
 unfolding width_of
-width_such text n is = number_within 128 text n (unless_none _ (number_up_to 128 text) n is)
+width_within most text n is =
+    number_within most text n (unless_none _ (number_up_to most text) n is)
+
+pub width_such : (text : List ℕ) (n : ℕ) → width_of 128 text ≡ Some n → n ≤ 128
+width_such text n is = width_within 128 text n is
 
 -- ---- texts
 

@@ -35,8 +35,10 @@ extends_refl known = record {
   heads = begins_refl known.heads;
   outputs = begins_refl known.outputs;
   acls = begins_refl known.acls;
+  named = begins_refl known.named;
   names = refl;
   begun = refl;
+  fallback = refl;
 }
 
 pub extends_trans : (a b c : Known) → Extends a b → Extends b c → Extends a c
@@ -45,6 +47,8 @@ extends_trans a b c first second = record {
   heads = begins_trans a.heads b.heads c.heads first.heads second.heads;
   outputs = begins_trans a.outputs b.outputs c.outputs first.outputs second.outputs;
   acls = begins_trans a.acls b.acls c.acls first.acls second.acls;
+  named = begins_trans a.named b.named c.named first.named second.named;
   names = second.names ∙ first.names;
   begun = second.begun ∙ first.begun;
+  fallback = second.fallback ∙ first.fallback;
 }

@@ -1,40 +1,41 @@
 -- Lines are read as they are spelled, and what is read is a statement of the syntax.
-use Rattle.std.proofs.Common.{◌≡◌, ℕ, ◌≤◌, Bool, true, false, cond, List, [], ◌∷◌, Option, None, Some, Ok, Err, refl, ◌∙◌, ap, subst, inl, inr}
-use Rattle.std.specs.Prelude.{◌↔◌, ◌≢◌, IfErr, IfOk, Result, codes, if◌then◌else◌, nat_le, option_and_then}
-use Rattle.std.specs.List.{list_any}
+use Rattle.std.proofs.Common.{◌≡◌, ℕ, Bool, true, false, List, [], ◌∷◌, Option, None, Some, Ok, Err, inl, inr}
+use Rattle.std.specs.Prelude.{◌↔◌, ◌≢◌, IfErr, IfOk, IfSome, Result, codes, if◌then◌else◌, length, nat_lt}
+use Rattle.std.specs.List.{list_all, list_any}
 use Rattle.std.specs.Option.{ok_or}
 use Rattle.std.specs.Str.{bytes_eq}
-use Rattle.std.proofs.lemmas.Bool.{cases_Bool, leb-true}
-use Rattle.hx_text.specs.Network.{width_of}
-use Rattle.hx_text.specs.Number.{number_of, number_up_to}
-use Rattle.hx_words.specs.declared.ArgFault.{ArgFault}
-use Rattle.hx_words.specs.declared.ArgFault.TheVariants as arg
-use Rattle.hx_words.specs.CallForm.{CallForm}
-use Rattle.hx_words.specs.Calls.{Step, step_of}
-use Rattle.hx_words.specs.Calls.Step.{Last, More, Faulty}
-use Rattle.hx_words.proofs.CallLemmas.{step_never_out_of_memory}
-use Rattle.hx_ast.specs.Acls.{IsCond, IsDecl}
-use Rattle.hx_ast.specs.Statements.{IsAction, IsStatement, IsStatus}
+use Rattle.std.proofs.lemmas.Bool.{cases_Bool, ltb-true}
+use Rattle.std.proofs.lemmas.List.Sums.{AllPass-from_list_all}
+use Rattle.hx_words.specs.Calls.{step_of}
+use Rattle.hx_ast.specs.Acls.{IsCond, IsDecl, is_name_byte}
+use Rattle.hx_ast.specs.Actions.{IsAction, IsFormat}
+use Rattle.hx_ast.specs.Statements.{IsProxyName, IsRule, IsStatement}
+use Rattle.hx_ast.specs.declared.Action.{Action}
 use Rattle.hx_ast.specs.declared.Decl.{Decl}
+use Rattle.hx_ast.specs.declared.Part.{Part}
+use Rattle.hx_ast.specs.declared.Rule.{Rule}
 use Rattle.hx_ast.specs.declared.Statement.{Statement}
 use Rattle.hx_ast.specs.declared.Statement.TheVariants as statement
 use Rattle.hx_ast.specs.declared.Term.{Term}
 use Rattle.hx_spell.specs.declared.fault.SpellFault.{SpellFault}
 use Rattle.hx_spell.specs.declared.fault.SpellFault.TheVariants as spell
+use Rattle.hx_spell.specs.Actions.{Taken, action_words, format_word, head_of_step, with_redirect}
 use Rattle.hx_spell.specs.Arguments.{◌>>=◌}
-use Rattle.hx_spell.specs.Codes.{bad_argument, bad_name, form_fault, misplaced, unsupported}
+use Rattle.hx_spell.specs.Codes.{bad_argument, bad_name, misplaced, unsupported}
 use Rattle.hx_spell.specs.Conditions.{cond_of, is_acl_name, is_name}
 use Rattle.hx_spell.specs.Declarations.{decl_of}
 use Rattle.hx_spell.specs.Known.{Known, Reading, ReadsAs}
-use Rattle.hx_spell.specs.Lines.{AfterAction, Keyword, acl_after_name, acl_of, acl_statement, action_fault, arguments_fault, deny_after, deny_of, deny_with, frontend_fault, is_status_word, keyword_statement, keyword_table, line_of, mode_fault, option_fault, placed_frontend_fault, plain_options, plain_unless, polarity_table, rule_after, rule_of, rule_reading, rule_unless, status_of, then_begun, when_action}
-use Rattle.hx_spell.specs.Lines.Keyword.{Frontend, Mode, Options, Ignored, Acl, HttpRequest}
+use Rattle.hx_spell.specs.Lines.{Keyword, When, acl_after_name, acl_of, acl_statement, backend_of, fallback_named, fallback_of, frontend_fault, keyword_statement, keyword_table, line_of, mode_fault, option_fault, placed_frontend_fault, plain_options, plain_unless, polarity_table, redirect_of, rule_of, rule_reading, rule_statement, then_begun, when_of, when_reading}
+use Rattle.hx_spell.specs.Lines.Keyword.{Frontend, Mode, Options, Ignored, Acl, HttpRequest, Redirect, UseBackend, DefaultBackend}
 use Rattle.hx_spell.specs.Relation.{SpellLine}
 use Rattle.hx_spell.specs.Tables.{entry_at}
+use Rattle.hx_spell.proofs.ActionFormLemmas.{IsRedirectAction, ReadsHead, format_word_gives, head_gives, redirect_gives, words_give}
 use Rattle.hx_spell.proofs.ConditionLemmas.{cond_gives, decl_gives}
 use Rattle.hx_spell.proofs.ConditionWordLemmas.{name_is}
 use Rattle.hx_spell.proofs.LineReadLemmas.{line_reads}
 use Rattle.hx_spell.proofs.LineSpellLemmas.{line_spells}
-use Rattle.hx_spell.proofs.ResultLemmas.{Gives, given_value, never_without_memory, some_and_then, then_gives}
+use Rattle.hx_spell.proofs.LineSteps.{backend_when, made, rule_when}
+use Rattle.hx_spell.proofs.ResultLemmas.{Gives, both, given_value, never_without_memory, then_gives}
 
 -- words are read as the statement that they spell, and as no other
 pub line_law : (line : ℕ) (words : List (List ℕ)) (before : Known) (read : Reading Statement)
@@ -105,116 +106,112 @@ acl_gives line (name ∷ words) known =
 
 -- ---- rules
 
-when_code : (name : List ℕ) (fault : Option SpellFault) → IsCode fault
-    → IsCode (when_action name fault)
-when_code name fault is = code_if (bytes_eq name (codes "deny")) fault (Some unsupported) is tt
+abbrev GivesWhen : Result (Reading When) SpellFault → Type 0
+GivesWhen r = Gives (λ (when : Reading When). IfSome when.value.cond IsCond) r
 
-form_code : (fault : ArgFault) → fault ≢ arg.NoMemory → IsCode (Some (form_fault fault))
-form_code arg.Unclosed never = tt
-form_code arg.AfterClose never = tt
-form_code arg.BadEscape never = tt
-form_code arg.OpenQuote never = tt
-form_code arg.NoMemory never = never refl
-
-arguments_code : (args : List (List ℕ)) → IsCode (arguments_fault args)
-arguments_code [] = tt
-arguments_code (arg ∷ args) = tt
-
-action_code : (word : List ℕ) (step : Step) → step_of None word ≡ step → IsCode (action_fault step)
-action_code word (Last call rest) is =
-    when_code call.name (arguments_fault call.args) (arguments_code call.args)
-action_code word (More call rest) is = when_code call.name (Some bad_argument) tt
-action_code word (Faulty name fault) is =
-    when_code name (Some (form_fault fault))
-    (form_code fault (λ memory. step_never_out_of_memory None word name
-    (is ∙ ap (λ f. Faulty name f) memory)))
-
-number_if : (b : Bool) (k n : ℕ) → (if b then Some k else None) ≡ Some n → (b ≡ true) × (k ≡ n)
-number_if true k n is = (refl, cc)
-number_if false k n is = absurd (let bad : None ≡ Some n = is in cc)
-
-number_within : (most : ℕ) (text : List ℕ) (n : ℕ) → number_up_to most text ≡ Some n → n ≤ most
-unfolding number_up_to
-number_within most text n is =
-    let (k, read, same) = some_and_then (λ k. if nat_le k most then Some k else None)
-    (number_of text) n is in
-    let (within, equal) = number_if (nat_le k most) k n same in
-    subst (λ (m : ℕ). m ≤ most) equal (leb-true k most within)
-
-unless_none : (b : Bool) (o : Option ℕ) (n : ℕ) → (if b then None else o) ≡ Some n → o ≡ Some n
-unless_none true o n is = absurd (let bad : None ≡ Some n = is in cc)
-unless_none false o n is = is
-
-width_within : (most : ℕ) (text : List ℕ) (n : ℕ) → width_of most text ≡ Some n → n ≤ most
-unfolding width_of
-width_within most text n is =
-    number_within most text n (unless_none _ (number_up_to most text) n is)
-
-status_is : (text : List ℕ) (n : ℕ) → status_of text ≡ Some n → IsStatus n
-status_is text n is =
-    let (k, read, same) = some_and_then (λ k. if nat_le 200 k then Some k else None)
-    (width_of 599 text) n is in
-    let (least, equal) = number_if (nat_le 200 k) k n same in
-    subst IsStatus equal (record {
-      least = leb-true 200 k least;
-      most = width_within 599 text k read;
-    })
-
-abbrev GivesAfter : Result AfterAction SpellFault → Type 0
-GivesAfter r = Gives (λ (after : AfterAction). IsAction after.action) r
-
-status_gives : (text : List ℕ) (words : List (List ℕ)) (status : Option ℕ)
-    → status_of text ≡ status
-    → GivesAfter (ok_or status bad_argument >>= (λ status. Ok (deny_with (Some status) words)))
-status_gives text words None is = tt
-status_gives text words (Some n) is = status_is text n is
-
-after_gives : (word : List ℕ) (words : List (List ℕ)) → GivesAfter (deny_after word words)
-after_gives word [] = tt
-after_gives word (text ∷ words) = status_gives text words (status_of text) refl
-
-deny_gives : (words : List (List ℕ)) → GivesAfter (deny_of words)
-deny_gives [] = tt
-deny_gives (word ∷ words) =
-    elim (cases_Bool (is_status_word word)) [
-      | inl status ↦ rw status (after_gives word words)
-      | inr other ↦ rw other tt
-    ]
-
-cond_then : (line : ℕ) (after : AfterAction) (words : List (List ℕ)) (known : Known)
-    (unless : Option Bool) → IsAction after.action
-    → GivesStatement (ok_or unless bad_argument
+polarity_gives : (line : ℕ) (words : List (List ℕ)) (known : Known) (unless : Option Bool)
+    → GivesWhen (ok_or unless bad_argument
     >>= (λ unless. cond_of line words known
-    >>= (λ cond. Ok (rule_reading line after.action unless (Some cond.value) cond.known))))
-cond_then line after words known None is = tt
-cond_then line after words known (Some unless) is =
+    >>= (λ cond. Ok (when_reading unless (Some cond.value) cond.known))))
+polarity_gives line words known None = tt
+polarity_gives line words known (Some unless) =
     then_gives (λ (read : Reading (List (List Term))). IsCond read.value)
-    (λ (read : Reading Statement). IsStatement read.value) (cond_of line words known)
-    (λ cond. Ok (rule_reading line after.action unless (Some cond.value) cond.known))
-    (cond_gives line words known) (λ cond such. record { action = is; cond = such })
+    (λ (when : Reading When). IfSome when.value.cond IsCond) (cond_of line words known)
+    (λ cond. Ok (when_reading unless (Some cond.value) cond.known)) (cond_gives line words known)
+    (λ cond such. such)
 
-rule_gives : (line : ℕ) (after : AfterAction) (words : List (List ℕ)) (known : Known)
-    → IsAction after.action → GivesStatement (rule_after line after.action words known)
-rule_gives line after [] known is = record { action = is; cond = tt }
-rule_gives line after (word ∷ words) known is =
-    cond_then line after words known (entry_at polarity_table word) is
+when_gives : (line : ℕ) (words : List (List ℕ)) (known : Known)
+    → GivesWhen (when_of line words known)
+when_gives line [] known = tt
+when_gives line (word ∷ words) known =
+    polarity_gives line words known (entry_at polarity_table word)
 
-unless_gives : (line : ℕ) (words : List (List ℕ)) (known : Known) (fault : Option SpellFault)
-    → IsCode fault → GivesStatement (rule_unless fault line words known)
-unless_gives line words known (Some (spell.Code n)) is = tt
-unless_gives line words known (Some spell.NoMemory) is = absurd is
-unless_gives line words known None is =
-    then_gives (λ (after : AfterAction). IsAction after.action)
-    (λ (read : Reading Statement). IsStatement read.value) (deny_of words)
-    (λ after. rule_after line after.action after.words known) (deny_gives words)
-    (λ after such. rule_gives line after after.words known such)
+-- a rule whose action is such
+abbrev RuleOf : (Action → Type 0) → Rule → Type 0
+RuleOf P rule = IsRule rule × P rule.action
+
+rule_gives : (line : ℕ) (make : Rule → Statement) (P : Action → Type 0)
+    → ((rule : Rule) → RuleOf P rule → IsStatement (make rule)) → (act : Reading (Taken Action))
+    → IsAction act.value.item → P act.value.item → GivesStatement (rule_statement line make act)
+rule_gives line make P such act is also =
+    then_gives (λ (rule : Reading Rule). RuleOf P rule.value)
+    (λ (read : Reading Statement). IsStatement read.value)
+    (rule_reading line act.value.item act.value.words act.known)
+    (λ rule. Ok (made make rule))
+    (then_gives (λ (when : Reading When). IfSome when.value.cond IsCond)
+    (λ (rule : Reading Rule). RuleOf P rule.value) (when_of line act.value.words act.known)
+    (λ when. Ok (rule_when line act.value.item when)) (when_gives line act.value.words act.known)
+    (λ when cond. (record { action = is; cond = cond }, also)))
+    (λ rule of_such. such rule.value of_such)
 
 request_gives : (line : ℕ) (words : List (List ℕ)) (known : Known)
     → GivesStatement (rule_of line words known)
 request_gives line [] known = tt
-request_gives line (action ∷ words) known =
-    unless_gives line words known (action_fault (step_of None action))
-    (action_code action (step_of None action) refl)
+request_gives line (word ∷ words) known =
+    then_gives ReadsHead (λ (read : Reading Statement). IsStatement read.value)
+    (head_of_step line (step_of None word) known)
+    (λ head. action_words line head.value words head.known
+    >>= (λ act. rule_statement line statement.Rule act)) (head_gives line word known)
+    (λ head such. then_gives (λ (t : Reading (Taken Action)). IsAction t.value.item)
+    (λ (read : Reading Statement). IsStatement read.value)
+    (action_words line head.value words head.known) (λ act. rule_statement line statement.Rule act)
+    (words_give line head.value words head.known such)
+    (λ act is. rule_gives line statement.Rule (λ (a : Action). Unit {0}) (λ rule of_such. of_such.0)
+    act is tt))
+
+redirect_line_gives : (line : ℕ) (words : List (List ℕ)) (known : Known)
+    → GivesStatement (redirect_of line words known)
+redirect_line_gives line words known =
+    then_gives (λ (t : Reading (Taken Action)). IsRedirectAction t.value.item)
+    (λ (read : Reading Statement). IsStatement read.value) (with_redirect line words known)
+    (λ act. rule_statement line statement.Redirect act) (redirect_gives line words known)
+    (λ act is. rule_gives line statement.Redirect IsRedirectAction
+    (λ rule of_such. (of_such.0, of_such.1.1)) act is.0 is)
+
+-- ---- backends
+
+backend_gives : (line : ℕ) (words : List (List ℕ)) (known : Known)
+    → GivesStatement (backend_of line words known)
+backend_gives line words known =
+    then_gives (λ (t : Reading (Taken (List Part))). IsFormat t.value.item)
+    (λ (read : Reading Statement). IsStatement read.value) (format_word line words known)
+    (λ format. when_of line format.value.words format.known
+    >>= (λ when. Ok (backend_when line format when))) (format_word_gives line words known)
+    (λ format is. then_gives (λ (when : Reading When). IfSome when.value.cond IsCond)
+    (λ (read : Reading Statement). IsStatement read.value)
+    (when_of line format.value.words format.known)
+    (λ when. Ok (backend_when line format when)) (when_gives line format.value.words format.known) (λ when cond. (is, cond)))
+
+proxy_name : (name : List ℕ) → is_name name ≡ true → IsProxyName name
+proxy_name name is =
+    let (some, all) = both (nat_lt 0 (length name)) (list_all is_name_byte name) is in
+    record {
+      some = ltb-true 0 (length name) some;
+      bytes = AllPass-from_list_all is_name_byte name all;
+    }
+
+fallback_named_gives : (line : ℕ) (words : List (List ℕ)) (known : Known)
+    → GivesStatement (fallback_named line words known)
+fallback_named_gives line [] known = tt
+fallback_named_gives line (name ∷ []) known =
+    elim (cases_Bool (is_name name)) [
+      | inl named ↦ rw named (proxy_name name named)
+      | inr other ↦ rw other tt
+    ]
+fallback_named_gives line (name ∷ next ∷ more) known =
+    elim (cases_Bool (is_name name)) [
+      | inl named ↦ rw named tt
+      | inr other ↦ rw other tt
+    ]
+
+fallback_gives : (line : ℕ) (words : List (List ℕ)) (known : Known)
+    → GivesStatement (fallback_of line words known)
+fallback_gives line words known = by_first known.fallback
+  where
+    by_first : (there : Bool)
+        → GivesStatement (if there then Err misplaced else fallback_named line words known)
+    by_first true = tt
+    by_first false = fallback_named_gives line words known
 
 -- ---- all statements
 
@@ -229,6 +226,9 @@ keyword_gives line (Some Options) words known =
 keyword_gives line (Some Ignored) words known = tt
 keyword_gives line (Some Acl) words known = acl_gives line words known
 keyword_gives line (Some HttpRequest) words known = request_gives line words known
+keyword_gives line (Some Redirect) words known = redirect_line_gives line words known
+keyword_gives line (Some UseBackend) words known = backend_gives line words known
+keyword_gives line (Some DefaultBackend) words known = fallback_gives line words known
 
 -- words are read as a statement of the syntax, or refused by a code
 pub line_gives : (line : ℕ) (words : List (List ℕ)) (known : Known)

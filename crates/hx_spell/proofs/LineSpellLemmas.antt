@@ -1,64 +1,40 @@
 -- Words that are read as a statement spell it.
-use Rattle.std.proofs.Common.{◌≡◌, ℕ, Bool, true, false, List, [], ◌∷◌, ◌++◌, map, Option, None, Some, Ok, Err, refl, sym, ◌∙◌, ap, subst, inl, inr, append-nil}
-use Rattle.std.specs.Prelude.{◌⊎◌, ◌||◌, Result, codes, if◌then◌else◌}
+use Rattle.std.proofs.Common.{◌≡◌, ℕ, Bool, true, false, List, [], ◌∷◌, Option, None, Some, Ok, Err, refl, sym, ap, subst, inl, inr}
+use Rattle.std.specs.Prelude.{Result, codes, if◌then◌else◌}
 use Rattle.std.specs.List.{list_any}
 use Rattle.std.specs.Option.{ok_or}
 use Rattle.std.specs.Str.{bytes_eq}
 use Rattle.std.proofs.lemmas.Bool.{cases_Bool}
-use Rattle.hx_words.specs.CallForm.{CallForm}
-use Rattle.hx_words.specs.Calls.{Step, step_of}
-use Rattle.hx_words.specs.Calls.Step.{Last, More, Faulty}
-use Rattle.hx_base.specs.Bytes.{close_parenthesis, open_parenthesis}
-use Rattle.hx_words.specs.Spelling.{SpellsArguments, SpellsCall, SpellsInside}
-use Rattle.hx_words.specs.Spelling.SpellsArguments.{LastArgument, NextArgument, PartOfArgument}
-use Rattle.hx_words.specs.Spelling.SpellsCall.{NameAlone, WithArguments}
-use Rattle.hx_words.specs.TextItems.{QuoteState}
-use Rattle.hx_words.specs.TextItems.QuoteState.{Outside}
-use Rattle.hx_words.proofs.SpelledCallLemmas.{last_spelled}
+use Rattle.hx_words.specs.Calls.{step_of}
 use Rattle.hx_ast.specs.declared.Action.{Action}
-use Rattle.hx_ast.specs.declared.Action.TheVariants.{Deny}
-use Rattle.hx_ast.specs.declared.Decl.{Decl}
+use Rattle.hx_ast.specs.declared.Rule.{Rule}
 use Rattle.hx_ast.specs.declared.Statement.{Statement}
 use Rattle.hx_ast.specs.declared.Statement.TheVariants as statement
-use Rattle.hx_ast.specs.declared.Term.{Term}
 use Rattle.hx_spell.specs.declared.fault.SpellFault.{SpellFault}
+use Rattle.hx_spell.specs.ActionRelation.{SpellAction, SpellRedirect, spelled}
+use Rattle.hx_spell.specs.Actions.{Taken, action_words, head_of_step, taken, with_redirect}
 use Rattle.hx_spell.specs.Arguments.{◌>>=◌}
-use Rattle.hx_spell.specs.Codes.{bad_argument, bad_name, form_fault, misplaced, unsupported}
+use Rattle.hx_spell.specs.Codes.{bad_argument, bad_name, misplaced, unsupported}
+use Rattle.hx_spell.specs.ConditionRelation.{SpellWhen, polarity_text}
+use Rattle.hx_spell.specs.ConditionRelation.SpellWhen.{Always, Conditionally}
 use Rattle.hx_spell.specs.Conditions.{cond_of, is_acl_name, is_name}
 use Rattle.hx_spell.specs.Declarations.{decl_of}
-use Rattle.hx_spell.specs.Known.{Known, Reading}
-use Rattle.hx_spell.specs.Lines.{AfterAction, Keyword, acl_after_name, acl_of, acl_statement, action_fault, arguments_fault, deny_after, deny_of, deny_with, frontend_fault, is_status_word, keyword_statement, keyword_table, line_of, mode_fault, option_fault, placed_frontend_fault, plain_options, plain_unless, polarity_table, rule_after, rule_of, rule_reading, rule_unless, status_of, then_begun, when_action}
-use Rattle.hx_spell.specs.Lines.Keyword.{Frontend, Mode, Options, Ignored, Acl, HttpRequest}
-use Rattle.hx_spell.specs.Relation.{IsDeny, IsStatusWord, SpellAcl, SpellLine, SpellPlain, SpellRule, SpellStatement, SpellStatus, SpellWhen, When, polarity_text}
+use Rattle.hx_spell.specs.Known.{Known, Reading, with_fallback}
+use Rattle.hx_spell.specs.Lines.{Keyword, When, acl_after_name, acl_of, acl_statement, backend_of, fallback_named, fallback_of, keyword_statement, keyword_table, line_of, mode_fault, option_fault, placed_frontend_fault, plain_options, plain_unless, polarity_table, redirect_of, rule_of, rule_reading, rule_statement, then_begun, when_of, when_reading}
+use Rattle.hx_spell.specs.Lines.Keyword.{Frontend, Mode, Options, Ignored, Acl, HttpRequest, Redirect, UseBackend, DefaultBackend}
+use Rattle.hx_spell.specs.Relation.{SpellAcl, SpellBackend, SpellFallback, SpellHttpRequest, SpellLine, SpellPlain, SpellRedirectLine, SpellRule, SpellStatement}
 use Rattle.hx_spell.specs.Relation.SpellPlain.{FrontendLine, ModeLine, OptionLine, BindLine, DescriptionLine, LogLine, LogFormatLine, MaxconnLine, TimeoutLine}
-use Rattle.hx_spell.specs.Relation.SpellWhen.{Always, Conditionally}
-use Rattle.hx_spell.specs.Tables.{Table, entry_at}
+use Rattle.hx_spell.specs.Tables.{entry_at}
+use Rattle.hx_spell.proofs.ActionSpellLemmas.{ActionSpelled, action_spells, format_then, redirect_spells}
 use Rattle.hx_spell.proofs.ConditionLemmas.{cond_law}
 use Rattle.hx_spell.proofs.ConditionWordLemmas.{name_is, same_bytes}
 use Rattle.hx_spell.proofs.DeclarationLemmas.{decl_law}
+use Rattle.hx_spell.proofs.LineSteps.{backend_when, made, rule_when}
 use Rattle.hx_spell.proofs.ResultLemmas.{and_then_ok, ok_or_is}
+use Rattle.hx_spell.proofs.RowLemmas.{EachRow, found_row}
+use Rattle.hx_spell.proofs.TableFormLemmas.{◌&◌}
 
 -- ---- rows of tables
-
--- a fact of each row
-abbrev EachRow : {A : Type 0} → (List ℕ → A → Type 0) → Table A → Type 0
-EachRow P [] = Unit {0}
-EachRow P (row ∷ rows) = P row.0 row.1 × EachRow P rows
-
-row_by : {A : Type 0} (P : List ℕ → A → Type 0) (name found : List ℕ) (same : Bool) (x y : A)
-    (later : Option A) → bytes_eq found name ≡ same → P found y → (later ≡ Some x → P name x)
-    → (if same then Some y else later) ≡ Some x → P name x
-row_by P name found true x y later same such others is =
-    let value : y ≡ x = cc in
-    subst (λ (n : List ℕ). P n x) (same_bytes found name same) (subst (P found) value such)
-row_by P name found false x y later same such others is = others is
-
-found_row : {A : Type 0} (P : List ℕ → A → Type 0) (rows : Table A) (name : List ℕ) (x : A)
-    → EachRow P rows → entry_at rows name ≡ Some x → P name x
-found_row P [] name x each is = absurd (let bad : ⊥ = cc in bad)
-found_row P (row ∷ rows) name x each is =
-    row_by P name row.0 (bytes_eq row.0 name) x row.1 (entry_at rows name) refl each.0
-    (λ later. found_row P rows name x each.1 later) is
 
 -- what the first word of a statement is
 abbrev Begins : List ℕ → Keyword → Type 0
@@ -68,10 +44,9 @@ Begins word Options = word ≡ codes "option"
 Begins word Ignored = (before : Known) (words : List (List ℕ)) → SpellPlain before (word ∷ words)
 Begins word Acl = word ≡ codes "acl"
 Begins word HttpRequest = word ≡ codes "http-request"
-
-infixr 4 ◌&◌
-◌&◌ : {A B : Type 0} → A → B → A × B
-first & rest = (first, rest)
+Begins word Redirect = word ≡ codes "redirect"
+Begins word UseBackend = word ≡ codes "use_backend"
+Begins word DefaultBackend = word ≡ codes "default_backend"
 
 keywords : EachRow Begins keyword_table
 unfolding keyword_table
@@ -85,6 +60,9 @@ keywords =
     & (λ before words. LogFormatLine words)
     & (λ before words. MaxconnLine words)
     & (λ before words. TimeoutLine words)
+    & refl
+    & refl
+    & refl
     & refl
     & refl
     & tt
@@ -170,180 +148,163 @@ acl_spells line (name ∷ words) known read is =
 
 -- ---- rules
 
-some_arguments : (state : QuoteState) (args : List (List ℕ)) (text : List ℕ)
-    → SpellsArguments state args text → args ≡ [] → ⊥
-some_arguments state args text LastArgument none = cc
-some_arguments state args text (NextArgument others rest spelled) none = cc
-some_arguments state args text (PartOfArgument _ after b bs value arg others rest part spelled) none =
-    cc
-
-none_inside : (args : List (List ℕ)) (text : List ℕ) → SpellsInside Outside args text → args ≡ []
-    → text ≡ []
-none_inside args [] inside none = refl
-none_inside args (b ∷ bs) inside none =
-    absurd (some_arguments Outside args (b ∷ bs) inside none)
-
-call_deny : (call : CallForm) (text : List ℕ) → SpellsCall None call text
-    → call.name ≡ codes "deny" → call.args ≡ [] → IsDeny text
-call_deny call text (NameAlone name other) is none = inl is
-call_deny call text (WithArguments name args within other stop inside) is none =
-    inr (ap (λ n. n ++ (open_parenthesis ∷ (within ++ close_parenthesis ∷ []))) is
-    ∙ ap (λ w. codes "deny" ++ (open_parenthesis ∷ (w ++ close_parenthesis ∷ [])))
-    (none_inside args within inside none))
-
-when_none : (name : List ℕ) (fault : Option SpellFault) → when_action name fault ≡ None
-    → (name ≡ codes "deny") × (fault ≡ None)
-when_none name fault none =
-    elim (cases_Bool (bytes_eq name (codes "deny"))) [
-      | inl is ↦ (same_bytes name (codes "deny") is, rw is at none)
-      | inr other ↦ absurd (let bad : Some unsupported ≡ None = rw other at none in cc)
-    ]
-
-no_arguments : (args : List (List ℕ)) → arguments_fault args ≡ None → args ≡ []
-no_arguments [] none = refl
-no_arguments (arg ∷ args) none = absurd (let bad : Some bad_argument ≡ None = none in cc)
-
-action_by : (word : List ℕ) (step : Step) → step_of None word ≡ step → action_fault step ≡ None
-    → IsDeny word
-action_by word (Last call rest) is none =
-    let (named, args) = when_none call.name (arguments_fault call.args) none in
-    let (prefix, spelled, whole, to_end) = last_spelled None word call rest is in
-    let same : word ≡ prefix =
-    whole ∙ (ap (λ r. prefix ++ ([] ++ r)) (to_end refl) ∙ append-nil prefix) in
-    subst (λ (w : List ℕ). IsDeny w) (sym same)
-    (call_deny call prefix spelled named (no_arguments call.args args))
-action_by word (More call rest) is none =
-    let (name, bad) = when_none call.name (Some bad_argument) none in
-    absurd (let no' : Some bad_argument ≡ None = bad in cc)
-action_by word (Faulty name fault) is none =
-    let (named, bad) = when_none name (Some (form_fault fault)) none in
-    absurd (let no' : Some (form_fault fault) ≡ None = bad in cc)
-
--- what stands between an action and its condition
-record StatusSpelled (words : List (List ℕ)) (after : AfterAction) : Type 0 where
-  status : Option ℕ
-  status_words : List (List ℕ)
-  spelled : SpellStatus status status_words
-  words_are : words ≡ status_words ++ after.words
-  is : after.action ≡ Deny status
-
-status_word : (word : List ℕ) → is_status_word word ≡ true → IsStatusWord word
-status_word word is = by_word (bytes_eq word (codes "status")) refl is
-  where
-    by_word : (same : Bool) → bytes_eq word (codes "status") ≡ same
-        → (same || bytes_eq word (codes "deny_status")) ≡ true → IsStatusWord word
-    by_word true same is = inl (same_bytes word (codes "status") same)
-    by_word false same is = inr (same_bytes word (codes "deny_status") is)
-
-after_spells : (word : List ℕ) (words : List (List ℕ)) (after : AfterAction)
-    → is_status_word word ≡ true → deny_after word words ≡ Ok after
-    → StatusSpelled (word ∷ words) after
-after_spells word [] after status is = absurd (let bad : Err bad_argument ≡ Ok after = is in cc)
-after_spells word (text ∷ words) after status is =
-    let (n, n_is, whole) = and_then_ok (ok_or (status_of text) bad_argument)
-    (λ status. Ok (deny_with (Some status) words)) after is in
-    let same : deny_with (Some n) words ≡ after = cc in
-    subst (λ (a : AfterAction). StatusSpelled (word ∷ text ∷ words) a) same (record {
-      status = Some n;
-      status_words = word ∷ text ∷ [];
-      spelled = (word, text, refl, status_word word status, ok_or_is (status_of text) bad_argument n n_is);
-      words_are = refl;
-      is = refl;
-    })
-
-abbrev ok_after : AfterAction → Result AfterAction SpellFault
-ok_after after = Ok after
-
-no_status : (words : List (List ℕ)) (after : AfterAction) → deny_with None words ≡ after
-    → StatusSpelled words after
-no_status words after same =
-    subst (λ (a : AfterAction). StatusSpelled words a) same (record {
-      status = None;
-      status_words = [];
-      spelled = refl;
-      words_are = refl;
-      is = refl;
-    })
-
-deny_spells : (words : List (List ℕ)) (after : AfterAction) → deny_of words ≡ Ok after
-    → StatusSpelled words after
-deny_spells [] after is = no_status [] after (let same : deny_with None [] ≡ after = cc in same)
-deny_spells (word ∷ words) after is =
-    elim (cases_Bool (is_status_word word)) [
-      | inl status ↦ after_spells word words after status (rw status at is)
-      | inr other ↦
-          let plain : ok_after (deny_with None (word ∷ words)) ≡ ok_after after = rw other at is in
-          no_status (word ∷ words) after (let same : deny_with None (word ∷ words) ≡ after = cc in same)
-    ]
-
--- a condition, or none
-record WhenSpelled (line : ℕ) (action : Action) (words : List (List ℕ)) (known : Known)
-    (read : Reading Statement) : Type 0 where
-  when : Reading When
-  spelled : SpellWhen line known words when
-  is : read ≡ rule_reading line action when.value.unless when.value.cond when.known
-
-when_spells : (line : ℕ) (action : Action) (words : List (List ℕ)) (known : Known)
-    (read : Reading Statement) → rule_after line action words known ≡ Ok read
-    → WhenSpelled line action words known read
-when_spells line action [] known read is =
-    let same : rule_reading line action false None known ≡ read = cc in
-    record {
-      when = record { value = record { unless = false; cond = None }; known = known };
-      spelled = Always;
-      is = sym same;
-    }
-when_spells line action (word ∷ words) known read is =
+when_spells : (line : ℕ) (words : List (List ℕ)) (known : Known) (when : Reading When)
+    → when_of line words known ≡ Ok when → SpellWhen line known words when
+when_spells line [] known when is =
+    let same : when_reading false None known ≡ when = cc in
+    subst (λ (w : Reading When). SpellWhen line known [] w) same Always
+when_spells line (word ∷ words) known when is =
     let (unless, unless_is, after) = and_then_ok (ok_or (entry_at polarity_table word) bad_argument)
     (λ unless. cond_of line words known
-    >>= (λ cond. Ok (rule_reading line action unless (Some cond.value) cond.known))) read is in
+    >>= (λ cond. Ok (when_reading unless (Some cond.value) cond.known))) when is in
     let (cond, cond_is, whole) = and_then_ok (cond_of line words known)
-    (λ cond. Ok (rule_reading line action unless (Some cond.value) cond.known)) read after in
-    let same : rule_reading line action unless (Some cond.value) cond.known ≡ read = cc in
+    (λ cond. Ok (when_reading unless (Some cond.value) cond.known)) when after in
+    let same : when_reading unless (Some cond.value) cond.known ≡ when = cc in
     let first : word ≡ polarity_text unless =
     found_row (λ word unless. word ≡ polarity_text unless) polarity_table word unless polarities
     (ok_or_is (entry_at polarity_table word) bad_argument unless unless_is) in
+    subst (λ (w : Reading When). SpellWhen line known (word ∷ words) w) same
+    (subst (λ (w : List ℕ). SpellWhen line known (w ∷ words)
+    (when_reading unless (Some cond.value) cond.known)) (sym first)
+    (Conditionally unless words cond ((cond_law line words known cond).0 cond_is)))
+
+-- a rule that is read of an action and the words after it
+record RuleSpelled (line : ℕ) (make : Rule → Statement) (act : Reading (Taken Action))
+    (read : Reading Statement) : Type 0 where
+  when : Reading When
+  with_cond : SpellWhen line act.known act.value.words when
+  rule : Reading Rule
+  rule_is : rule ≡ rule_when line act.value.item when
+  is : read ≡ made make rule
+
+rule_spells : (line : ℕ) (make : Rule → Statement) (act : Reading (Taken Action))
+    (read : Reading Statement) → rule_statement line make act ≡ Ok read
+    → RuleSpelled line make act read
+rule_spells line make act read is =
+    let (rule, rule_is, whole) =
+    and_then_ok (rule_reading line act.value.item act.value.words act.known)
+    (λ rule. Ok (made make rule)) read is in
+    let (when, when_is, parts) =
+    and_then_ok (when_of line act.value.words act.known)
+    (λ when. Ok (rule_when line act.value.item when)) rule rule_is in
     record {
-      when = record {
-        value = record { unless = unless; cond = Some cond.value };
-        known = cond.known;
-      };
-      spelled = subst (λ (w : List ℕ). SpellWhen line known (w ∷ words) (record {
-        value = record { unless = unless; cond = Some cond.value };
-        known = cond.known;
-      })) (sym first) (Conditionally unless words cond ((cond_law line words known cond).0 cond_is));
+      when = when;
+      with_cond = when_spells line act.value.words act.known when when_is;
+      rule = rule;
+      rule_is = cc;
+      is = cc;
+    }
+
+-- words of an action, and those of a condition
+words_spell : (line : ℕ) (before : Known) (words : List (List ℕ)) (make : Rule → Statement)
+    (act : Reading (Taken Action)) (read : Reading Statement)
+    (IsActionOf : List (List ℕ) → Reading Action → Type 0) → ActionSpelled IsActionOf words act
+    → (r : RuleSpelled line make act read) → SpellRule line before words r.rule IsActionOf
+words_spell line before words make act read IsActionOf a r = record {
+  action_words = a.own;
+  others = act.value.words;
+  words_are = a.words_are;
+  action = spelled act.known act.value.item;
+  spelled = a.such;
+  when = r.when;
+  with_cond = r.with_cond;
+  is = r.rule_is;
+}
+
+request_spells : (line : ℕ) (words : List (List ℕ)) (known : Known) (read : Reading Statement)
+    → rule_of line words known ≡ Ok read
+    → SpellHttpRequest line known (codes "http-request" ∷ words) read
+request_spells line [] known read is = absurd (let bad : Err bad_argument ≡ Ok read = is in cc)
+request_spells line (word ∷ words) known read is =
+    let (head, head_is, after) = and_then_ok (head_of_step line (step_of None word) known)
+    (λ head. action_words line head.value words head.known
+    >>= (λ act. rule_statement line statement.Rule act)) read is in
+    let (act, act_is, whole) = and_then_ok (action_words line head.value words head.known)
+    (λ act. rule_statement line statement.Rule act) read after in
+    let a = action_spells line known word words head act head_is act_is in
+    let r = rule_spells line statement.Rule act read whole in (
+      word ∷ words,
+      r.rule,
+      refl,
+      words_spell line known (word ∷ words) statement.Rule act read (SpellAction line known) a r,
+      r.is,
+    )
+
+redirect_line_spells : (line : ℕ) (words : List (List ℕ)) (known : Known)
+    (read : Reading Statement) → redirect_of line words known ≡ Ok read
+    → SpellRedirectLine line known (codes "redirect" ∷ words) read
+redirect_line_spells line words known read is =
+    let (act, act_is, whole) = and_then_ok (with_redirect line words known)
+    (λ act. rule_statement line statement.Redirect act) read is in
+    let a = redirect_spells line known words act act_is in
+    let r = rule_spells line statement.Redirect act read whole in (
+      words,
+      r.rule,
+      refl,
+      words_spell line known words statement.Redirect act read (SpellRedirect line known) a r,
+      r.is,
+    )
+
+-- ---- backends
+
+backend_spells : (line : ℕ) (words : List (List ℕ)) (known : Known) (read : Reading Statement)
+    → backend_of line words known ≡ Ok read
+    → SpellBackend line known (codes "use_backend" ∷ words) read
+backend_spells line words known read is =
+    let t = format_then line words known
+    (λ format. when_of line format.value.words format.known
+    >>= (λ when. Ok (backend_when line format when))) read is in
+    let format = taken t.format.value t.rest t.format.known in
+    let (when, when_is, whole) = and_then_ok (when_of line t.rest t.format.known)
+    (λ when. Ok (backend_when line format when)) read t.after in
+    let same : backend_when line format when ≡ read = cc in
+    record {
+      text = t.text;
+      others = t.rest;
+      words_are = ap (λ w. codes "use_backend" ∷ w) t.words_are;
+      format = t.format;
+      written = t.writes;
+      when = when;
+      with_cond = when_spells line t.rest t.format.known when when_is;
       is = sym same;
     }
 
-rule_spells : (line : ℕ) (words : List (List ℕ)) (known : Known) (read : Reading Statement)
-    → rule_of line words known ≡ Ok read
-    → SpellRule line known (codes "http-request" ∷ words) read
-rule_spells line [] known read is = absurd (let bad : Err bad_argument ≡ Ok read = is in cc)
-rule_spells line (action ∷ words) known read is =
-    by_fault (action_fault (step_of None action)) refl is
+abbrev fallback_reading : ℕ → List ℕ → Known → Reading Statement
+fallback_reading line name known =
+    record { value = statement.Fallback line name; known = with_fallback known }
+
+abbrev reads : Reading Statement → Result (Reading Statement) SpellFault
+reads read = Ok read
+
+named_spells : (line : ℕ) (words : List (List ℕ)) (known : Known) (read : Reading Statement)
+    → known.fallback ≡ false → fallback_named line words known ≡ Ok read
+    → SpellFallback line known (codes "default_backend" ∷ words) read
+named_spells line [] known read first is =
+    absurd (let bad : Err bad_argument ≡ Ok read = is in cc)
+named_spells line (name ∷ []) known read first is =
+    elim (cases_Bool (is_name name)) [
+      | inl named ↦
+          let whole : reads (fallback_reading line name known) ≡ reads read = rw named at is in
+          let same : fallback_reading line name known ≡ read = cc in
+          record { name = name; words_are = refl; named = named; first = first; is = sym same }
+      | inr other ↦ absurd (let bad : Err bad_name ≡ Ok read = rw other at is in cc)
+    ]
+named_spells line (name ∷ next ∷ more) known read first is =
+    elim (cases_Bool (is_name name)) [
+      | inl named ↦ absurd (let bad : Err bad_argument ≡ Ok read = rw named at is in cc)
+      | inr other ↦ absurd (let bad : Err bad_name ≡ Ok read = rw other at is in cc)
+    ]
+
+fallback_spells : (line : ℕ) (words : List (List ℕ)) (known : Known) (read : Reading Statement)
+    → fallback_of line words known ≡ Ok read
+    → SpellFallback line known (codes "default_backend" ∷ words) read
+fallback_spells line words known read is = by_first known.fallback refl is
   where
-    by_fault : (fault : Option SpellFault) → action_fault (step_of None action) ≡ fault
-        → rule_unless fault line words known ≡ Ok read
-        → SpellRule line known (codes "http-request" ∷ action ∷ words) read
-    by_fault (Some fault) none is = absurd (let bad : Err fault ≡ Ok read = is in cc)
-    by_fault None none is =
-        let (after, after_is, whole) = and_then_ok (deny_of words)
-        (λ after. rule_after line after.action after.words known) read is in
-        let s = deny_spells words after after_is in
-        let w = when_spells line after.action after.words known read whole in
-        record {
-          action = action;
-          is_action = action_by action (step_of None action) refl none;
-          status = s.status;
-          status_words = s.status_words;
-          with_status = s.spelled;
-          others = after.words;
-          when = w.when;
-          with_cond = w.spelled;
-          words_are = ap (λ l. codes "http-request" ∷ action ∷ l) s.words_are;
-          is = w.is ∙ ap (λ a. rule_reading line a w.when.value.unless w.when.value.cond w.when.known)
-              s.is;
-        }
+    by_first : (there : Bool) → known.fallback ≡ there
+        → (if there then Err misplaced else fallback_named line words known) ≡ Ok read
+        → SpellFallback line known (codes "default_backend" ∷ words) read
+    by_first true first is = absurd (let bad : Err misplaced ≡ Ok read = is in cc)
+    by_first false first is = named_spells line words known read first is
 
 -- ---- all statements
 
@@ -366,7 +327,13 @@ keyword_spells line word Ignored words known read begins is =
 keyword_spells line word Acl words known read begins is =
     rw begins (inr (inl (acl_spells line words known read is)))
 keyword_spells line word HttpRequest words known read begins is =
-    rw begins (inr (inr (rule_spells line words known read is)))
+    rw begins (inr (inr (inl (request_spells line words known read is))))
+keyword_spells line word Redirect words known read begins is =
+    rw begins (inr (inr (inr (inl (redirect_line_spells line words known read is)))))
+keyword_spells line word UseBackend words known read begins is =
+    rw begins (inr (inr (inr (inr (inl (backend_spells line words known read is))))))
+keyword_spells line word DefaultBackend words known read begins is =
+    rw begins (inr (inr (inr (inr (inr (fallback_spells line words known read is))))))
 
 found_spells : (line : ℕ) (word : List ℕ) (words : List (List ℕ)) (known : Known)
     (read : Reading Statement) (keyword : Option Keyword) → entry_at keyword_table word ≡ keyword

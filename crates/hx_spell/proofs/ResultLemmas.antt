@@ -50,6 +50,12 @@ then_gives Q P (Ok x) f such after = after x such
 then_gives Q P (Err (spell.Code n)) f such after = tt
 then_gives Q P (Err spell.NoMemory) f such after = such
 
+pub gives_also : {A : Type 0} (Q P : A → Type 0) (r : Result A SpellFault) → Gives Q r
+    → ((x : A) → Q x → P x) → Gives P r
+gives_also Q P (Ok x) such also = also x such
+gives_also Q P (Err (spell.Code n)) such also = tt
+gives_also Q P (Err spell.NoMemory) such also = such
+
 pub given_value : {A : Type 0} (P : A → Type 0) (r : Result A SpellFault) (x : A)
     → Gives P r → r ≡ Ok x → P x
 given_value P (Ok y) x such is = let same : y ≡ x = cc in subst P same such

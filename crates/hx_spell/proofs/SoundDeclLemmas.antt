@@ -1,5 +1,5 @@
 -- After an ACL what is known is sound, where it was, and the ACL names heads that are known.
-use Rattle.std.proofs.Common.{◌≡◌, ℕ, ◌<◌, Bool, true, false, cond, List, [], ◌∷◌, ◌-◌, ◌^◌, ◌&&◌, length, Option, None, Some, Ok, Err, arith, refl, sym, subst}
+use Rattle.std.proofs.Common.{◌≡◌, ℕ, Bool, true, false, cond, List, [], ◌∷◌, ◌-◌, ◌^◌, ◌&&◌, Option, None, Some, Ok, Err, arith, refl, sym, subst}
 use Rattle.std.specs.Prelude.{is_some, ◌||◌}
 use Rattle.std.specs.List.{All}
 use Rattle.std.specs.Option.{ok_or}
@@ -8,23 +8,25 @@ use Rattle.hx_text.specs.Network.{width_of}
 use Rattle.hx_text.specs.declared.By.{By}
 use Rattle.hx_ast.specs.declared.Decl.{Decl}
 use Rattle.hx_ast.specs.declared.Expr.{Expr}
-use Rattle.hx_ast.specs.Acls.{compares_texts, takes_patterns}
+use Rattle.hx_ast.specs.Acls.{IsDecl, compares_texts, takes_patterns}
 use Rattle.hx_spell.specs.declared.fault.SpellFault.{SpellFault}
 use Rattle.hx_spell.specs.declared.table_specs.HeadSpec.{HeadSpec}
 use Rattle.hx_spell.specs.Codes.{bad_argument, unsupported}
-use Rattle.hx_spell.specs.Declarations.{Way, bare_decl, decl_reading, file_heads, has_no_patterns, heads_of_keys, ignores_case, pattern_decl, unless_fault, with_words_head, words_form, words_head}
+use Rattle.hx_spell.specs.Declarations.{Way, bare_decl, decl_of, decl_reading, file_heads, has_no_patterns, heads_of_keys, ignores_case, pattern_decl, unless_fault, with_words_head, words_form, words_head}
 use Rattle.hx_spell.specs.Flags.{AfterFlags, Flag, Flags, Searched, flag_argument, method_table, with_searched}
 use Rattle.hx_spell.specs.Flags.{IgnoreCase, TwoColumns, Numeric, File, Method, Number}
 use Rattle.hx_spell.specs.Heads.{DeclNames, IsHeadBy, NamesHead}
-use Rattle.hx_spell.specs.Known.{Known, Reading, with_acl, with_file, with_head, with_reference}
+use Rattle.hx_spell.specs.Known.{Known, Reading, with_acl, with_head, with_named_file, with_reference}
 use Rattle.hx_spell.specs.Patterns.{keys_of}
-use Rattle.hx_spell.specs.Relation.{SpellDecl, SpellFlags, flag_alone}
-use Rattle.hx_spell.specs.Relation.SpellFlags.{NoFlags, FlagAlone, FlagWithArgument}
+use Rattle.hx_spell.specs.AclRelation.{SpellDecl, SpellFlags, flag_alone}
+use Rattle.hx_spell.specs.AclRelation.SpellFlags.{NoFlags, FlagAlone, FlagWithArgument}
 use Rattle.hx_spell.specs.Sound.{IsReference}
 use Rattle.hx_spell.specs.Tables.{entry_at}
+use Rattle.hx_spell.proofs.DeclarationLemmas.{decl_is_decl, decl_law}
 use Rattle.hx_spell.proofs.HeadLemmas.{later_by, names_later}
 use Rattle.hx_spell.proofs.ResultLemmas.{and_then_ok, both}
-use Rattle.hx_spell.proofs.SoundLemmas.{Grown, IsKnownHead, ReadsHead, ReadsReference, acl_grown, criterion_grown, file_grown, grown_refl, grown_trans, head_grown, passed, reference_grown}
+use Rattle.hx_spell.proofs.SoundExprLemmas.{criterion_grown}
+use Rattle.hx_spell.proofs.SoundLemmas.{Brings, Grown, IsKnownHead, ReadsHead, ReadsReference, acl_grown, brings_by, brought, grown_refl, grown_trans, head_grown, named_file_brings, reference_brings}
 
 -- ---- flags
 
@@ -72,11 +74,12 @@ argument_after : (line : ℕ) (flag : Flag) (text : List ℕ) (flags : Flags) (k
     (read : Reading Flags) → flag_argument line flag text flags known ≡ Ok read
     → HaveFiles known flags → FlagsAfter known read
 argument_after line File name flags known read is have =
-    let (file, brought, after) =
-    and_then_ok (with_file line name flags.two known) (λ f. Ok (with_searched flags f)) read is in
+    let place = with_named_file line name flags.two known in
+    let (file, there, after) = and_then_ok place (λ f. Ok (with_searched flags f)) read is in
     let same : with_searched flags file ≡ read = cc in
     subst (λ (r : Reading Flags). FlagsAfter known r) same
-    (searched_after flags known file have (file_grown line name flags.two known file brought))
+    (searched_after flags known file have
+    (brought IsReference known place file (named_file_brings line name flags.two known) there))
 argument_after line Method name flags known read is have =
     let (by, named, after) =
     and_then_ok (ok_or (entry_at method_table name) unsupported) _ read is in
@@ -192,12 +195,13 @@ keys_after line way such flags [] None before files read all is =
     (unless_given (is_some flags.given) files read is) all
 keys_after line way such flags (key ∷ keys) fault before files read (grown, all) is =
     let form = words_form line flags.given (key ∷ keys) in
-    let (place, brought, after) =
+    let (place, there, after) =
     and_then_ok (with_reference form files.known) _ read is in
     let last = words_head way flags.ci place in
     let (more, names) =
     words_after way such flags.ci files.known place
-    (reference_grown form files.known place tt brought) in
+    (brought IsReference files.known (with_reference form files.known) place
+    (reference_brings form files.known tt) there) in
     let still =
     All-weaker (IsHeadBy files.known.heads way.by) (IsHeadBy last.known.heads way.by)
     (later_by files.known.heads last.known.heads more.heads way.by) files.value all in
@@ -242,12 +246,17 @@ pattern_after line expr way such after known read have names is =
     (keys_after line way such after.flags keys.keys keys.fault known files heads
     (files_after way such after.flags.files known have) found))
 
+passed : {A : Type 0} (b : Bool) (x : A) (fault : SpellFault) (y : A)
+    → cond b (Ok x) (Err fault) ≡ Ok y → x ≡ y
+passed true x fault y is = cc
+passed false x fault y is = absurd (let no : ⊥ = cc in no)
+
 bare_after : (expr : Expr) (way : Way) (after : AfterFlags) (known : Known) (read : Reading Decl)
     → NamesHeads known expr → bare_decl expr way after known ≡ Ok read → DeclAfter known read
 bare_after expr way after known read names is =
     let none : Reading (List ℕ) = record { value = []; known = known } in
     subst (λ (r : Reading Decl). DeclAfter known r)
-    (passed (has_no_patterns after) (decl_reading expr way false [] none) bad_argument read is).1
+    (passed (has_no_patterns after) (decl_reading expr way false [] none) bad_argument read is)
     (reading_after expr way false [] known none names
     (grown_refl known, All-nil (IsHeadBy known.heads way.by)))
 
@@ -279,3 +288,18 @@ decl_grown line before text words read w =
           (grown_trans criterion.known w.flags.known read.known flagged made),
       heads,
     )
+
+-- ---- an ACL that is read
+
+-- an ACL of the syntax, which names heads that are known
+abbrev pub IsKnownDecl : Known → Decl → Type 0
+IsKnownDecl known decl = IsDecl decl × DeclNames known.heads decl
+
+pub decl_brings : (line : ℕ) (text : List ℕ) (words : List (List ℕ)) (known : Known)
+    → Brings IsKnownDecl known (decl_of line text words known)
+decl_brings line text words known =
+    brings_by IsKnownDecl known (decl_of line text words known)
+    (λ read is.
+    let (grown, names) =
+    decl_grown line known text words read ((decl_law line text words known read).0 is) in
+    (grown, (decl_is_decl line text words known read is, names)))

@@ -1,41 +1,25 @@
--- What is known grows, and stays sound: references have files of their own, and heads are of one kind
--- each and of references that are known. The converters of a criterion name heads that are known
--- after it.
+-- What is known grows, and stays sound: references have files of their own, and heads are of one
+-- kind each and of references that are known.
 use Rattle.std.proofs.Common.{◌≡◌, ℕ, ◌+◌, ◌<◌, ◌≤◌, Bool, true, false, cond, List, [], ◌∷◌, ◌++◌, ◌==◌, length, get_or, Option, None, Some, Ok, Err, arith, refl, sym, ap, subst, length-append}
-use Rattle.std.specs.Prelude.{Result, IfSome, nat_lt, position, slice_get}
-use Rattle.std.specs.List.{All, AllByRecursion, list_any}
+use Rattle.std.specs.Prelude.{Result, nat_lt, position}
+use Rattle.std.specs.List.{All, list_any}
 use Rattle.std.proofs.Math.Seq.{get_or-append_seam}
 use Rattle.std.proofs.lemmas.Bool.{ltb-true}
-use Rattle.std.proofs.lemmas.List.Elements.{All-from_recursion, All-nil, All-push, All-weaker}
+use Rattle.std.proofs.lemmas.List.Elements.{All-nil, All-push, All-weaker}
 use Rattle.std.proofs.lemmas.List.Quantifiers.{position-Some}
 use Rattle.std.proofs.lemmas.Option.{slice_get-get_or}
 use Rattle.hx_text.specs.declared.By.{By}
-use Rattle.hx_text.specs.declared.By.TheVariants as method
-use Rattle.hx_words.specs.CallForm.{CallForm}
-use Rattle.hx_ast.specs.declared.Conv.{Conv}
-use Rattle.hx_ast.specs.declared.Conv.TheVariants as conv
-use Rattle.hx_ast.specs.Acls.{takes_patterns}
-use Rattle.hx_ast.specs.Convs.{is_map_method}
-use Rattle.hx_ast.specs.Statements.{is_map}
 use Rattle.hx_spell.specs.declared.fault.SpellFault.{SpellFault}
 use Rattle.hx_spell.specs.declared.table_specs.HeadSpec.{HeadSpec}
 use Rattle.hx_spell.specs.declared.table_specs.MapOutput.{MapOutput}
-use Rattle.hx_spell.specs.Arguments.{is_count, optional}
-use Rattle.hx_spell.specs.Codes.{bad_argument}
-use Rattle.hx_spell.specs.Criteria.{Criterion, MapWay, conv_by, conv_call, map_arguments, map_conv, map_file, map_head, map_table, plain_conv, value_of_map}
-use Rattle.hx_spell.specs.Expressions.{call_meaning}
-use Rattle.hx_spell.specs.Heads.{IsHeadBy, NamesHead}
-use Rattle.hx_spell.specs.Known.{BeginsWith, Known, Reading, ReferenceForm, after_statement, file_form, file_or_new, has_columns, head_or_new, is_head, is_of_file, is_output, most_references, nothing_known, with_acl, with_file, with_head, with_name, with_output, with_reference}
-use Rattle.hx_spell.specs.Relation.{WriteConvs, WritesCriterion}
+use Rattle.hx_spell.specs.Arguments.{◌>>=◌}
+use Rattle.hx_spell.specs.Codes.{file_kind, too_many_references}
+use Rattle.hx_spell.specs.Heads.{IsHeadBy}
+use Rattle.hx_spell.specs.Known.{BeginsWith, Known, Reading, ReferenceForm, after_statement, file_form, file_or_new, has_columns, head_or_new, is_head, is_of_file, is_output, most_references, named_reading, nothing_known, with_acl, with_fallback, with_file, with_head, with_name, with_named, with_named_file, with_output, with_reference}
 use Rattle.hx_spell.specs.Sound.{IsReference, IsSound}
-use Rattle.hx_spell.specs.Tables.{conv_table, entry_at}
 use Rattle.hx_spell.specs.TableSpecs.{IsHeadOf}
-use Rattle.hx_spell.proofs.CriterionFormLemmas.{IsMapWay, map_entry}
 use Rattle.hx_spell.proofs.DistinctLemmas.{HasOtherFile, distinct_added, none_found, own_added, same_head}
-use Rattle.hx_spell.proofs.HeadLemmas.{names_later}
 use Rattle.hx_spell.proofs.KnownLemmas.{begins_append, begins_refl, begins_trans}
-use Rattle.hx_spell.proofs.ResultLemmas.{and_then_ok, given_value}
-use Rattle.hx_spell.proofs.TableFormLemmas.{IsPlainConv, conv_gives}
 
 -- nothing is forgotten, and what was sound is so
 pub record Grown (before after : Known) : Type 0 where
@@ -56,6 +40,73 @@ grown_trans a b c first second = record {
   heads = begins_trans a.heads b.heads c.heads first.heads second.heads;
   sound = λ s. second.sound (first.sound s);
 }
+
+-- What is known has grown, and what is read is such then. Where nothing is read, nothing is said.
+abbrev pub Brings : {A : Type 0} → (Known → A → Type 0) → Known → Result (Reading A) SpellFault
+    → Type 0
+Brings P before (Ok read) = Grown before read.known × P read.known read.value
+Brings P before (Err fault) = Unit {0}
+
+pub later_brings : {A : Type 0} (P : Known → A → Type 0) (before between : Known)
+    (r : Result (Reading A) SpellFault) → Grown before between → Brings P between r
+    → Brings P before r
+later_brings P before between (Ok read) grown (more, such) =
+    (grown_trans before between read.known grown more, such)
+later_brings P before between (Err fault) grown none = tt
+
+-- a step by which what is known grows, and then another
+pub then_brings : {A B : Type 0} (P : Known → A → Type 0) (Q : Known → B → Type 0) (before : Known)
+    (r : Result (Reading A) SpellFault) (f : Reading A → Result (Reading B) SpellFault)
+    → Brings P before r
+    → ((read : Reading A) → Grown before read.known → P read.known read.value
+    → Brings Q read.known (f read))
+    → Brings Q before (r >>= f)
+then_brings P Q before (Ok read) f (grown, such) after =
+    later_brings Q before read.known (f read) grown (after read grown such)
+then_brings P Q before (Err fault) f none after = tt
+
+-- a step that brings nothing, and then another
+pub step_brings : {A B : Type 0} (Q : Known → B → Type 0) (before : Known) (r : Result A SpellFault)
+    (f : A → Result (Reading B) SpellFault) → ((x : A) → r ≡ Ok x → Brings Q before (f x))
+    → Brings Q before (r >>= f)
+step_brings Q before (Ok x) f after = after x refl
+step_brings Q before (Err fault) f after = tt
+
+-- what is read where a test passes, and else
+pub either_brings : {A : Type 0} (P : Known → A → Type 0) (before : Known) (b : Bool)
+    (r other : Result (Reading A) SpellFault) → (b ≡ true → Brings P before r)
+    → (b ≡ false → Brings P before other) → Brings P before (cond b r other)
+either_brings P before true r other first second = first refl
+either_brings P before false r other first second = second refl
+
+-- what is read where a test passes alone
+pub tested_brings : {A : Type 0} (P : Known → A → Type 0) (before : Known) (b : Bool)
+    (r : Result (Reading A) SpellFault) (fault : SpellFault) → (b ≡ true → Brings P before r)
+    → Brings P before (cond b r (Err fault))
+tested_brings P before true r fault such = such refl
+tested_brings P before false r fault such = tt
+
+pub weaker_brings : {A : Type 0} (P Q : Known → A → Type 0) (before : Known)
+    (r : Result (Reading A) SpellFault) → ((known : Known) (x : A) → P known x → Q known x)
+    → Brings P before r → Brings Q before r
+weaker_brings P Q before (Ok read) weaker (grown, such) = (grown, weaker read.known read.value such)
+weaker_brings P Q before (Err fault) weaker none = tt
+
+-- of what is read the same holds
+pub brought : {A : Type 0} (P : Known → A → Type 0) (before : Known)
+    (r : Result (Reading A) SpellFault) (read : Reading A) → Brings P before r → r ≡ Ok read
+    → Grown before read.known × P read.known read.value
+brought {A} P before (Ok found) read such is =
+    let same : found ≡ read = cc in
+    subst (λ (x : Reading A). Grown before x.known × P x.known x.value) same such
+brought P before (Err fault) read such is = absurd (let no : ⊥ = cc in no)
+
+pub brings_by : {A : Type 0} (P : Known → A → Type 0) (before : Known)
+    (r : Result (Reading A) SpellFault)
+    → ((read : Reading A) → r ≡ Ok read → Grown before read.known × P read.known read.value)
+    → Brings P before r
+brings_by P before (Ok read) such = such read refl
+brings_by P before (Err fault) such = tt
 
 pub nothing_sound : IsSound nothing_known
 nothing_sound = record {
@@ -81,10 +132,10 @@ heads_more n m least = All-weaker (IsHeadOf n) (IsHeadOf m) (λ head of. record 
 
 added_grown : (form : ReferenceForm) (known : Known)
     → nat_lt (length known.references) most_references ≡ true → HasOtherFile form known.references
-    → ReadsReference known (record {
+    → Brings IsReference known (Ok (record {
       value = length known.references;
       known = record known { references = known.references ++ form ∷ [] };
-    })
+    }))
 added_grown form known few other =
     let n = length known.references in
     let m = length (known.references ++ form ∷ []) in
@@ -104,37 +155,32 @@ added_grown form known few other =
       omega (arith, more),
     )
 
-pub passed : {A : Type 0} (b : Bool) (x : A) (fault : SpellFault) (y : A)
-    → cond b (Ok x) (Err fault) ≡ Ok y → (b ≡ true) × (x ≡ y)
-passed true x fault y is = (refl, cc)
-passed false x fault y is = absurd (let no : ⊥ = cc in no)
+-- one more reference has a position
+pub reference_brings : (form : ReferenceForm) (known : Known) → HasOtherFile form known.references
+    → Brings IsReference known (with_reference form known)
+reference_brings form known other =
+    tested_brings IsReference known (nat_lt (length known.references) most_references) _
+    too_many_references (λ few. added_grown form known few other)
 
-pub reference_grown : (form : ReferenceForm) (known : Known) (read : Reading ℕ)
-    → HasOtherFile form known.references → with_reference form known ≡ Ok read
-    → ReadsReference known read
-reference_grown form known read other is =
-    let (few, same) = passed (nat_lt (length known.references) most_references) _ _ read is in
-    subst (λ (r : Reading ℕ). ReadsReference known r) same (added_grown form known few other)
-
-found_grown : (form : ReferenceForm) (known : Known) (place : Option ℕ) (read : Reading ℕ)
+found_brings : (form : ReferenceForm) (known : Known) (place : Option ℕ)
     → ((p : ℕ) → place ≡ Some p → IsReference known p)
     → (place ≡ None → HasOtherFile form known.references)
-    → file_or_new form known place ≡ Ok read → ReadsReference known read
-found_grown form known None read below other is =
-    reference_grown form known read (other refl) is
-found_grown form known (Some place) read below other is =
-    let (there, same) = passed (has_columns known place form.two_column) _ _ read is in
-    subst (λ (r : Reading ℕ). ReadsReference known r) same (grown_refl known, below place refl)
+    → Brings IsReference known (file_or_new form known place)
+found_brings form known None below other = reference_brings form known (other refl)
+found_brings form known (Some place) below other =
+    tested_brings IsReference known (has_columns known place form.two_column) _ file_kind
+    (λ there. (grown_refl known, below place refl))
 
-pub file_grown : (line : ℕ) (name : List ℕ) (two : Bool) (known : Known) (read : Reading ℕ)
-    → with_file line name two known ≡ Ok read → ReadsReference known read
-file_grown line name two known read is =
+-- the reference of a file has a position
+pub file_brings : (line : ℕ) (name : List ℕ) (two : Bool) (known : Known)
+    → Brings IsReference known (with_file line name two known)
+file_brings line name two known =
     let form = file_form line name two in
-    found_grown form known (position (is_of_file name) known.references) read
+    found_brings form known (position (is_of_file name) known.references)
     (λ p at. (position-Some (is_of_file name) known.references p form at).0)
-    (none_found (is_of_file name) known.references) is
+    (none_found (is_of_file name) known.references)
 
--- ---- heads, types of values, ACLs
+-- ---- heads, and what references are used for
 
 -- a head that can be: it searches a reference that is known, by a method that takes patterns
 abbrev pub IsKnownHead : Known → HeadSpec → Type 0
@@ -144,12 +190,6 @@ IsKnownHead known head = IsHeadOf (length known.references) head
 abbrev pub ReadsHead : By → Known → Reading ℕ → Type 0
 ReadsHead by before read =
     Grown before read.known × IsHeadBy read.known.heads by read.value
-
-by_of_same : (head : HeadSpec) (found : Option HeadSpec)
-    → IfSome found (λ other. is_head head other ≡ true)
-    → IfSome found (λ other. other.by ≡ head.by)
-by_of_same head None is = tt
-by_of_same head (Some other) is = ap (λ (h : HeadSpec). h.by) (same_head head other is)
 
 there_by : (heads : List HeadSpec) (head : HeadSpec) (n : ℕ)
     → position (is_head head) heads ≡ Some n → IsHeadBy heads head.by n
@@ -228,114 +268,32 @@ pub acl_grown : (table : ℕ) (known : Known) → Grown known (with_acl table kn
 acl_grown table known =
     marked_grown (list_any (λ other. other == table) known.acls) table known
 
+added_named : (b : Bool) (table : ℕ) (known : Known)
+    → Grown known (cond b known (record known { named = known.named ++ table ∷ [] }))
+added_named true table known = grown_refl known
+added_named false table known =
+    kept_grown known (record known { named = known.named ++ table ∷ [] }) refl refl
+
+named_grown : (table : ℕ) (known : Known) → Grown known (with_named table known)
+named_grown table known =
+    added_named (list_any (λ other. other == table) known.named) table known
+
+-- the reference of a file that `-f` or a map converter names has a position
+pub named_file_brings : (line : ℕ) (name : List ℕ) (two : Bool) (known : Known)
+    → Brings IsReference known (with_named_file line name two known)
+named_file_brings line name two known =
+    then_brings IsReference IsReference known (with_file line name two known)
+    (λ file. Ok (named_reading file)) (file_brings line name two known)
+    (λ file grown there.
+    let marked : Grown file.known (with_named file.value file.known) =
+    named_grown file.value file.known in
+    (marked, omega (arith, there, marked.references)))
+
 pub name_grown : (name : List ℕ) (known : Known) → Grown known (with_name name known)
 name_grown name known = kept_grown known (with_name name known) refl refl
 
 pub statement_grown : (known : Known) → Grown known (after_statement known)
 statement_grown known = kept_grown known (after_statement known) refl refl
 
--- ---- maps
-
-counted_ok : {A : Type 0} (b : Bool) (read : Result A SpellFault) (x : A)
-    → cond b read (Err bad_argument) ≡ Ok x → read ≡ Ok x
-counted_ok true read x is = is
-counted_ok false read x is = absurd (let no : ⊥ = cc in no)
-
-map_file_grown : (line : ℕ) (name : Option (List ℕ)) (known : Known) (read : Reading ℕ)
-    → map_file line name known ≡ Ok read → ReadsReference known read
-map_file_grown line None known read is = absurd (let no : ⊥ = cc in no)
-map_file_grown line (Some name) known read is = file_grown line name true known read is
-
-map_takes : (by : By) → is_map_method by ≡ true → takes_patterns by ≡ true
-map_takes method.Found is = absurd (let no : ⊥ = cc in no)
-map_takes method.Bool is = absurd (let no : ⊥ = cc in no)
-map_takes _ is = refl
-
-map_head_grown : (way : MapWay) (file : Reading ℕ) → IsMapWay way
-    → IsReference file.known file.value → ReadsHead way.by file.known (map_head way file)
-map_head_grown way file such there =
-    let output : MapOutput = record { table = file.value; out = way.out } in
-    let typed = output_grown output file.known in
-    let head : HeadSpec = record { table = file.value; by = way.by; ci = false } in
-    let (grown, names) = head_grown head (with_output output file.known) (record {
-      table = omega (arith, there, typed.references);
-      patterns = map_takes way.by such;
-      case = λ is. absurd (let no : ⊥ = cc in no);
-    }) in (
-      grown_trans file.known (with_output output file.known) (map_head way file).known typed grown,
-      names,
-    )
-
--- a converter is read, and names a head that is known then
-abbrev pub ReadsConvHead : Known → Reading Conv → Type 0
-ReadsConvHead before read = Grown before read.known × NamesHead read.known.heads read.value
-
-map_read : (line : ℕ) (way : MapWay) (args : List (List ℕ)) (known : Known) (read : Reading Conv)
-    → IsMapWay way → map_arguments line way args known ≡ Ok read → ReadsConvHead known read
-map_read line way args known read such is =
-    let counted_is =
-    counted_ok (is_count 1 2 (length args)) _ read is in
-    let (file, brought, after) =
-    and_then_ok (map_file line (slice_get args 0) known) _ read counted_is in
-    let (default, given, made) =
-    and_then_ok (optional (value_of_map way.out) bad_argument (slice_get args 1)) _ read after in
-    let (there, place) = map_file_grown line (slice_get args 0) known file brought in
-    let (grown, names) = map_head_grown way file such place in
-    let same : map_conv way default (map_head way file) ≡ read = cc in
-    subst (λ (r : Reading Conv). ReadsConvHead known r) same
-    (grown_trans known file.known (map_head way file).known there grown, names)
-
--- ---- converters
-
-plain_names : (heads : List HeadSpec) (c : Conv) → is_map c ≡ false → NamesHead heads c
-plain_names heads (conv.Map head by out default) plain = absurd (let no : ⊥ = cc in no)
-plain_names heads _ plain = tt
-
-conv_by_read : (line : ℕ) (way : Option MapWay) (call : CallForm) (known : Known)
-    (read : Reading Conv) → IfSome way IsMapWay → conv_by line way call known ≡ Ok read
-    → ReadsConvHead known read
-conv_by_read line (Some way) call known read such is =
-    map_read line way call.args known read such is
-conv_by_read line None call known read such is =
-    let (c, meant, made) =
-    and_then_ok (call_meaning conv_table call) (λ c. Ok (plain_conv known c)) read is in
-    let plain = given_value IsPlainConv (call_meaning conv_table call) c (conv_gives call) meant in
-    let same : plain_conv known c ≡ read = cc in
-    subst (λ (r : Reading Conv). ReadsConvHead known r) same
-    (grown_refl known, plain_names known.heads c plain.1)
-
-pub conv_read : (line : ℕ) (call : CallForm) (known : Known) (read : Reading Conv)
-    → conv_call line call known ≡ Ok read → ReadsConvHead known read
-conv_read line call known read is =
-    conv_by_read line (entry_at map_table call.name) call known read (map_entry call.name) is
-
--- converters are read, and name heads that are known then
-abbrev pub ReadsHeads : Known → Reading (List Conv) → Type 0
-ReadsHeads before read =
-    Grown before read.known × AllByRecursion (NamesHead read.known.heads) read.value
-
-convs_heads : (line : ℕ) (before : Known) (calls : List CallForm) (convs : Reading (List Conv))
-    → WriteConvs line before calls convs → ReadsHeads before convs
-convs_heads line before [] convs is =
-    subst (λ (r : Reading (List Conv)). ReadsHeads before r) (sym is) (grown_refl before, tt)
-convs_heads line before (call ∷ calls) convs (first, others, is, made, write) =
-    let (grown, names) = conv_read line call before first made in
-    let (more, all) = convs_heads line first.known calls others write in
-    subst (λ (r : Reading (List Conv)). ReadsHeads before r) (sym is) (
-      grown_trans before first.known others.known grown more,
-      (
-        names_later first.known.heads others.known.heads more.heads first.value names,
-        all,
-      ),
-    )
-
--- after a criterion what is known is sound, where it was, and its converters name known heads
-pub criterion_grown : (line : ℕ) (text : List ℕ) (before : Known) (read : Reading Criterion)
-    → WritesCriterion line before text read
-    → Grown before read.known
-    × All (NamesHead read.known.heads) read.value.expr.convs
-criterion_grown line text before read w =
-    let (grown, all) = convs_heads line before w.others w.convs w.converted in
-    subst (λ (r : Reading Criterion). Grown before r.known
-    × All (NamesHead r.known.heads) r.value.expr.convs) (sym w.is)
-    (grown, All-from_recursion (NamesHead w.convs.known.heads) w.convs.value all)
+pub fallback_grown : (known : Known) → Grown known (with_fallback known)
+fallback_grown known = kept_grown known (with_fallback known) refl refl

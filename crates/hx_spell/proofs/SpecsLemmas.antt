@@ -4,9 +4,8 @@ use Rattle.std.proofs.Common.{◌≡◌, ◌≢◌, ℕ, ◌+◌, List, [], ◌�
 use Rattle.std.specs.Prelude.{IfSome}
 use Rattle.std.specs.List.{All}
 use Rattle.std.proofs.lemmas.List.Elements.{All-cons, All-head, All-nil, All-tail}
-use Rattle.hx_spell.specs.declared.table_specs.HeadSpec.{HeadSpec}
 use Rattle.hx_spell.specs.declared.table_specs.TableSpec.{TableSpec}
-use Rattle.hx_spell.specs.Known.{Known, ReferenceForm, most_references}
+use Rattle.hx_spell.specs.Known.{Known, ReferenceForm}
 use Rattle.hx_spell.specs.Sound.{HaveOwnFiles, IsSound}
 use Rattle.hx_spell.specs.KnownView.{tables_of}
 use Rattle.hx_spell.specs.TableSpecs.{AreSpecs, HaveDistinctFiles, IsHeadOf, ReferenceSpecs, reference_specs, table_spec, table_specs, table_specs_from}

@@ -41,7 +41,7 @@ anything read text x is = tt
 
 -- ---- arguments
 
-found_gives : {A : Type 0} (P : A → Type 0) (found : Option A) (n : ℕ)
+pub found_gives : {A : Type 0} (P : A → Type 0) (found : Option A) (n : ℕ)
     → ((x : A) → found ≡ Some x → P x) → Gives P (ok_or found (spell.Code n))
 found_gives P None n such = tt
 found_gives P (Some x) n such = such x refl
@@ -81,7 +81,7 @@ MakesSuch P make = (args : List (List ℕ)) → Gives P (make args)
 bare_such : {A : Type 0} (P : A → Type 0) (x : A) → P x → MakesSuch P (bare x)
 bare_such P x such args = counted_gives P 0 0 args (Ok x) such
 
-single_such : {A : Type 0} (P : A → Type 0) (read : List ℕ → Option A) (n : ℕ)
+pub single_such : {A : Type 0} (P : A → Type 0) (read : List ℕ → Option A) (n : ℕ)
     → ReadsSuch P read → MakesSuch P (single read (spell.Code n))
 single_such P read n such args =
     counted_gives P 1 1 args (required read (spell.Code n) (slice_get args 0))

@@ -25,6 +25,10 @@ unknown_acl = spell.Code 13
 abbrev pub bad_condition : SpellFault
 bad_condition = spell.Code 14
 
+-- a `%` in a format that neither another `%` nor `[` follows
+abbrev pub bad_format : SpellFault
+bad_format = spell.Code 15
+
 -- a file that is used with one column and with two
 abbrev pub file_kind : SpellFault
 file_kind = spell.Code 17

@@ -1,5 +1,5 @@
 -- What the steps of src/conditions.rt say of the words of a condition: for private contracts alone.
-use Rattle.std.specs.Prelude.{◌≡◌, ◌≢◌, ℕ, Bool, List, [], ◌∷◌, codes, position, Option, None, Some, Result, Ok, Err}
+use Rattle.std.specs.Prelude.{◌≡◌, ◌≢◌, ℕ, Bool, List, [], codes, None, Some, Result, Ok, Err}
 use Rattle.std.specs.Str.{bytes_eq}
 use Rattle.hx_ast.specs.declared.Term.{Term}
 use Rattle.hx_spell.specs.declared.conditions.Gathered.{Gathered}

@@ -2,7 +2,6 @@
 -- with any number of `!` before it (HAProxy configuration manual 2.4, section 7.2).
 use Rattle.std.specs.Prelude.{ℕ, ◌%◌, ◌==◌, ◌&&◌, ◌||◌, Bool, true, false, not, List, [], ◌∷◌, ◌++◌, length, drop, codes, nat_lt, Option, Some, None, Result, Ok, Err, if◌then◌else◌}
 use Rattle.std.specs.List.{list_all, list_any, prefix_len}
-use Rattle.std.specs.Char.{is_ascii_alphanumeric}
 use Rattle.std.specs.Str.{bytes_eq}
 use Rattle.hx_ast.specs.declared.AclUse.{AclUse}
 use Rattle.hx_ast.specs.declared.AclUse.TheVariants.{Named, Own}

@@ -1,6 +1,6 @@
--- The criterion of an ACL: an expression, whose fetch may have the match method in its name, as
--- `path_beg` (HAProxy configuration manual 2.4, sections 7.1.3, 7.3 and 7.3.1). Its converters may
--- look values up in maps, whose files are references.
+-- Expressions, and the criterion of an ACL: an expression whose fetch may have the match method in
+-- its name, as `path_beg` (HAProxy configuration manual 2.4, sections 7.1.3, 7.3 and 7.3.1). The
+-- converters may look values up in maps, whose files are references.
 use Rattle.std.specs.Prelude.{ℕ, false, true, List, [], ◌∷◌, ◌++◌, codes, slice_get, Option, Some, None, Result, Ok, Err, option_map, option_and_then}
 use Rattle.std.specs.Option.{option_or}
 use Rattle.hx_base.specs.Bytes.{underscore}
@@ -17,6 +17,7 @@ use Rattle.hx_words.specs.Calls.Step.{Last, More, Faulty}
 use Rattle.hx_words.specs.declared.ArgFault.{ArgFault}
 use Rattle.hx_ast.specs.declared.Conv.{Conv}
 use Rattle.hx_ast.specs.declared.Conv.TheVariants as conv
+use Rattle.hx_ast.specs.declared.Expr.{Expr}
 use Rattle.hx_ast.specs.declared.Fetch.{Fetch}
 use Rattle.hx_spell.specs.declared.fault.SpellFault.{SpellFault}
 pub use Rattle.hx_spell.specs.declared.criteria.Criterion.{Criterion}
@@ -25,7 +26,7 @@ pub use Rattle.hx_spell.specs.declared.criteria.MethodFetch.{MethodFetch}
 use Rattle.hx_spell.specs.Codes.{bad_argument, form_fault, unsupported}
 use Rattle.hx_spell.specs.Arguments.{◌>>=◌, counted, optional}
 use Rattle.hx_spell.specs.Expressions.{call_meaning, fault_of, made_of}
-use Rattle.hx_spell.specs.Known.{Known, Reading, nothing_known, with_file, with_head, with_output}
+use Rattle.hx_spell.specs.Known.{Known, Reading, nothing_known, with_head, with_named_file, with_output}
 use Rattle.hx_spell.specs.Tables.{Maker, Table, conv_table, entry_at, fetch_table}
 
 -- ---- maps
@@ -70,7 +71,7 @@ map_head way file =
 -- the reference of the file that the first argument names
 abbrev pub map_file : ℕ → Option (List ℕ) → Known → Result (Reading ℕ) SpellFault
 map_file line None known = Err bad_argument
-map_file line (Some name) known = with_file line name true known
+map_file line (Some name) known = with_named_file line name true known
 
 abbrev pub map_conv : MapWay → Option (List ℕ) → Reading ℕ → Reading Conv
 map_conv way default head = record {
@@ -197,3 +198,30 @@ criterion_of_steps line (step ∷ steps) known = do
 -- the criterion that a text on this line writes, or the code of its first fault
 unfoldable pub criterion_of : ℕ → List ℕ → Known → Result (Reading Criterion) SpellFault
 criterion_of line text known = criterion_of_steps line (steps_of None text) known
+
+-- ---- expressions
+
+-- the fetch of the first call of an expression, whose name brings no method
+abbrev pub expr_fetch : Step → Result Fetch SpellFault
+expr_fetch (Last call rest) = call_meaning fetch_table call
+expr_fetch (More call rest) = call_meaning fetch_table call
+expr_fetch (Faulty name fault) = fault_of (entry_at fetch_table name) fault
+
+abbrev pub expr_reading : Fetch → Reading (List Conv) → Reading Expr
+expr_reading fetch convs = record {
+  value = record { fetch = fetch; convs = convs.value };
+  known = convs.known;
+}
+
+-- the expression of calls, or the code of its first fault
+abbrev pub expr_of_steps : ℕ → List Step → Known → Result (Reading Expr) SpellFault
+expr_of_steps line [] known = Err unsupported
+expr_of_steps line (step ∷ steps) known = do
+  fetch ← expr_fetch step
+  convs ← convs_after line steps known
+  Ok (expr_reading fetch convs)
+
+-- The expression that a text on this line writes, or the code of its first fault. It goes to the
+-- end of the text, or up to the stop byte, which is the first outside parentheses.
+unfoldable pub expr_of : Option ℕ → ℕ → List ℕ → Known → Result (Reading Expr) SpellFault
+expr_of stop line text known = expr_of_steps line (steps_of stop text) known

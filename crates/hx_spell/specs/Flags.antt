@@ -15,7 +15,7 @@ pub use Rattle.hx_spell.specs.declared.flag_table.Flags.{Flags}
 pub use Rattle.hx_spell.specs.declared.flag_table.Searched.{Searched}
 use Rattle.hx_spell.specs.Codes.{bad_argument, unsupported}
 use Rattle.hx_spell.specs.Arguments.{◌>>=◌}
-use Rattle.hx_spell.specs.Known.{Known, Reading, with_acl, with_file}
+use Rattle.hx_spell.specs.Known.{Known, Reading, with_acl, with_named_file}
 use Rattle.hx_spell.specs.Tables.{Table, entry_at}
 
 -- before the first flag
@@ -78,7 +78,7 @@ with_searched flags file = record {
 abbrev pub flag_argument :
     ℕ → Flag → List ℕ → Flags → Known → Result (Reading Flags) SpellFault
 flag_argument line File name flags known =
-    with_file line name flags.two known >>= (λ file. Ok (with_searched flags file))
+    with_named_file line name flags.two known >>= (λ file. Ok (with_searched flags file))
 flag_argument line Method name flags known =
     ok_or (entry_at method_table name) unsupported
     >>= (λ by. Ok (record { value = record flags { by = Some by }; known = known }))

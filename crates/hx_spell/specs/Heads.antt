@@ -1,5 +1,6 @@
--- Which heads a statement names: those of its ACLs, and those of the maps in its expressions
--- (HAProxy configuration manual 2.4, sections 7.1 and 7.3.1, `map`).
+-- Which heads a statement names: those of its ACLs, and those of the maps in its expressions; and
+-- which references it changes (HAProxy configuration manual 2.4, sections 4.2, 7.1 and 7.3.1,
+-- `map`).
 use Rattle.std.specs.Prelude.{◌≡◌, ℕ, ◌<◌, List, length, slice_get, IfSome, ⊤}
 use Rattle.std.specs.List.{All}
 use Rattle.hx_text.specs.declared.By.{By}
@@ -7,7 +8,13 @@ use Rattle.hx_ast.specs.declared.AclUse.{AclUse}
 use Rattle.hx_ast.specs.declared.AclUse.TheVariants.{Named, Own}
 use Rattle.hx_ast.specs.declared.Conv.{Conv}
 use Rattle.hx_ast.specs.declared.Conv.TheVariants as conv
+use Rattle.hx_ast.specs.declared.Action.{Action}
+use Rattle.hx_ast.specs.declared.Action.TheVariants as action
 use Rattle.hx_ast.specs.declared.Decl.{Decl}
+use Rattle.hx_ast.specs.declared.Expr.{Expr}
+use Rattle.hx_ast.specs.declared.Part.{Part}
+use Rattle.hx_ast.specs.declared.Part.TheVariants.{Text, Value}
+use Rattle.hx_ast.specs.declared.Rule.{Rule}
 use Rattle.hx_ast.specs.declared.Statement.{Statement}
 use Rattle.hx_ast.specs.declared.Statement.TheVariants as statement
 use Rattle.hx_ast.specs.declared.Term.{Term}
@@ -37,8 +44,54 @@ ConjNames heads terms = All (λ term. UseNames heads term.acl) terms
 abbrev pub CondNames : List HeadSpec → List (List Term) → Type 0
 CondNames heads cond = All (ConjNames heads) cond
 
--- each head that a statement names is there, with the method by which it is searched
-abbrev pub StatementNames : List HeadSpec → Statement → Type 0
-StatementNames heads statement.Plain = ⊤
-StatementNames heads (statement.Acl line name decl) = DeclNames heads decl
-StatementNames heads (statement.Rule rule) = IfSome rule.cond (CondNames heads)
+-- the maps of an expression
+abbrev pub ExprNames : List HeadSpec → Expr → Type 0
+ExprNames heads expr = All (NamesHead heads) expr.convs
+
+abbrev pub PartNames : List HeadSpec → Part → Type 0
+PartNames heads (Text bytes) = ⊤
+PartNames heads (Value expr) = ExprNames heads expr
+
+abbrev pub FormatNames : List HeadSpec → List Part → Type 0
+FormatNames heads format = All (PartNames heads) format
+
+-- the position of one of so many references
+abbrev pub IsTable : ℕ → ℕ → Type 0
+IsTable count table = table < count
+
+-- each head that an action names is there, and so is the reference that it changes
+abbrev pub ActionNames : List HeadSpec → ℕ → Action → Type 0
+ActionNames heads count (action.SetHeader name format) = FormatNames heads format
+ActionNames heads count (action.AddHeader name format) = FormatNames heads format
+ActionNames heads count (action.ReplaceHeader name expression format) = FormatNames heads format
+ActionNames heads count (action.ReplaceValue name expression format) = FormatNames heads format
+ActionNames heads count (action.SetMethod format) = FormatNames heads format
+ActionNames heads count (action.SetUri format) = FormatNames heads format
+ActionNames heads count (action.SetPath format) = FormatNames heads format
+ActionNames heads count (action.SetQuery format) = FormatNames heads format
+ActionNames heads count (action.SetVar name expr) = ExprNames heads expr
+ActionNames heads count (action.AddAcl table format) =
+    IsTable count table × FormatNames heads format
+ActionNames heads count (action.DelAcl table format) =
+    IsTable count table × FormatNames heads format
+ActionNames heads count (action.DelMap table format) =
+    IsTable count table × FormatNames heads format
+ActionNames heads count (action.SetMap table key value) =
+    IsTable count table × FormatNames heads key × FormatNames heads value
+ActionNames heads count (action.Redirect kind format status drops) = FormatNames heads format
+ActionNames heads count _ = ⊤
+
+pub record RuleNames (heads : List HeadSpec) (count : ℕ) (rule : Rule) : Type 0 where
+  pub action : ActionNames heads count rule.action
+  pub cond : IfSome rule.cond (CondNames heads)
+
+-- each head that a statement names is there, with the method by which it is searched, and so is
+-- each of the references, so many, that it changes
+abbrev pub StatementNames : List HeadSpec → ℕ → Statement → Type 0
+StatementNames heads count statement.Plain = ⊤
+StatementNames heads count (statement.Acl line name decl) = DeclNames heads decl
+StatementNames heads count (statement.Rule rule) = RuleNames heads count rule
+StatementNames heads count (statement.Redirect rule) = RuleNames heads count rule
+StatementNames heads count (statement.Backend line format unless cond) =
+    FormatNames heads format × IfSome cond (CondNames heads)
+StatementNames heads count (statement.Fallback line name) = ⊤

@@ -15,6 +15,7 @@ use Rattle.hx_spell.specs.declared.fault.SpellFault.TheVariants as spell
 use Rattle.hx_spell.specs.declared.table_specs.HeadSpec.{HeadSpec}
 use Rattle.hx_spell.specs.declared.table_specs.MapOutput.{MapOutput}
 use Rattle.hx_spell.specs.declared.known.Lengths.{Lengths}
+use Rattle.hx_spell.specs.Arguments.{◌>>=◌}
 use Rattle.hx_spell.specs.Codes.{file_kind, too_many_references}
 
 -- A reference as a configuration brings it: a file of patterns or of pairs, or the inline patterns
@@ -27,15 +28,18 @@ pub record ReferenceForm : Type 0 where
   pub line : ℕ
   pub words : List (List ℕ)
 
--- the references, the heads, which references are read as which type and which ACLs search, the
--- names of ACLs that are declared, and whether there was a statement
+-- The references; the heads; which references are read as which type, which ACLs search, and which
+-- `-f` or a map converter names; the names of ACLs that are declared; whether there was a statement,
+-- and whether there was `default_backend`.
 pub record Known : Type 0 where
   pub references : List ReferenceForm
   pub heads : List HeadSpec
   pub outputs : List MapOutput
   pub acls : List ℕ
+  pub named : List ℕ
   pub names : List (List ℕ)
   pub begun : Bool
+  pub fallback : Bool
 
 -- before the first line
 abbrev pub nothing_known : Known
@@ -44,8 +48,10 @@ nothing_known = record {
   heads = [];
   outputs = [];
   acls = [];
+  named = [];
   names = [];
   begun = false;
+  fallback = false;
 }
 
 -- what is read, and what is known after it
@@ -154,12 +160,30 @@ with_acl table known =
     if list_any (λ other. other == table) known.acls then known
     else record known { acls = known.acls ++ table ∷ [] }
 
+-- a reference whose file `-f` or a map converter names
+abbrev pub with_named : ℕ → Known → Known
+with_named table known =
+    if list_any (λ other. other == table) known.named then known
+    else record known { named = known.named ++ table ∷ [] }
+
+abbrev pub named_reading : Reading ℕ → Reading ℕ
+named_reading file = record { value = file.value; known = with_named file.value file.known }
+
+-- the position of the reference of a file that `-f` or a map converter names
+abbrev pub with_named_file : ℕ → List ℕ → Bool → Known → Result (Reading ℕ) SpellFault
+with_named_file line name two known =
+    with_file line name two known >>= (λ file. Ok (named_reading file))
+
 -- the name of an ACL that is declared
 abbrev pub with_name : List ℕ → Known → Known
 with_name name known = record known { names = known.names ++ name ∷ [] }
 
 abbrev pub after_statement : Known → Known
 after_statement known = record known { begun = true }
+
+-- there was `default_backend`
+abbrev pub with_fallback : Known → Known
+with_fallback known = record known { fallback = true }
 
 -- ---- reading
 
@@ -169,6 +193,12 @@ abbrev pub ReadsAs :
     {A : Type 0} → Result A SpellFault → Known → Result (Reading A) SpellFault → Type 0
 ReadsAs (Ok x) after expected = expected ≡ Ok (record { value = x; known = after })
 ReadsAs (Err fault) after expected = fault ≢ spell.NoMemory → expected ≡ Err fault
+
+-- The same of a call that reads more: what is expected is a part of what it reads.
+abbrev pub ReadsPart : {A B : Type 0} → (B → A) → Result B SpellFault → Known
+    → Result (Reading A) SpellFault → Type 0
+ReadsPart part (Ok x) after expected = expected ≡ Ok (record { value = part x; known = after })
+ReadsPart part (Err fault) after expected = fault ≢ spell.NoMemory → expected ≡ Err fault
 
 -- the list begins with these items
 abbrev pub BeginsWith : {A : Type 0} → List A → List A → Type 0
@@ -181,8 +211,10 @@ pub record Extends (before after : Known) : Type 0 where
   pub heads : BeginsWith before.heads after.heads
   pub outputs : BeginsWith before.outputs after.outputs
   pub acls : BeginsWith before.acls after.acls
+  pub named : BeginsWith before.named after.named
   pub names : after.names ≡ before.names
   pub begun : after.begun ≡ before.begun
+  pub fallback : after.fallback ≡ before.fallback
 
 -- how much is known: what a line that is refused brought is forgotten by it
 abbrev pub lengths_of : Known → Lengths
@@ -191,4 +223,5 @@ lengths_of known = record {
   heads = length known.heads;
   outputs = length known.outputs;
   acls = length known.acls;
+  named = length known.named;
 }

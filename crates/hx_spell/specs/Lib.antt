@@ -12,12 +12,21 @@ pub mod Flags
 pub mod Patterns
 pub mod Declarations
 pub mod Conditions
+pub mod Formats
+pub mod Actions
 pub mod Lines
+pub mod ExpressionRelation
+pub mod AclRelation
+pub mod ConditionRelation
+pub mod FormatRelation
+pub mod ActionRelation
 pub mod Relation
 pub mod Heads
 -- Views of the code, for private contracts alone:
 pub mod KnownView
 pub mod TableView
 pub mod CriterionView
+pub mod FormatView
+pub mod ActionView
 pub mod ConditionView
 pub mod LineView

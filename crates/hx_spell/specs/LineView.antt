@@ -1,13 +1,9 @@
--- The private enum of src/line.rt as the definitions have it, and a step of its functions.
-use Rattle.std.specs.Prelude.{ℕ, List, Result, Ok, Err}
-use Rattle.hx_ast.specs.declared.Statement.{Statement}
-use Rattle.hx_spell.specs.declared.fault.SpellFault.{SpellFault}
+-- The private enum of src/line.rt as the definitions have it.
 use Rattle.hx_spell.specs.declared.line.Keyword.TheVariants as code
 use Rattle.hx_spell.specs.declared.line.Keyword.{Keyword as CodeKeyword}
-use Rattle.hx_spell.specs.Arguments.{◌>>=◌}
-use Rattle.hx_spell.specs.Known.{Known, Reading}
-use Rattle.hx_spell.specs.Lines.{Keyword, deny_of, rule_after}
+use Rattle.hx_spell.specs.Lines.{Keyword}
 use Rattle.hx_spell.specs.Lines.Keyword.{Frontend, Mode, Options, Ignored, Acl, HttpRequest}
+use Rattle.hx_spell.specs.Lines.Keyword.{DefaultBackend, Redirect, UseBackend}
 
 abbrev pub keyword_of : CodeKeyword → Keyword
 keyword_of code.Frontend = Frontend
@@ -16,8 +12,6 @@ keyword_of code.Options = Options
 keyword_of code.Ignored = Ignored
 keyword_of code.Acl = Acl
 keyword_of code.HttpRequest = HttpRequest
-
--- the rule of the words after an action that is supported
-abbrev pub denial : ℕ → List (List ℕ) → Known → Result (Reading Statement) SpellFault
-denial line words known =
-    deny_of words >>= (λ after. rule_after line after.action after.words known)
+keyword_of code.Redirect = Redirect
+keyword_of code.UseBackend = UseBackend
+keyword_of code.DefaultBackend = DefaultBackend

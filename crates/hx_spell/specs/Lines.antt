@@ -1,25 +1,25 @@
 -- What the words of a line say: a statement, or the code of what is wrong with them first from the
--- left (HAProxy configuration manual 2.4, sections 4.1, 4.2 and 7.1).
-use Rattle.std.specs.Prelude.{ℕ, ◌&&◌, ◌||◌, Bool, true, false, nat_le, List, [], ◌∷◌, codes, Option, Some, None, Result, Ok, Err, if◌then◌else◌, option_and_then}
+-- left (HAProxy configuration manual 2.4, sections 4.1, 4.2, 7.1 and 7.2).
+use Rattle.std.specs.Prelude.{ℕ, Bool, true, false, List, [], ◌∷◌, codes, Option, Some, None, Result, Ok, Err, if◌then◌else◌}
 use Rattle.std.specs.List.{list_any}
 use Rattle.std.specs.Option.{ok_or}
 use Rattle.std.specs.Str.{bytes_eq}
-use Rattle.hx_text.specs.Network.{width_of}
-use Rattle.hx_words.specs.CallForm.{CallForm}
-use Rattle.hx_words.specs.Calls.{Step, step_of}
-use Rattle.hx_words.specs.Calls.Step.{Last, More, Faulty}
+use Rattle.hx_words.specs.Calls.{step_of}
 use Rattle.hx_ast.specs.declared.Action.{Action}
-use Rattle.hx_ast.specs.declared.Action.TheVariants.{Deny}
 use Rattle.hx_ast.specs.declared.Decl.{Decl}
+use Rattle.hx_ast.specs.declared.Part.{Part}
+use Rattle.hx_ast.specs.declared.Rule.{Rule}
 use Rattle.hx_ast.specs.declared.Statement.{Statement}
 use Rattle.hx_ast.specs.declared.Statement.TheVariants as statement
 use Rattle.hx_ast.specs.declared.Term.{Term}
 use Rattle.hx_spell.specs.declared.fault.SpellFault.{SpellFault}
+pub use Rattle.hx_spell.specs.declared.line.When.{When}
+use Rattle.hx_spell.specs.Actions.{Taken, action_words, format_word, head_of_step, with_redirect}
 use Rattle.hx_spell.specs.Arguments.{◌>>=◌}
-use Rattle.hx_spell.specs.Codes.{bad_argument, bad_name, form_fault, misplaced, unsupported}
+use Rattle.hx_spell.specs.Codes.{bad_argument, bad_name, misplaced, unsupported}
 use Rattle.hx_spell.specs.Conditions.{cond_of, is_acl_name, is_name}
-use Rattle.hx_spell.specs.Declarations.{decl_of}
-use Rattle.hx_spell.specs.Known.{Known, Reading, after_statement, with_name}
+use Rattle.hx_spell.specs.Declarations.{decl_of, is_empty}
+use Rattle.hx_spell.specs.Known.{Known, Reading, after_statement, with_fallback, with_name}
 use Rattle.hx_spell.specs.Tables.{Table, entry_at}
 
 -- ---- statements without a part in the rules
@@ -79,79 +79,83 @@ acl_of line (name ∷ words) known =
 
 -- ---- rules
 
--- whether the action of this name is supported
-abbrev pub is_action : List ℕ → Bool
-is_action name = bytes_eq name (codes "deny")
-
-abbrev pub when_action : List ℕ → Option SpellFault → Option SpellFault
-when_action name fault = if is_action name then fault else Some unsupported
-
-abbrev pub arguments_fault : List (List ℕ) → Option SpellFault
-arguments_fault [] = None
-arguments_fault args = Some bad_argument
-
--- the word of an action is one call, here without arguments
-abbrev pub action_fault : Step → Option SpellFault
-action_fault (Last call rest) = when_action call.name (arguments_fault call.args)
-action_fault (More call rest) = when_action call.name (Some bad_argument)
-action_fault (Faulty name fault) = when_action name (Some (form_fault fault))
-
--- a status with which a request can be denied
-abbrev pub status_of : List ℕ → Option ℕ
-status_of text =
-    option_and_then (λ n. if nat_le 200 n then Some n else None) (width_of 599 text)
-
--- what stands in a rule before its condition, and the words of that
-pub record AfterAction : Type 0 where
-  pub action : Action
-  pub words : List (List ℕ)
-
-abbrev pub is_status_word : List ℕ → Bool
-is_status_word word = bytes_eq word (codes "status") || bytes_eq word (codes "deny_status")
-
-abbrev pub deny_with : Option ℕ → List (List ℕ) → AfterAction
-deny_with status words = record { action = Deny status; words = words }
-
--- the status of a denial, if it is said
-abbrev pub deny_after : List ℕ → List (List ℕ) → Result AfterAction SpellFault
-deny_after word [] = Err bad_argument
-deny_after word (text ∷ words) =
-    ok_or (status_of text) bad_argument >>= (λ status. Ok (deny_with (Some status) words))
-
-abbrev pub deny_of : List (List ℕ) → Result AfterAction SpellFault
-deny_of [] = Ok (deny_with None [])
-deny_of (word ∷ words) =
-    if is_status_word word then deny_after word words else Ok (deny_with None (word ∷ words))
-
 -- the words that a condition follows, with whether they turn it round
 unfoldable pub polarity_table : Table Bool
 polarity_table = (codes "if", false) ∷ (codes "unless", true) ∷ []
 
-abbrev pub rule_reading : ℕ → Action → Bool → Option (List (List Term)) → Known → Reading Statement
-rule_reading line action unless cond known = record {
-  value = statement.Rule (record { line = line; action = action; unless = unless; cond = cond });
+abbrev pub when_reading : Bool → Option (List (List Term)) → Known → Reading When
+when_reading unless cond known = record {
+  value = record { unless = unless; cond = cond };
   known = known;
 }
 
--- the rule of an action and the words after it: none, or a condition
-abbrev pub rule_after : ℕ → Action → List (List ℕ) → Known
-    → Result (Reading Statement) SpellFault
-rule_after line action [] known = Ok (rule_reading line action false None known)
-rule_after line action (word ∷ words) known = do
+-- the last words of a rule: none, or a condition
+abbrev pub when_of : ℕ → List (List ℕ) → Known → Result (Reading When) SpellFault
+when_of line [] known = Ok (when_reading false None known)
+when_of line (word ∷ words) known = do
   unless ← ok_or (entry_at polarity_table word) bad_argument
   cond ← cond_of line words known
-  Ok (rule_reading line action unless (Some cond.value) cond.known)
+  Ok (when_reading unless (Some cond.value) cond.known)
 
-abbrev pub rule_unless : Option SpellFault → ℕ → List (List ℕ) → Known
+-- the rule of an action and the words after it
+abbrev pub rule_reading : ℕ → Action → List (List ℕ) → Known → Result (Reading Rule) SpellFault
+rule_reading line act words known =
+    when_of line words known
+    >>= (λ when. Ok (record {
+      value = record {
+        line = line;
+        action = act;
+        unless = when.value.unless;
+        cond = when.value.cond;
+      };
+      known = when.known;
+    }))
+
+abbrev pub rule_statement : ℕ → (Rule → Statement) → Reading (Taken Action)
     → Result (Reading Statement) SpellFault
-rule_unless (Some fault) line words known = Err fault
-rule_unless None line words known =
-    deny_of words >>= (λ after. rule_after line after.action after.words known)
+rule_statement line make act =
+    rule_reading line act.value.item act.value.words act.known
+    >>= (λ rule. Ok (record { value = make rule.value; known = rule.known }))
 
+-- the rule of the words after `http-request`
 abbrev pub rule_of : ℕ → List (List ℕ) → Known → Result (Reading Statement) SpellFault
 rule_of line [] known = Err bad_argument
-rule_of line (action ∷ words) known =
-    rule_unless (action_fault (step_of None action)) line words known
+rule_of line (word ∷ words) known = do
+  head ← head_of_step line (step_of None word) known
+  act ← action_words line head.value words head.known
+  rule_statement line statement.Rule act
+
+-- the rule of the words after `redirect`
+abbrev pub redirect_of : ℕ → List (List ℕ) → Known → Result (Reading Statement) SpellFault
+redirect_of line words known =
+    with_redirect line words known >>= (λ act. rule_statement line statement.Redirect act)
+
+-- ---- backends
+
+abbrev pub backend : ℕ → List Part → When → Statement
+backend line format when = statement.Backend line format when.unless when.cond
+
+-- the words after `use_backend`
+abbrev pub backend_of : ℕ → List (List ℕ) → Known → Result (Reading Statement) SpellFault
+backend_of line words known = do
+  format ← format_word line words known
+  when ← when_of line format.value.words format.known
+  Ok (record { value = backend line format.value.item when.value; known = when.known })
+
+-- the one name of a backend
+abbrev pub fallback_named : ℕ → List (List ℕ) → Known → Result (Reading Statement) SpellFault
+fallback_named line [] known = Err bad_argument
+fallback_named line (name ∷ words) known =
+    if is_name name
+    then (if is_empty words
+    then Ok (record { value = statement.Fallback line name; known = with_fallback known })
+    else Err bad_argument)
+    else Err bad_name
+
+-- the words after `default_backend`, which stands once at most
+abbrev pub fallback_of : ℕ → List (List ℕ) → Known → Result (Reading Statement) SpellFault
+fallback_of line words known =
+    if known.fallback then Err misplaced else fallback_named line words known
 
 -- ---- all statements
 
@@ -162,6 +166,9 @@ pub data Keyword : Type 0 where
   Ignored : Keyword
   Acl : Keyword
   HttpRequest : Keyword
+  Redirect : Keyword
+  UseBackend : Keyword
+  DefaultBackend : Keyword
 
 unfoldable pub keyword_table : Table Keyword
 keyword_table =
@@ -176,6 +183,9 @@ keyword_table =
     ∷ (codes "timeout", Ignored)
     ∷ (codes "acl", Acl)
     ∷ (codes "http-request", HttpRequest)
+    ∷ (codes "redirect", Redirect)
+    ∷ (codes "use_backend", UseBackend)
+    ∷ (codes "default_backend", DefaultBackend)
     ∷ []
 
 -- the statement of a first word and those after it
@@ -189,6 +199,9 @@ keyword_statement line (Some Options) words known = plain_unless (option_fault w
 keyword_statement line (Some Ignored) words known = plain_unless None known
 keyword_statement line (Some Acl) words known = acl_of line words known
 keyword_statement line (Some HttpRequest) words known = rule_of line words known
+keyword_statement line (Some Redirect) words known = redirect_of line words known
+keyword_statement line (Some UseBackend) words known = backend_of line words known
+keyword_statement line (Some DefaultBackend) words known = fallback_of line words known
 
 abbrev pub then_begun : Reading Statement → Reading Statement
 then_begun r = record { value = r.value; known = after_statement r.known }

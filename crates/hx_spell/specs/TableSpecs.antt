@@ -1,6 +1,6 @@
 -- The references of a configuration as those see them who fill them (HAProxy configuration manual
 -- 2.4, sections 7.1 and 7.3.1, `map`).
-use Rattle.std.specs.Prelude.{◌≡◌, ◌≢◌, ◌<◌, ◌≤◌, ℕ, ◌+◌, ◌==◌, Bool, true, false, List, [], ◌∷◌, length, Some, IfSome, is_some, ⊤}
+use Rattle.std.specs.Prelude.{◌≡◌, ◌≢◌, ◌<◌, ◌≤◌, ℕ, ◌+◌, ◌==◌, Bool, true, false, List, [], ◌∷◌, length, Some, IfSome, ⊤}
 use Rattle.std.specs.List.{All, list_any}
 use Rattle.hx_text.specs.declared.Out.{Out}
 use Rattle.hx_text.specs.declared.Out.TheVariants as output
@@ -20,7 +20,7 @@ table_spec known r form = record {
   given = form.given;
   two_column = form.two_column;
   acl = list_any (λ table. table == r) known.acls;
-  named = is_some form.file;
+  named = list_any (λ table. table == r) known.named;
   line = form.line;
   out_str = is_read_as known r output.Str;
   out_int = is_read_as known r output.Int;

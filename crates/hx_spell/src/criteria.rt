@@ -10,7 +10,8 @@ ghost use Rattle.hx_spell.specs.Criteria.{derived_of_parts, fetch_by, fetch_faul
 ghost use Rattle.hx_spell.specs.Criteria.{map_arguments, map_file, map_head, map_table};
 ghost use Rattle.hx_spell.specs.Criteria.{value_of_map};
 ghost use Rattle.hx_spell.specs.CriterionView.{fetch_way_view};
-ghost use Rattle.hx_spell.specs.Known.{Extends, ReadsAs};
+ghost use Rattle.hx_spell.specs.Formats.{rest_after};
+ghost use Rattle.hx_spell.specs.Known.{Extends, ReadsAs, ReadsPart};
 ghost use Rattle.hx_spell.specs.TableView.{fetch_maker};
 ghost use Rattle.hx_spell.specs.Tables.{entry_at};
 
@@ -101,7 +102,7 @@ fn map_file(known: &mut Knowledge, line: u64, call: &Call) -> Result<u32, SpellF
 {
     match call.arg(0) {
         None => Err(SpellFault::Code(BAD_ARGUMENT)),
-        Some(name) => known.file(line, name, true),
+        Some(name) => known.named_file(line, name, true),
     }
 }
 
@@ -218,30 +219,39 @@ fn fetch_fault(name: &[u8], fault: ArgFault) -> SpellFault
     }
 }
 
+/// The converters that a text of calls writes, and what follows their stop byte, if there is one.
+#[derive(Drop)]
+pub(crate) struct ConvsRead<'a> {
+    pub(crate) convs: Convs,
+    pub(crate) rest: &'a [u8],
+}
+
 /// The converters that a text of calls writes. The calls are judged one by one from the left.
 #[tactic(auto, using(crate::proofs::CriterionSteps::steps_of_criterion))]
-fn convs_of(
+pub(crate) fn convs_of<'a>(
     known: &mut Knowledge,
     alloc: Global,
     line: u64,
-    text: &[u8],
-) -> Result<Convs, SpellFault>
-    ensures answers { ReadsAs result known.new
-        (convs_after line (steps_of None text.now) known.old) }
+    stop: Option<u8>,
+    text: &'a [u8],
+) -> Result<ConvsRead<'a>, SpellFault>
+    ensures answers { ReadsPart (λ read. read.convs) result known.new
+        (convs_after line (steps_of stop text.now) known.old) }
+    ensures rest { IfOk result (λ read. read.rest.now ≡ rest_after (steps_of stop text.now)) }
     ensures extends { Extends known.old known.new }
 {
     let mut convs = Items::new(alloc);
     let mut rest = text;
     'calls: loop {
-        laws::call_law(rest, None);
-        match next_call(alloc, rest, None)? {
+        laws::call_law(rest, stop);
+        match next_call(alloc, rest, stop)? {
             CallStep::More { call, rest: after } => {
                 convs.push(conv_of(known, alloc, line, &call)?)?;
                 rest = after;
             }
-            CallStep::Last { call, rest: _ } => {
+            CallStep::Last { call, rest: after } => {
                 convs.push(conv_of(known, alloc, line, &call)?)?;
-                return Ok(convs);
+                return Ok(ConvsRead { convs, rest: after });
             }
             CallStep::Faulty { name, fault } => return Err(conv_fault(name.as_slice(), fault)),
         }
@@ -263,7 +273,7 @@ fn criterion_from(
     match step {
         CallStep::More { call, rest } => {
             let MethodFetch { fetch, by } = fetch_of(alloc, &call)?;
-            let convs = convs_of(known, alloc, line, rest)?;
+            let ConvsRead { convs, .. } = convs_of(known, alloc, line, None, rest)?;
             Ok(Criterion {
                 expr: Expr { fetch, convs },
                 by,

@@ -1,16 +1,24 @@
-ghost use Rattle.std.specs.Prelude.{◌≡◌, Err, option_map};
+ghost use Rattle.std.specs.Prelude.{◌≡◌, ◌∷◌, Err, IfOk, option_map};
+ghost use Rattle.hx_words.specs.Calls.{further_steps, steps_of};
+ghost use Rattle.hx_words.specs.StepView.{step_view};
 ghost use Rattle.hx_spell.specs.Codes.{AnswersAs};
+ghost use Rattle.hx_spell.specs.Criteria.{expr_of, expr_of_steps};
 ghost use Rattle.hx_spell.specs.Expressions.{call_meaning, fault_of};
+ghost use Rattle.hx_spell.specs.Formats.{rest_after};
+ghost use Rattle.hx_spell.specs.Known.{Extends, ReadsPart};
 ghost use Rattle.hx_spell.specs.Tables.{entry_at, fetch_table, conv_table};
 ghost use Rattle.hx_spell.specs.TableView.{fetch_maker, conv_maker};
 
 use crate::conv_table::{CONVS, ConvName};
 use crate::convs::conv;
+use crate::criteria::{ConvsRead, convs_of};
 use crate::fault::{SpellFault, UNSUPPORTED, form_fault};
 use crate::fetch_table::{FETCHES, FetchName};
+use crate::fetches::fetch;
+use crate::known::Knowledge;
 use crate::lookup::lookup;
-use hx_ast::Conv;
-use hx_words::{ArgFault, Call};
+use hx_ast::{Conv, Expr, Fetch, Items};
+use hx_words::{ArgFault, Call, CallStep, laws, next_call};
 use std::alloc::Global;
 
 pub(crate) fn fetch_name(name: &[u8]) -> Option<FetchName>
@@ -41,4 +49,84 @@ pub(crate) fn conv_fault(name: &[u8], fault: ArgFault) -> SpellFault
         None => SpellFault::Code(UNSUPPORTED),
         Some(_) => form_fault(fault),
     }
+}
+
+fn fetch_of(alloc: Global, call: &Call) -> Result<Fetch, SpellFault>
+    ensures { AnswersAs result (call_meaning fetch_table call.now) }
+{
+    match fetch_name(call.name()) {
+        None => Err(SpellFault::Code(UNSUPPORTED)),
+        Some(name) => fetch(alloc, name, call),
+    }
+}
+
+fn fetch_fault(name: &[u8], fault: ArgFault) -> SpellFault
+    ensures { fault_of (entry_at fetch_table name.now) fault ≡ Err result }
+{
+    match fetch_name(name) {
+        None => SpellFault::Code(UNSUPPORTED),
+        Some(_) => form_fault(fault),
+    }
+}
+
+/// An expression, and what follows its stop byte, if there is one.
+#[derive(Drop)]
+pub(crate) struct ExprRead<'a> {
+    pub(crate) expr: Expr,
+    pub(crate) rest: &'a [u8],
+}
+
+/// The expression of a text that begins with this step.
+fn expr_from<'a>(
+    known: &mut Knowledge,
+    alloc: Global,
+    line: u64,
+    stop: Option<u8>,
+    step: CallStep<'a>,
+) -> Result<ExprRead<'a>, SpellFault>
+    ensures answers { let first = step_view step.entry in ReadsPart (λ read. read.expr) result
+        known.new (expr_of_steps line
+        (first ∷ further_steps (λ rest. steps_of stop rest) first) known.old) }
+    ensures rest { let first = step_view step.entry in IfOk result (λ read. read.rest.now
+        ≡ rest_after (first ∷ further_steps (λ rest. steps_of stop rest) first)) }
+    ensures extends { Extends known.old known.new }
+{
+    match step {
+        CallStep::More { call, rest } => {
+            let fetch = fetch_of(alloc, &call)?;
+            let ConvsRead { convs, rest } = convs_of(known, alloc, line, stop, rest)?;
+            Ok(ExprRead {
+                expr: Expr { fetch, convs },
+                rest,
+            })
+        }
+        CallStep::Last { call, rest } => {
+            let fetch = fetch_of(alloc, &call)?;
+            let convs = Items::new(alloc);
+            Ok(ExprRead {
+                expr: Expr { fetch, convs },
+                rest,
+            })
+        }
+        CallStep::Faulty { name, fault } => Err(fetch_fault(name.as_slice(), fault)),
+    }
+}
+
+/// The expression that a text on this line writes, up to the stop byte, if there is one: a fetch,
+/// and then converters. The files of maps are references from then on.
+pub(crate) fn expr_of<'a>(
+    known: &mut Knowledge,
+    alloc: Global,
+    line: u64,
+    stop: Option<u8>,
+    text: &'a [u8],
+) -> Result<ExprRead<'a>, SpellFault>
+    ensures answers { ReadsPart (λ read. read.expr) result known.new
+        (expr_of stop line text.now known.old) }
+    ensures rest { IfOk result (λ read. read.rest.now ≡ rest_after (steps_of stop text.now)) }
+    ensures extends { Extends known.old known.new }
+{
+    laws::call_law(text, stop);
+    let step = next_call(alloc, text, stop)?;
+    expr_from(known, alloc, line, stop, step)
 }

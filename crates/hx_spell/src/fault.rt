@@ -20,6 +20,9 @@ pub(crate) const UNKNOWN_ACL: u32 = 13;
 /// The code of words that are no condition.
 pub(crate) const BAD_CONDITION: u32 = 14;
 
+/// The code of a `%` in a format that neither another `%` nor `[` follows.
+pub(crate) const BAD_FORMAT: u32 = 15;
+
 /// The code of a file that is used with one column and with two.
 pub(crate) const FILE_KIND: u32 = 17;
 

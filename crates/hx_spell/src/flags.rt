@@ -93,7 +93,7 @@ fn with_file(
     ensures extends { Extends known.old known.new }
 {
     let mut flags = flags;
-    let table = known.file(line, name, flags.two)?;
+    let table = known.named_file(line, name, flags.two)?;
     known.acl(table)?;
     flags.files.push(Searched {
         table,
@@ -152,7 +152,7 @@ fn no_flags(alloc: Global, by: Option<By>) -> Flags
 ///
 /// The words are judged from the left. Code 9 for another flag and for another match method, 10
 /// for a flag that stands a second time, or before which `-m` says a method without patterns, or
-/// whose argument is missing or isn't of its form, and 17 and 23 for a file as `Knowledge::file`
+/// whose argument is missing or isn't of its form, and 17 and 23 for a file as `Knowledge::named_file`
 /// refuses it.
 pub(crate) fn flags_from<'a>(
     known: &mut Knowledge,

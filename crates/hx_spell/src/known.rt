@@ -7,6 +7,7 @@ ghost use Rattle.hx_spell.specs.Known.{nothing_known, is_of_file, is_head, is_ou
 ghost use Rattle.hx_spell.specs.Known.{method_number, output_number};
 ghost use Rattle.hx_spell.specs.Known.{with_file, with_reference, with_head};
 ghost use Rattle.hx_spell.specs.Known.{with_output, with_acl, with_name, after_statement};
+ghost use Rattle.hx_spell.specs.Known.{with_fallback, with_named, with_named_file};
 ghost use Rattle.hx_spell.specs.KnownView.{form_of, tables_of};
 ghost use Rattle.hx_spell.specs.Known.{lengths_of, has_columns, file_form, ReadsAs, Extends, Known};
 
@@ -39,13 +40,14 @@ const PREDEFINED: [&[u8]; 15] = [
     b"METH_TRACE",
 ];
 
-/// How many references, heads, types of values and ACLs are known.
+/// How much is known of what a line may bring.
 #[derive(Clone, Copy)]
 pub(crate) struct Lengths {
     references: usize,
     heads: usize,
     outputs: usize,
     acls: usize,
+    named: usize,
 }
 
 /// What the lines so far bring. Contracts see it as `Known`.
@@ -56,8 +58,10 @@ pub(crate) struct Knowledge {
     heads: Vec<HeadSpec>,
     outputs: Vec<MapOutput>,
     acls: Vec<u32>,
+    named: Vec<u32>,
     names: Vec<Octets>,
     begun: bool,
+    fallback: bool,
 }
 
 impl Model for Knowledge {
@@ -72,8 +76,10 @@ impl Model for Knowledge {
       heads = k.heads.items;
       outputs = k.outputs.items;
       acls = k.acls.items;
+      named = k.named.items;
       names = k.names.items;
       begun = k.begun;
+      fallback = k.fallback;
     } };
 }
 
@@ -220,8 +226,10 @@ impl Knowledge {
             heads: Vec::new(alloc),
             outputs: Vec::new(alloc),
             acls: Vec::new(alloc),
+            named: Vec::new(alloc),
             names: Vec::new(alloc),
             begun: false,
+            fallback: false,
         }
     }
 
@@ -230,6 +238,13 @@ impl Knowledge {
         ensures { result ≡ self.now.begun }
     {
         self.begun
+    }
+
+    /// Whether there was `default_backend`.
+    pub(crate) fn has_fallback(&self) -> bool
+        ensures { result ≡ self.now.fallback }
+    {
+        self.fallback
     }
 
     /// Whether an ACL of this name is declared on a line so far, or predefined.
@@ -261,6 +276,12 @@ impl Knowledge {
         ensures { result ≡ list_any (λ other. other == table) self.now.acls }
     {
         self.acls.iter().any(|other| *other == table)
+    }
+
+    fn is_named(&self, table: u32) -> bool
+        ensures { result ≡ list_any (λ other. other == table) self.now.named }
+    {
+        self.named.iter().any(|other| *other == table)
     }
 
     /// Whether the reference at this position is used with two columns, or with one.
@@ -368,6 +389,33 @@ impl Knowledge {
         Ok(())
     }
 
+    /// A `-f` or a map converter names the file of a reference.
+    fn note_named(&mut self, table: u32) -> Result<(), NoMemory>
+        ensures known { IfOk result (λ _. self.new ≡ with_named table self.old) }
+        ensures extends { Extends self.old self.new }
+    {
+        if !self.is_named(table) {
+            self.named.push(table)?;
+        }
+        Ok(())
+    }
+
+    /// The position of the reference of the file `name`, which `-f` or a map converter names on
+    /// this line. Refusals are those of `file`.
+    pub(crate) fn named_file(
+        &mut self,
+        line: u64,
+        name: &[u8],
+        two: bool,
+    ) -> Result<u32, SpellFault>
+        ensures answers { ReadsAs result self.new (with_named_file line name.now two self.old) }
+        ensures extends { Extends self.old self.new }
+    {
+        let table = self.file(line, name, two)?;
+        self.note_named(table)?;
+        Ok(table)
+    }
+
     /// An ACL of this name is declared. Where memory runs out, none is.
     pub(crate) fn name(&mut self, name: &[u8]) -> Result<(), NoMemory>
         ensures ok { OnOk result (self.new ≡ with_name name.now self.old) }
@@ -385,6 +433,13 @@ impl Knowledge {
         self.begun = true;
     }
 
+    /// There was `default_backend`.
+    pub(crate) fn note_fallback(&mut self)
+        ensures { self.new ≡ with_fallback self.old }
+    {
+        self.fallback = true;
+    }
+
     /// How much is known, for `shorten`.
     pub(crate) fn lengths(&self) -> Lengths
         ensures { result ≡ lengths_of self.now }
@@ -394,6 +449,7 @@ impl Knowledge {
             heads: self.heads.len(),
             outputs: self.outputs.len(),
             acls: self.acls.len(),
+            named: self.named.len(),
         }
     }
 
@@ -407,6 +463,7 @@ impl Knowledge {
         self.heads.truncate(lengths.heads);
         self.outputs.truncate(lengths.outputs);
         self.acls.truncate(lengths.acls);
+        self.named.truncate(lengths.named);
     }
 
     /// The references, each with what it is used for, and the heads. It takes no memory.
@@ -418,8 +475,9 @@ impl Knowledge {
             heads,
             outputs,
             acls,
+            named,
             ..
         } = self;
-        TableSpecs::new(references, heads, &acls, &outputs)
+        TableSpecs::new(references, heads, &acls, &named, &outputs)
     }
 }

@@ -16,6 +16,9 @@
 //! function with the codes of other words.
 #![tactic(auto)]
 
+mod action_heads;
+mod action_table;
+mod actions;
 mod arguments;
 mod conditions;
 mod conv_table;
@@ -29,6 +32,7 @@ mod fetch_table;
 mod fetches;
 mod flag_table;
 mod flags;
+mod formats;
 mod known;
 pub mod laws;
 mod line;
@@ -37,6 +41,7 @@ mod map_table;
 mod patterns;
 mod speller;
 mod table_specs;
+mod taken;
 mod values;
 mod variables;
 

@@ -1,30 +1,29 @@
-ghost use Rattle.std.specs.Prelude.{◌≡◌, ◌≢◌, IfSome, MatchResult, None, Some, OnErr, option_map};
+ghost use Rattle.std.specs.Prelude.{◌≡◌, OnErr, option_map};
 ghost use Rattle.std.specs.List.{list_any};
 ghost use Rattle.std.specs.Str.{bytes_eq};
-ghost use Rattle.hx_words.specs.Calls.{step_of};
-ghost use Rattle.hx_words.specs.StepView.{step_view};
 ghost use Rattle.hx_spell.specs.Known.{Known, ReadsAs, Extends};
-ghost use Rattle.hx_spell.specs.Lines.{acl_after_name, acl_of, action_fault, frontend_fault};
-ghost use Rattle.hx_spell.specs.Lines.{is_status_word, keyword_statement, keyword_table, line_of};
+ghost use Rattle.hx_spell.specs.Lines.{acl_after_name, acl_of, backend_of, fallback_of};
+ghost use Rattle.hx_spell.specs.Lines.{frontend_fault, keyword_statement, keyword_table, line_of};
 ghost use Rattle.hx_spell.specs.Lines.{mode_fault, option_fault, placed_frontend_fault};
-ghost use Rattle.hx_spell.specs.Lines.{plain_options, plain_unless, polarity_table, rule_after};
-ghost use Rattle.hx_spell.specs.Lines.{rule_of, status_of, when_action};
-ghost use Rattle.hx_spell.specs.LineView.{denial, keyword_of};
+ghost use Rattle.hx_spell.specs.Lines.{plain_options, plain_unless, polarity_table, redirect_of};
+ghost use Rattle.hx_spell.specs.Lines.{rule_of, rule_reading, when_of};
+ghost use Rattle.hx_spell.specs.LineView.{keyword_of};
 ghost use Rattle.hx_spell.specs.Tables.{entry_at};
 
+use crate::action_heads::action_head;
+use crate::actions::{action_words, format_word, redirect};
 use crate::conditions::{cond_of, is_acl_name, is_name};
 use crate::declarations::decl_of;
-use crate::fault::{BAD_ARGUMENT, BAD_NAME, MISPLACED, SpellFault, UNSUPPORTED, form_fault};
+use crate::fault::{BAD_ARGUMENT, BAD_NAME, MISPLACED, SpellFault, UNSUPPORTED};
 use crate::known::Knowledge;
 use crate::lookup::lookup;
-use crate::values::width;
+use crate::taken::Taken;
 use hx_ast::{Action, Cond, Rule, Statement};
 use hx_text::Octets;
-use hx_words::{CallStep, next_call};
 use std::alloc::Global;
 
 /// The first words of statements.
-const KEYWORDS: [(&[u8], Keyword); 11] = [
+const KEYWORDS: [(&[u8], Keyword); 14] = [
     (b"frontend", Keyword::Frontend),
     (b"mode", Keyword::Mode),
     (b"option", Keyword::Options),
@@ -36,6 +35,9 @@ const KEYWORDS: [(&[u8], Keyword); 11] = [
     (b"timeout", Keyword::Ignored),
     (b"acl", Keyword::Acl),
     (b"http-request", Keyword::HttpRequest),
+    (b"redirect", Keyword::Redirect),
+    (b"use_backend", Keyword::UseBackend),
+    (b"default_backend", Keyword::DefaultBackend),
 ];
 
 /// The words that a condition follows, each with whether it turns the condition round.
@@ -50,6 +52,9 @@ enum Keyword {
     Ignored,
     Acl,
     HttpRequest,
+    Redirect,
+    UseBackend,
+    DefaultBackend,
 }
 
 fn keyword_at(word: &[u8]) -> Option<Keyword>
@@ -180,119 +185,57 @@ fn acl_of(
     acl_after_name(known, alloc, line, name.as_slice(), words)
 }
 
-/// What is wrong with an action of this name, which has this fault if it is supported.
-fn when_action(name: &[u8], fault: Option<SpellFault>) -> Option<SpellFault>
-    ensures { result ≡ when_action name.now fault }
-{
-    if name == b"deny".as_slice() {
-        fault
-    } else {
-        Some(SpellFault::Code(UNSUPPORTED))
-    }
+/// Whether and when a rule is taken.
+#[derive(Drop)]
+struct When {
+    unless: bool,
+    cond: Option<Cond>,
 }
 
-/// What is wrong with an action, which is one call without arguments.
-fn action_fault(step: CallStep<'_>) -> Option<SpellFault>
-    ensures { result ≡ action_fault (step_view step.entry) }
+/// The last words of a rule: none, or a condition.
+fn when_of(
+    known: &mut Knowledge,
+    alloc: Global,
+    line: u64,
+    words: &[Octets],
+) -> Result<When, SpellFault>
+    ensures answers { ReadsAs result known.new (when_of line words.now known.old) }
+    ensures extends { Extends known.old known.new }
 {
-    match step {
-        CallStep::Last { call, rest: _ } => {
-            let fault = if call.len() == 0 {
-                None
-            } else {
-                Some(SpellFault::Code(BAD_ARGUMENT))
-            };
-            when_action(call.name(), fault)
-        }
-        CallStep::More { call, rest: _ } => {
-            when_action(call.name(), Some(SpellFault::Code(BAD_ARGUMENT)))
-        }
-        CallStep::Faulty { name, fault } => when_action(name.as_slice(), Some(form_fault(fault))),
-    }
+    let Some((word, words)) = words.split_first() else {
+        return Ok(When {
+            unless: false,
+            cond: None,
+        });
+    };
+    let Some(unless) = polarity_at(word.as_slice()) else {
+        return Err(SpellFault::Code(BAD_ARGUMENT));
+    };
+    let cond = cond_of(known, alloc, line, words)?;
+    Ok(When {
+        unless,
+        cond: Some(cond),
+    })
 }
 
-/// Judges the word of an action.
-fn action(alloc: Global, word: &[u8]) -> Result<(), SpellFault>
-    ensures { MatchResult result
-        (λ _. action_fault (step_of None word.now) ≡ None)
-        (λ fault. fault ≢ SpellFault.NoMemory
-        → action_fault (step_of None word.now) ≡ Some fault) }
-{
-    let step = next_call(alloc, word, None)?;
-    match action_fault(step) {
-        None => Ok(()),
-        Some(fault) => Err(fault),
-    }
-}
-
-/// A status with which a request can be denied.
-fn status_of(text: &[u8]) -> Option<u16>
-    ensures { result ≡ status_of text.now }
-{
-    let n = width(text, 599)?;
-    if n >= 200 { Some(n as u16) } else { None }
-}
-
-fn is_status_word(word: &[u8]) -> bool
-    ensures { result ≡ is_status_word word.now }
-{
-    word == b"status".as_slice() || word == b"deny_status".as_slice()
-}
-
-/// The rule of an action and the words after it: none, or a condition.
+/// The rule of an action and the words after it.
 fn rule_after(
     known: &mut Knowledge,
     alloc: Global,
     line: u64,
     action: Action,
     words: &[Octets],
-) -> Result<Statement, SpellFault>
-    ensures answers { ReadsAs result known.new (rule_after line action words.now known.old) }
+) -> Result<Rule, SpellFault>
+    ensures answers { ReadsAs result known.new (rule_reading line action words.now known.old) }
     ensures extends { Extends known.old known.new }
 {
-    let Some((word, words)) = words.split_first() else {
-        return Ok(Statement::Rule(Rule {
-            line,
-            action,
-            unless: false,
-            cond: None,
-        }));
-    };
-    let Some(unless) = polarity_at(word.as_slice()) else {
-        return Err(SpellFault::Code(BAD_ARGUMENT));
-    };
-    let cond = cond_of(known, alloc, line, words)?;
-    Ok(Statement::Rule(Rule {
+    let When { unless, cond } = when_of(known, alloc, line, words)?;
+    Ok(Rule {
         line,
         action,
         unless,
-        cond: Some(cond),
-    }))
-}
-
-/// The rule of the words after `http-request deny`.
-fn denial(
-    known: &mut Knowledge,
-    alloc: Global,
-    line: u64,
-    words: &[Octets],
-) -> Result<Statement, SpellFault>
-    ensures answers { ReadsAs result known.new (denial line words.now known.old) }
-    ensures extends { Extends known.old known.new }
-{
-    let Some((word, after)) = words.split_first() else {
-        return rule_after(known, alloc, line, Action::Deny(None), words);
-    };
-    if !is_status_word(word.as_slice()) {
-        return rule_after(known, alloc, line, Action::Deny(None), words);
-    }
-    let Some((text, after)) = after.split_first() else {
-        return Err(SpellFault::Code(BAD_ARGUMENT));
-    };
-    let Some(status) = status_of(text.as_slice()) else {
-        return Err(SpellFault::Code(BAD_ARGUMENT));
-    };
-    rule_after(known, alloc, line, Action::Deny(Some(status)), after)
+        cond,
+    })
 }
 
 /// The words after `http-request`.
@@ -308,8 +251,70 @@ fn rule_of(
     let Some((word, words)) = words.split_first() else {
         return Err(SpellFault::Code(BAD_ARGUMENT));
     };
-    action(alloc, word.as_slice())?;
-    denial(known, alloc, line, words)
+    let head = action_head(known, alloc, line, word.as_slice())?;
+    let Taken { item, words } = action_words(known, alloc, line, head, words)?;
+    Ok(Statement::Rule(rule_after(known, alloc, line, item, words)?))
+}
+
+/// The words after `redirect`.
+fn redirect_of(
+    known: &mut Knowledge,
+    alloc: Global,
+    line: u64,
+    words: &[Octets],
+) -> Result<Statement, SpellFault>
+    ensures answers { ReadsAs result known.new (redirect_of line words.now known.old) }
+    ensures extends { Extends known.old known.new }
+{
+    let Taken { item, words } = redirect(known, alloc, line, words)?;
+    Ok(Statement::Redirect(rule_after(known, alloc, line, item, words)?))
+}
+
+/// The words after `use_backend`.
+fn backend_of(
+    known: &mut Knowledge,
+    alloc: Global,
+    line: u64,
+    words: &[Octets],
+) -> Result<Statement, SpellFault>
+    ensures answers { ReadsAs result known.new (backend_of line words.now known.old) }
+    ensures extends { Extends known.old known.new }
+{
+    let Taken { item, words } = format_word(known, alloc, line, words)?;
+    let When { unless, cond } = when_of(known, alloc, line, words)?;
+    Ok(Statement::Backend {
+        line,
+        format: item,
+        unless,
+        cond,
+    })
+}
+
+/// The words after `default_backend`.
+fn fallback_of(
+    known: &mut Knowledge,
+    alloc: Global,
+    line: u64,
+    words: &[Octets],
+) -> Result<Statement, SpellFault>
+    ensures answers { ReadsAs result known.new (fallback_of line words.now known.old) }
+    ensures refused { OnErr result (Extends known.old known.new) }
+{
+    if known.has_fallback() {
+        return Err(SpellFault::Code(MISPLACED));
+    }
+    let Some((name, more)) = words.split_first() else {
+        return Err(SpellFault::Code(BAD_ARGUMENT));
+    };
+    if !is_name(name.as_slice()) {
+        return Err(SpellFault::Code(BAD_NAME));
+    }
+    if !more.is_empty() {
+        return Err(SpellFault::Code(BAD_ARGUMENT));
+    }
+    let name = Octets::copy(alloc, name.as_slice())?;
+    known.note_fallback();
+    Ok(Statement::Fallback { line, name })
 }
 
 /// The statement of the words after a first word.
@@ -331,6 +336,9 @@ fn keyword_statement(
         Keyword::Ignored => Ok(Statement::Plain),
         Keyword::Acl => acl_of(known, alloc, line, words),
         Keyword::HttpRequest => rule_of(known, alloc, line, words),
+        Keyword::Redirect => redirect_of(known, alloc, line, words),
+        Keyword::UseBackend => backend_of(known, alloc, line, words),
+        Keyword::DefaultBackend => fallback_of(known, alloc, line, words),
     }
 }
 

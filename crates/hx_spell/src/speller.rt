@@ -1,4 +1,4 @@
-ghost use Rattle.std.specs.Prelude.{◌≡◌, ◌≢◌, IfErr, IfOk, IsOkUnless, OnErr};
+ghost use Rattle.std.specs.Prelude.{◌≡◌, ◌≢◌, ◌≤◌, length, IfErr, IfOk, IsOkUnless, OnErr};
 ghost use Rattle.hx_ast.specs.Statements.{IsStatement};
 ghost use Rattle.hx_ast.specs.declared.Statement.{Statement};
 ghost use Rattle.hx_spell.specs.Heads.{StatementNames};
@@ -70,10 +70,11 @@ impl Speller {
     /// Line numbers count from 1. A line without words is `Plain`, and no statement.
     ///
     /// The statements are `frontend NAME`, `mode http`, `acl NAME CRITERION [FLAG..] [PATTERN..]`,
-    /// `http-request deny [status N] [if|unless CONDITION]`, where `deny_status` may stand for
-    /// `status`, and those that change no rule: `bind`, `description`, `log`, `log-format`,
-    /// `maxconn` and `timeout`, and `option` with `dontlognull`, `http-keep-alive`,
-    /// `http-server-close` or `httplog`.
+    /// `http-request ACTION [if|unless CONDITION]` with each variant of `Action`, where
+    /// `deny_status` may stand for `status`, `redirect` with the words of that action,
+    /// `use_backend FORMAT [if|unless CONDITION]`, `default_backend NAME`, and those that change no
+    /// rule: `bind`, `description`, `log`, `log-format`, `maxconn` and `timeout`, and `option` with
+    /// `dontlognull`, `http-keep-alive`, `http-server-close` or `httplog`.
     ///
     /// The words are judged from the left, and the text of an expression call by call: of each call
     /// first its name, then its form, then the number of its arguments, and then these. They are
@@ -82,11 +83,13 @@ impl Speller {
     /// - 9: a statement, an action, an option, a fetch, a converter, a flag or a match method that
     ///   isn't supported;
     /// - 10: a wrong number of words or arguments, or one that isn't of its form;
-    /// - 12: the name of an ACL, a frontend, a header or a variable that isn't of its form;
+    /// - 12: the name of an ACL, a frontend, a backend, a header or a variable that isn't of its
+    ///   form;
     /// - 13: a condition that names an ACL which is neither declared before nor predefined;
     /// - 14: words after `if` or `unless` that are no condition;
+    /// - 15: a `%` in a format that neither another `%` nor `[` follows;
     /// - 17: a file that is used with one column and with two;
-    /// - 19: a `frontend` that isn't the first statement;
+    /// - 19: a `frontend` that isn't the first statement, or a second `default_backend`;
     /// - 23: one reference more than 65,536.
     ///
     /// After a refusal, and where memory runs out, the speller is as it was before the line. The
@@ -101,8 +104,10 @@ impl Speller {
         ensures nothing { IfErr result (λ fault. fault ≢ SpellFault.NoMemory
             → (read : Reading Statement) → ¬ SpellLine number self.old words.now read) }
         ensures allowed { IfOk result IsStatement }
-        ensures heads { IfOk result (StatementNames self.new.heads) }
+        ensures heads { IfOk result
+            (StatementNames self.new.heads (length self.new.references)) }
         ensures extends { BeginsWith self.old.heads self.new.heads }
+        ensures grows { length self.old.references ≤ length self.new.references }
     {
         self.read(number, words.as_slice())
     }

@@ -1,6 +1,6 @@
 ghost use Rattle.std.specs.Prelude.{◌≡◌, length, map, slice_get};
 ghost use Rattle.std.specs.Option.{option_copied};
-ghost use Rattle.hx_spell.specs.KnownView.{form_of, is_searched, is_typed, spec_of, specs_from};
+ghost use Rattle.hx_spell.specs.KnownView.{form_of, is_listed, is_typed, spec_of, specs_from};
 
 use crate::known::output_number;
 use hx_ast::Texts;
@@ -71,21 +71,22 @@ impl Model for TableSpecs {
 }
 
 impl TableSpecs {
-    /// The references, each with what it is used for by these ACLs and types of values. It takes no
-    /// memory.
+    /// The references, each with what it is used for: by ACLs those of `acls`, and with values of a
+    /// type those of `outputs`; `-f` or a map converter names those of `named`. It takes no memory.
     pub(crate) fn new(
         specs: Vec<TableSpec>,
         heads: Vec<HeadSpec>,
         acls: &[u32],
+        named: &[u32],
         outputs: &[MapOutput],
     ) -> TableSpecs
         ensures { result ≡ record {
-          specs = specs_from acls.now outputs.now 0 (map form_of specs.items);
+          specs = specs_from acls.now named.now outputs.now 0 (map form_of specs.items);
           heads = heads.items;
         } }
     {
         let mut specs = specs;
-        note_uses(&mut specs, acls, outputs);
+        note_uses(&mut specs, acls, named, outputs);
         TableSpecs { specs, heads }
     }
 
@@ -132,11 +133,11 @@ impl TableSpecs {
     }
 }
 
-/// Whether an ACL searches the reference at this position.
-fn is_searched(acls: &[u32], place: usize) -> bool
-    ensures { result ≡ is_searched acls.now place }
+/// Whether the reference at this position is one of these.
+fn is_listed(tables: &[u32], place: usize) -> bool
+    ensures { result ≡ is_listed tables.now place }
 {
-    acls.iter().any(|table| *table as usize == place)
+    tables.iter().any(|table| *table as usize == place)
 }
 
 /// Whether the values of the reference at this position are read as this type.
@@ -148,21 +149,21 @@ fn is_typed(outputs: &[MapOutput], place: usize, out: Out) -> bool
 }
 
 /// Notes what the reference at this position is used for.
-fn note_use(spec: &mut TableSpec, place: usize, acls: &[u32], outputs: &[MapOutput])
-    ensures { spec.new ≡ spec_of acls.now outputs.now place (form_of spec.old) }
+fn note_use(spec: &mut TableSpec, place: usize, acls: &[u32], named: &[u32], outputs: &[MapOutput])
+    ensures { spec.new ≡ spec_of acls.now named.now outputs.now place (form_of spec.old) }
 {
-    spec.acl = is_searched(acls, place);
-    spec.named = spec.file.is_some();
+    spec.acl = is_listed(acls, place);
+    spec.named = is_listed(named, place);
     spec.out_str = is_typed(outputs, place, Out::Str);
     spec.out_int = is_typed(outputs, place, Out::Int);
     spec.out_ip = is_typed(outputs, place, Out::Ip);
 }
 
 /// Notes what each reference is used for.
-fn note_uses(specs: &mut [TableSpec], acls: &[u32], outputs: &[MapOutput])
-    ensures { specs.new ≡ specs_from acls.now outputs.now 0 (map form_of specs.old) }
+fn note_uses(specs: &mut [TableSpec], acls: &[u32], named: &[u32], outputs: &[MapOutput])
+    ensures { specs.new ≡ specs_from acls.now named.now outputs.now 0 (map form_of specs.old) }
 {
     for place in 0..specs.len() {
-        note_use(&mut specs[place], place, acls, outputs);
+        note_use(&mut specs[place], place, acls, named, outputs);
     }
 }

@@ -1,7 +1,3 @@
-use Rattle.std.proofs.Common.{ℕ}
-use Rattle.hx_ast.specs.declared.Statement.{Statement}
-use Rattle.hx_spell.specs.Known.{Known, Reading}
-use Rattle.hx_spell.specs.Lines.{line_of}
 use Rattle.hx_spell.proofs.LineLemmas.{line_law, line_never_lacks}
 use Rattle.hx_spell.proofs.laws.statement_law.Goals as goal
 

@@ -5,4 +5,4 @@ use Rattle.hx_spell.proofs.table_specs.note_uses.Given as goal
 
 abbrev pub invariant-loop-place : goal.invariant-loop-place
 invariant-loop-place l =
-    Noted l.acls l.outputs (map form_of l.fn.specs) l.place l.specs
+    Noted l.acls l.named l.outputs (map form_of l.fn.specs) l.place l.specs

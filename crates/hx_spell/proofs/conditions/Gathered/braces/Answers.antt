@@ -1,9 +1,7 @@
-use Rattle.std.proofs.Common.{◌≡◌, ap, [], ◌∷◌, ◌∙◌, sym, Some, take, drop, length, ◌-◌, ◌+◌}
+use Rattle.std.proofs.Common.{◌∙◌, sym}
 use Rattle.std.proofs.lemmas.List.{take_rest}
 use Rattle.std.proofs.lemmas.Result.{err_from_is_err_and}
 use Rattle.hx_spell.specs.ConditionView.{terms_of}
-use Rattle.hx_spell.specs.Conditions.{own_decl}
-use Rattle.hx_spell.specs.Known.{ReadsAs}
 use Rattle.hx_spell.proofs.ConditionStepLemmas.{closed_read, closed_refused, open_refused}
 use Rattle.hx_spell.proofs.conditions.Gathered.braces.Goals as goal
 

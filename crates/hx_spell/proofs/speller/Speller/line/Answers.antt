@@ -1,8 +1,8 @@
-use Rattle.std.proofs.Common.{List, ℕ, subst, sym}
+use Rattle.std.proofs.Common.{List, ℕ, subst}
 use Rattle.hx_spell.specs.Known.{ReadsAs}
 use Rattle.hx_spell.specs.Lines.{line_of}
-use Rattle.hx_spell.proofs.LineLemmas.{answer_allowed, answer_nothing, answer_spelled}
-use Rattle.hx_spell.proofs.SoundLineLemmas.{answer_grown, answer_heads}
+use Rattle.hx_spell.proofs.LineLemmas.{answer_nothing, answer_spelled}
+use Rattle.hx_spell.proofs.SoundLineLemmas.{answer_allowed, answer_grown, answer_heads}
 use Rattle.hx_spell.proofs.speller.Speller.line.Goals as goal
 
 pub returns : goal.returns
@@ -15,6 +15,7 @@ returns c =
     let read : ReadsAs answer after (line_of line words before) =
     subst (λ (w : List (List ℕ)). ReadsAs answer after (line_of line w before))
     c.as_slice.ensures c.read.ensures.answers in
+    let grown = answer_grown line words before after answer read c.read.ensures.kept in
     record {
       answers = read;
       kept = c.read.ensures.kept;
@@ -22,5 +23,6 @@ returns c =
       nothing = answer_nothing line words before after answer read;
       allowed = answer_allowed line words before after answer read;
       heads = answer_heads line words before after answer read;
-      extends = (answer_grown line words before after answer read c.read.ensures.kept).heads;
+      extends = grown.heads;
+      grows = grown.references;
     }
