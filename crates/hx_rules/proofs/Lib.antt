@@ -1,0 +1,7 @@
+mod PatternLemmas
+mod TextLemmas
+pub mod LineLemmas
+pub mod ReplacingLemmas
+pub mod PieceLemmas
+pub mod RewriteLemmas
+pub mod RuleLemmas

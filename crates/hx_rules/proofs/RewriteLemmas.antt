@@ -1,0 +1,39 @@
+-- The edits of the actions that replace values.
+use Rattle.std.proofs.Common.{◌≡◌, ℕ, true, false, List, Result, None, ap, sym, subst, ◌∙◌}
+use Rattle.std.specs.Prelude.{IfErr, OnOk}
+use Rattle.hx_http.specs.declared.fault.EditFault.{EditFault}
+use Rattle.hx_http.specs.Edits.{MayFail}
+use Rattle.hx_http.specs.Parts.{Parts}
+use Rattle.hx_rules.specs.declared.action.Rewrite.{Rewrite}
+use Rattle.hx_rules.specs.declared.action.Rewrite.TheVariants as rewrite
+use Rattle.hx_rules.specs.declared.format.BuiltPart.{BuiltPart}
+use Rattle.hx_rules.specs.Rewrites.{Edit, edit_of, replacement_of, replacing_edit}
+
+pub replace_header_is : (text : List BuiltPart → List ℕ) (asked : Rewrite) (head : Parts) (name pattern given sub made : List ℕ) (format : List BuiltPart)
+    → asked ≡ rewrite.ReplaceHeader name pattern format → given ≡ name → sub ≡ made → made ≡ text format
+    → replacing_edit given (replacement_of false pattern sub) head ≡ edit_of text asked head
+replace_header_is text asked head name pattern given sub made format is same_name same_sub same_text =
+    ap (λ (n : List ℕ). replacing_edit n (replacement_of false pattern sub) head) same_name
+    ∙ ap (λ (t : List ℕ). replacing_edit name (replacement_of false pattern t) head) (same_sub ∙ same_text)
+    ∙ ap (λ (r : Rewrite). edit_of text r head) (sym is)
+
+pub replace_value_is : (text : List BuiltPart → List ℕ) (asked : Rewrite) (head : Parts) (name pattern given sub made : List ℕ) (format : List BuiltPart)
+    → asked ≡ rewrite.ReplaceValue name pattern format → given ≡ name → sub ≡ made → made ≡ text format
+    → replacing_edit given (replacement_of true pattern sub) head ≡ edit_of text asked head
+replace_value_is text asked head name pattern given sub made format is same_name same_sub same_text =
+    ap (λ (n : List ℕ). replacing_edit n (replacement_of true pattern sub) head) same_name
+    ∙ ap (λ (t : List ℕ). replacing_edit name (replacement_of true pattern t) head) (same_sub ∙ same_text)
+    ∙ ap (λ (r : Rewrite). edit_of text r head) (sym is)
+
+-- what a call answers, of the same edit
+pub made_as : {T : Type 0} (r : Result T EditFault) (new : Parts) (a b : Edit) → a ≡ b
+    → OnOk r (new ≡ a.head) → OnOk r (new ≡ b.head)
+made_as r new a b same made = subst (λ (edit : Edit). OnOk r (new ≡ edit.head)) same made
+
+pub passes_as : {T : Type 0} (r : Result T EditFault) (a b : Edit) → a ≡ b
+    → OnOk r (a.fault ≡ None) → OnOk r (b.fault ≡ None)
+passes_as r a b same passes = subst (λ (edit : Edit). OnOk r (edit.fault ≡ None)) same passes
+
+pub fails_as : {T : Type 0} (r : Result T EditFault) (a b : Edit) → a ≡ b
+    → IfErr r (MayFail a.fault) → IfErr r (MayFail b.fault)
+fails_as r a b same fails = subst (λ (edit : Edit). IfErr r (MayFail edit.fault)) same fails

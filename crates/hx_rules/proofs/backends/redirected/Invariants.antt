@@ -1,0 +1,19 @@
+use Rattle.std.specs.Prelude.{◌≡◌, length}
+use Rattle.std.specs.List.{All}
+use Rattle.hx_fetch.specs.World.{context_of}
+use Rattle.hx_rules.specs.Tables.{HasRuleHeads}
+use Rattle.hx_rules.specs.Verdicts.{redirects_verdict}
+use Rattle.hx_rules.proofs.backends.redirected.Given as goal
+
+-- of the rules that are left: their heads, and the first redirect that is taken
+abbrev pub invariant-loop-rest : goal.invariant-loop-rest
+invariant-loop-rest g l =
+    let heads = g.T.Tables.heads l.tables in
+    let verdict = redirects_verdict (context_of l.world) heads (g.T.Tables.lists l.tables) l.acls in
+    record {
+      heads : All (HasRuleHeads heads) l.rest;
+      verdict : verdict l.rest ≡ verdict l.rules;
+    }
+
+abbrev pub decreases-loop-rest : goal.decreases-loop-rest
+decreases-loop-rest g l = length l.rest

@@ -1,0 +1,65 @@
+-- What comes after a rule, as the code keeps it beside the state.
+use Rattle.std.specs.Prelude.{◌≡◌, Bool, true, Option, Result, Ok, Err, if◌then◌else◌}
+use Rattle.std.specs.Option.{unwrap_or}
+use Rattle.hx_fetch.specs.declared.world.Conn.{Conn}
+use Rattle.hx_http.specs.Parts.{Parts}
+use Rattle.hx_http.specs.declared.fault.EditFault.{EditFault}
+use Rattle.hx_http.specs.declared.fault.EditFault.TheVariants as fault
+use Rattle.hx_outside.specs.Makers.{ExpressionText}
+use Rattle.hx_sample.specs.Vars.{Scopes}
+use Rattle.hx_text.specs.declared.fault.NoMemory.{NoMemory}
+use Rattle.hx_rules.specs.declared.action.BuiltAction.TheVariants as built
+use Rattle.hx_rules.specs.declared.action.Rewrite.{Rewrite}
+use Rattle.hx_rules.specs.declared.actions.Continuation.{Continuation}
+use Rattle.hx_rules.specs.declared.actions.Continuation.TheVariants as continuation
+use Rattle.hx_rules.specs.declared.verdict.Verdict.{Verdict}
+use Rattle.hx_rules.specs.declared.verdict.Verdict.TheVariants as verdict
+use Rattle.hx_rules.specs.declared.program.BuiltRule.{BuiltRule}
+use Rattle.hx_rules.specs.Failures.{ActionAsksFor}
+use Rattle.hx_rules.specs.Programs.{Rules}
+use Rattle.hx_rules.specs.State.{State, TableView}
+use Rattle.hx_rules.specs.Verdicts.{action_effect, Acls, Ends, Evaluation, Goes, is_taken, later_verdict, Effect, Stops}
+
+-- the effect that leaves this state
+abbrev pub effect_of : {S : Type 0} → Continuation → State S → Effect S
+effect_of continuation.Goes state = Goes state
+effect_of continuation.Stops state = Stops state
+effect_of (continuation.Ends given) state = Ends given state
+
+-- what comes after a rewrite that was refused, in strict mode or not
+abbrev pub continuation_refused : Bool → Continuation
+continuation_refused strict = if strict then continuation.Ends verdict.Error else continuation.Goes
+
+-- what comes after a rewrite that ended so, in strict mode or not
+abbrev pub continuation_after : Result (Unit {0}) EditFault → Bool → Result Continuation NoMemory
+continuation_after (Ok done) strict = Ok continuation.Goes
+continuation_after (Err fault.NoMemory) strict = Err (record {})
+continuation_after (Err _) strict = Ok (continuation_refused strict)
+
+-- what a rewriting action does in a state
+abbrev pub rewrite_effect : {S : Type 0} → TableView S → Conn → Rewrite → State S → Effect S
+rewrite_effect view conn asked state = action_effect view conn (built.Rewrite asked) state
+
+-- what a rule does in a state: its action where it is taken
+abbrev pub rule_effect : {S : Type 0} → TableView S → Conn → Acls → BuiltRule → State S → Effect S
+rule_effect view conn acls rule state =
+    if is_taken view conn acls state rule.unless rule.cond
+    then action_effect view conn rule.action state
+    else Goes state
+
+-- a rule in a state is taken, and asks for this expression
+abbrev pub RuleAsksFor : {S : Type 0} → TableView S → Conn → Acls → BuiltRule → State S
+    → ExpressionText → Type 0
+RuleAsksFor view conn acls rule state text =
+    (is_taken view conn acls state rule.unless rule.cond ≡ true)
+    × ActionAsksFor view conn rule.action state text
+
+-- What rules of `http-request` leave, and the verdict that they give, if they give one, belong to
+-- this evaluation.
+pub record IsEvaluation {S : Type 0} (view : TableView S) (conn : Conn) (program : Rules)
+    (given : Option Verdict) (message : Parts) (vars : Scopes) (tables : S)
+    (whole : Evaluation S) : Type 0 where
+  pub message_is : whole.state.message ≡ message
+  pub vars_are : whole.state.vars ≡ vars
+  pub tables_are : whole.state.tables ≡ tables
+  pub verdict_is : whole.verdict ≡ unwrap_or given (later_verdict view conn program whole.state)

@@ -1,0 +1,14 @@
+-- what callers need
+pub mod Programs
+pub mod Building
+pub mod State
+pub mod Formats
+pub mod Rewrites
+pub mod Locations
+pub mod Verdicts
+pub mod Tables
+pub mod Failures
+-- views of the code, for the contracts of private functions
+pub mod EffectView
+pub mod ActionView
+pub mod ReplacingView

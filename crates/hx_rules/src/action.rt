@@ -1,0 +1,50 @@
+use crate::format::BuiltFormat;
+use crate::pattern::Pattern;
+use hx_ast::RedirectKind;
+use hx_expr::Plan;
+use hx_text::{Octets, VarName};
+
+/// An action that rewrites the head of the request.
+#[derive(Drop)]
+pub(crate) enum Rewrite {
+    SetHeader(Octets, BuiltFormat),
+    AddHeader(Octets, BuiltFormat),
+    DelHeader(Octets),
+    ReplaceHeader(Octets, Pattern, BuiltFormat),
+    ReplaceValue(Octets, Pattern, BuiltFormat),
+    SetMethod(BuiltFormat),
+    SetUri(BuiltFormat),
+    SetPath(BuiltFormat),
+    SetQuery(BuiltFormat),
+}
+
+/// An action that changes the list at a position: a key is added, its entries are removed, or they
+/// get a value, the last of the formats.
+#[derive(Drop)]
+pub(crate) enum TableChange {
+    Add(u32, BuiltFormat),
+    Remove(u32, BuiltFormat),
+    Set(u32, BuiltFormat, BuiltFormat),
+}
+
+/// An action that sends the client elsewhere, with a status, and with or without the query.
+#[derive(Drop)]
+pub(crate) struct BuiltRedirect {
+    pub(crate) kind: RedirectKind,
+    pub(crate) format: BuiltFormat,
+    pub(crate) code: u16,
+    pub(crate) drop_query: bool,
+}
+
+/// What a rule does, ready to be done.
+#[derive(Drop)]
+pub(crate) enum BuiltAction {
+    Allow,
+    Deny(u16),
+    Rewrite(Rewrite),
+    SetVar(VarName, Plan),
+    UnsetVar(VarName),
+    Change(TableChange),
+    Redirect(BuiltRedirect),
+    StrictMode(bool),
+}

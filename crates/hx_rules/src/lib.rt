@@ -1,0 +1,35 @@
+//! The rules of a frontend: how they are built from statements, and what they make of a request.
+//!
+//! `specs/Verdicts.antt` says what rules make of a request, as the function `evaluation`, and
+//! `specs/Rewrites.antt`, `specs/Locations.antt` and `specs/Formats.antt` what rewrites, redirects
+//! and formats make of its head.
+//!
+//! ```
+//! let mut program = Program::new(alloc);
+//! program.push(&statement, &mut maker)?; // http-request set-header X-Client %[src]
+//! let verdict = evaluate(
+//!     alloc, &program, &mut message, &conn, &mut vars, &mut tables, &mut maker, &mut steps,
+//! )?; // Verdict::Pass { backend: None }
+//! ```
+#![tactic(auto)]
+
+mod action;
+mod actions;
+mod backends;
+mod building;
+mod changes;
+mod evaluating;
+mod format;
+mod formats;
+mod locations;
+mod pattern;
+mod program;
+mod replacing;
+mod rewrites;
+mod taking;
+mod typing;
+mod verdict;
+
+pub use evaluating::evaluate;
+pub use program::Program;
+pub use verdict::Verdict;

@@ -1,0 +1,74 @@
+ghost use Rattle.std.specs.Prelude.{◌≡◌, ◌∷◌, [], true, false, IfOk, OnOk, IsErrOf};
+ghost use Rattle.hx_conv_text.specs.Substitution.{expanded_of};
+ghost use Rattle.hx_expr.specs.Faults.{CompileCountsLarge, CompileNamesLarge};
+ghost use Rattle.hx_rules.specs.Building.{is_expression};
+
+use hx_conv_text::{expand, made_regex};
+use hx_expr::PlanFault;
+use hx_outside::{PatFault, ReMaker};
+use hx_text::{NoMemory, Octets};
+use regex::bytes::Regex;
+use std::alloc::Global;
+use std::marker::Model;
+
+/// The regular expression of an action. Contracts see it as its text.
+#[derive(Drop)]
+pub(crate) struct Pattern {
+    text: Octets,
+    regex: Regex,
+}
+
+impl Model for Pattern {
+    ghost use Rattle.std.specs.Prelude.{ℕ, List, false};
+    ghost use Rattle.hx_outside.specs.Expressions.{IsExpression};
+
+    ghost Value = { List ℕ };
+
+    ghost view = { λ pattern. pattern.text };
+
+    ghost invariant = { λ pattern. IsExpression false pattern.text pattern.regex };
+}
+
+impl Pattern {
+    /// The regular expression that the text writes, which minds case.
+    #[tactic(auto, using(crate::proofs::PatternLemmas::pattern_cases))]
+    pub(crate) fn build<M: ReMaker>(
+        alloc: Global,
+        text: &[u8],
+        maker: &mut M,
+    ) -> Result<Pattern, PlanFault>
+        ensures built { IfOk result (λ pattern. pattern ≡ text.now) }
+        ensures read { OnOk result
+            (is_expression (record { text = text.now; ci = false }) ≡ true) }
+        ensures typed { ¬ (IsErrOf result PlanFault.BadType) }
+        ensures bad { IsErrOf result PlanFault.BadPattern
+            → is_expression (record { text = text.now; ci = false }) ≡ false }
+        ensures counted { CompileCountsLarge result (M.too_large maker.old)
+            (M.too_large maker.new) }
+        ensures large { CompileNamesLarge result (record { text = text.now; ci = false } ∷ [])
+            (M.large maker.old) (M.large maker.new) }
+    {
+        let regex = match made_regex(alloc, text, false, maker) {
+            Ok(regex) => regex,
+            Err(PatFault::BadRegex) => return Err(PlanFault::BadPattern),
+            Err(PatFault::NotUtf8) => return Err(PlanFault::BadPattern),
+            Err(PatFault::TooLarge) => return Err(PlanFault::TooLarge),
+            Err(PatFault::NoMemory) => return Err(PlanFault::NoMemory),
+            Err(_) => unreachable!(),
+        };
+        let text = Octets::copy(alloc, text)?;
+        Ok(Pattern { text, regex })
+    }
+
+    /// What `sub` makes of the leftmost match in `value`. None exactly where nothing matches.
+    pub(crate) fn expand(
+        &self,
+        alloc: Global,
+        sub: &[u8],
+        value: &[u8],
+    ) -> Result<Option<Octets>, NoMemory>
+        ensures { IfOk result (λ made. made ≡ expanded_of false self.now sub.now value.now) }
+    {
+        expand(alloc, &self.regex, sub, value)
+    }
+}

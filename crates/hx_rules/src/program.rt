@@ -1,0 +1,174 @@
+ghost use Rattle.std.specs.Prelude.{◌≡◌, ◌↔◌, OnOk, OnErr, IsErrOf, true, false};
+ghost use Rattle.hx_expr.specs.Faults.{CompileCountsLarge, CompileNamesLarge};
+ghost use Rattle.hx_rules.specs.Building.{is_statement_typed, statement_has_expressions, statement_texts, with_statement};
+ghost use Rattle.hx_rules.specs.Programs.{no_rules, rule_count};
+
+use crate::action::BuiltAction;
+use crate::building::{build_backend, build_rule};
+use crate::format::BuiltFormat;
+use crate::typing::is_statement_typed;
+use hx_acl::{AclSet, Condition};
+use hx_ast::{Items, Statement};
+use hx_expr::PlanFault;
+use hx_outside::ReMaker;
+use hx_text::Octets;
+use std::alloc::Global;
+use std::marker::Model;
+
+/// A rule: what it does, and when it is taken.
+#[derive(Drop)]
+pub(crate) struct BuiltRule {
+    pub(crate) action: BuiltAction,
+    pub(crate) unless: bool,
+    pub(crate) cond: Option<Condition>,
+}
+
+/// A rule of `use_backend`: what makes the backend's name, and when it is taken.
+#[derive(Drop)]
+pub(crate) struct BackendRule {
+    pub(crate) format: BuiltFormat,
+    pub(crate) unless: bool,
+    pub(crate) cond: Option<Condition>,
+}
+
+/// The rules of a frontend, ready to be evaluated (HAProxy configuration manual 2.4, section 4.2).
+/// Contracts see them as lists: of the declarations of ACLs, of the rules of `http-request`, of the
+/// redirects and of the rules of `use_backend`, and the backend where no other is taken.
+#[derive(Drop)]
+pub struct Program {
+    alloc: Global,
+    pub(crate) acls: AclSet,
+    pub(crate) rules: Items<BuiltRule>,
+    pub(crate) redirects: Items<BuiltRule>,
+    pub(crate) backends: Items<BackendRule>,
+    pub(crate) fallback: Option<Octets>,
+}
+
+impl Model for Program {
+    ghost use Rattle.std.specs.Prelude.{◌+◌, ◌<◌, ◌^◌, length};
+    ghost use Rattle.hx_rules.specs.Programs.{Rules};
+
+    ghost Value = { Rules };
+
+    ghost view = { λ program. record {
+      acls = program.acls;
+      rules = program.rules;
+      redirects = program.redirects;
+      backends = program.backends;
+      fallback = program.fallback;
+    } };
+
+    // how many rules there are is a `u64`
+    ghost invariant = { λ program.
+        length program.rules + length program.redirects + length program.backends < 2 ^ 64 };
+}
+
+impl Program {
+    /// No rules. It takes no memory; those that are pushed later are kept in memory of `alloc`.
+    pub fn new(alloc: Global) -> Program
+        ensures { result ≡ no_rules }
+    {
+        Program {
+            alloc,
+            acls: AclSet::new(alloc),
+            rules: Items::new(alloc),
+            redirects: Items::new(alloc),
+            backends: Items::new(alloc),
+            fallback: None,
+        }
+    }
+
+    /// Adds what the statement says: a declaration of an ACL, a rule, a redirect, a rule of
+    /// `use_backend`, each after those that are there, or the backend where no other is taken.
+    /// Regular expressions are made by `maker`; inline patterns of ACLs aren't read. ACLs that a
+    /// condition names are looked for when it is evaluated.
+    ///
+    /// `BadType` exactly where a converter takes a type to which what stands before it has no cast,
+    /// or the value of an ACL has none to the type that its match method looks at: that is judged
+    /// first, of all expressions of the statement. `BadPattern` only where the regular expression
+    /// of a converter or an action is none. `TooLarge` and `NoMemory` come as with
+    /// `hx_expr::compile`. After any of them the program is as before.
+    pub fn push<M: ReMaker>(
+        &mut self,
+        statement: &Statement,
+        maker: &mut M,
+    ) -> Result<(), PlanFault>
+        ensures ok { OnOk result (self.new ≡ with_statement statement.now self.old) }
+        ensures err { OnErr result (self.new ≡ self.old) }
+        ensures types { OnOk result (is_statement_typed statement.now ≡ true) }
+        ensures bad_type { (IsErrOf result PlanFault.BadType)
+            ↔ (is_statement_typed statement.now ≡ false) }
+        ensures expressions { OnOk result (statement_has_expressions statement.now ≡ true) }
+        ensures bad_pattern { IsErrOf result PlanFault.BadPattern →
+            statement_has_expressions statement.now ≡ false }
+        ensures counted { CompileCountsLarge result (M.too_large maker.old)
+            (M.too_large maker.new) }
+        ensures large { CompileNamesLarge result (statement_texts statement.now)
+            (M.large maker.old) (M.large maker.new) }
+    {
+        if !is_statement_typed(statement) {
+            return Err(PlanFault::BadType);
+        }
+        self.push_built(statement, maker)
+    }
+
+    /// The same of a statement whose types fit.
+    fn push_built<M: ReMaker>(
+        &mut self,
+        statement: &Statement,
+        maker: &mut M,
+    ) -> Result<(), PlanFault>
+        requires { is_statement_typed statement.now ≡ true }
+        ensures ok { OnOk result (self.new ≡ with_statement statement.now self.old) }
+        ensures err { OnErr result (self.new ≡ self.old) }
+        ensures typed { ¬ (IsErrOf result PlanFault.BadType) }
+        ensures expressions { OnOk result (statement_has_expressions statement.now ≡ true) }
+        ensures bad { IsErrOf result PlanFault.BadPattern →
+            statement_has_expressions statement.now ≡ false }
+        ensures counted { CompileCountsLarge result (M.too_large maker.old)
+            (M.too_large maker.new) }
+        ensures large { CompileNamesLarge result (statement_texts statement.now)
+            (M.large maker.old) (M.large maker.new) }
+    {
+        let alloc = self.alloc;
+        // No memory holds as many rules as a `u64` can't count.
+        if self.rules() == u64::MAX {
+            return Err(PlanFault::NoMemory);
+        }
+        match statement {
+            Statement::Plain => Ok(()),
+            Statement::Acl { name, decl, .. } => self.acls.declare(name.as_slice(), decl, maker),
+            Statement::Rule(rule) => {
+                let rule = build_rule(alloc, rule, maker)?;
+                self.rules.push(rule)?;
+                Ok(())
+            }
+            Statement::Redirect(rule) => {
+                let rule = build_rule(alloc, rule, maker)?;
+                self.redirects.push(rule)?;
+                Ok(())
+            }
+            Statement::Backend {
+                format,
+                unless,
+                cond,
+                ..
+            } => {
+                let rule = build_backend(alloc, format, *unless, cond, maker)?;
+                self.backends.push(rule)?;
+                Ok(())
+            }
+            Statement::Fallback { name, .. } => {
+                self.fallback = Some(Octets::copy(alloc, name.as_slice())?);
+                Ok(())
+            }
+        }
+    }
+
+    /// How many statements of `http-request`, `redirect` and `use_backend` were pushed.
+    pub fn rules(&self) -> u64
+        ensures { result ≡ rule_count self.now }
+    {
+        self.rules.len() as u64 + self.redirects.len() as u64 + self.backends.len() as u64
+    }
+}

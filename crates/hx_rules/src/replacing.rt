@@ -1,0 +1,138 @@
+ghost use Rattle.std.specs.Prelude.{◌≡◌, ◌+◌, ◌<◌, ◌++◌, length, is_some, IfOk, IfErr, OnOk, OnErr, None};
+ghost use Rattle.hx_http.specs.Edits.{MayFail};
+ghost use Rattle.hx_lists.specs.Blanks.{trim_blanks};
+ghost use Rattle.hx_rules.specs.ReplacingView.{replacing_from};
+ghost use Rattle.hx_rules.specs.Rewrites.{each_replaced, piece_after, replacement_of, replacing_edit, whole_replaced};
+
+use crate::pattern::Pattern;
+use hx_http::{EditFault, Message};
+use hx_lists::{cut_blanks, first_hdr_piece};
+use hx_text::{NoMemory, Octets};
+use std::alloc::Global;
+
+/// What replaces the values of a line between commas, each in its place. None exactly where all
+/// stay.
+fn each_replaced(
+    alloc: Global,
+    pattern: &Pattern,
+    sub: &[u8],
+    line: &[u8],
+) -> Result<Option<Octets>, NoMemory>
+    ensures { IfOk result (λ made. made
+        ≡ each_replaced (whole_replaced pattern.now sub.now) line.now) }
+{
+    let mut text = Octets::from_vec(Vec::new(alloc));
+    let mut is_changed = false;
+    let mut rest = line;
+    loop {
+        let (piece, more) = first_hdr_piece(rest);
+        is_changed |= push_piece(alloc, &mut text, pattern, sub, piece)?;
+        let Some(more) = more else {
+            break;
+        };
+        text.push_all(b",")?;
+        rest = more;
+    }
+    Ok(if is_changed { Some(text) } else { None })
+}
+
+/// Appends a piece of a line with its value replaced. True where it is replaced.
+fn push_piece(
+    alloc: Global,
+    text: &mut Octets,
+    pattern: &Pattern,
+    sub: &[u8],
+    piece: &[u8],
+) -> Result<bool, NoMemory>
+    ensures text { OnOk result (text.new
+        ≡ text.old ++ piece_after (whole_replaced pattern.now sub.now) piece.now) }
+    ensures changed { IfOk result (λ changed. changed
+        ≡ is_some (whole_replaced pattern.now sub.now (trim_blanks piece.now))) }
+{
+    let (first, value, last) = cut_blanks(piece);
+    let Some(new) = pattern.expand(alloc, sub, value)? else {
+        text.push_all(piece)?;
+        return Ok(false);
+    };
+    text.push_all(first)?;
+    text.push_all(new.as_slice())?;
+    text.push_all(last)?;
+    Ok(true)
+}
+
+/// What replaces the value of a line: each of its values between commas, or the whole of it.
+fn replaced(
+    alloc: Global,
+    pattern: &Pattern,
+    sub: &[u8],
+    each: bool,
+    value: &[u8],
+) -> Result<Option<Octets>, NoMemory>
+    ensures { IfOk result (λ made. made ≡ replacement_of each pattern.now sub.now value.now) }
+{
+    if each {
+        each_replaced(alloc, pattern, sub, value)
+    } else {
+        pattern.expand(alloc, sub, value)
+    }
+}
+
+/// Replaces the value of the header line at the position `at`, where it has the name.
+fn replace_line(
+    alloc: Global,
+    message: &mut Message,
+    at: usize,
+    name: &[u8],
+    pattern: &Pattern,
+    sub: &[u8],
+    each: bool,
+) -> Result<(), EditFault>
+    requires { at < length message.old.headers }
+    ensures ok { OnOk result (replacing_from (at + 1) name.now
+        (replacement_of each pattern.now sub.now) message.new
+        ≡ replacing_from at name.now (replacement_of each pattern.now sub.now) message.old) }
+    ensures length { OnOk result (length message.new.headers ≡ length message.old.headers) }
+    ensures refused { IfErr result (MayFail (replacing_from at name.now
+        (replacement_of each pattern.now sub.now) message.old).fault) }
+{
+    let Some((line_name, value)) = message.header(at) else {
+        return Ok(());
+    };
+    if !line_name.eq_ignore_ascii_case(name) {
+        return Ok(());
+    }
+    match replaced(alloc, pattern, sub, each, value)? {
+        Some(new) => message.replace_value(at, new.as_slice()),
+        None => Ok(()),
+    }
+}
+
+/// Replaces the values of the header lines of a name: what the regular expression finds in each
+/// value, or in each of its values between commas, becomes what `sub` makes of it.
+///
+/// `BadBytes` exactly where one of the new values has CR, LF or NUL. `NoMemory` where memory runs
+/// out. No value is replaced then.
+pub(crate) fn replace_values(
+    alloc: Global,
+    message: &mut Message,
+    name: &[u8],
+    pattern: &Pattern,
+    sub: &[u8],
+    each: bool,
+) -> Result<(), EditFault>
+    ensures ok { OnOk result (message.new ≡ (replacing_edit name.now
+        (replacement_of each pattern.now sub.now) message.old).head) }
+    ensures none { OnOk result ((replacing_edit name.now
+        (replacement_of each pattern.now sub.now) message.old).fault ≡ None) }
+    ensures refused { IfErr result (MayFail (replacing_edit name.now
+        (replacement_of each pattern.now sub.now) message.old).fault) }
+    ensures kept { OnErr result (message.new ≡ message.old) }
+{
+    // All values are replaced or none is, so they are replaced in a copy.
+    let mut edited = message.copy()?;
+    for at in 0..message.len() {
+        replace_line(alloc, &mut edited, at, name, pattern, sub, each)?;
+    }
+    *message = edited;
+    Ok(())
+}
