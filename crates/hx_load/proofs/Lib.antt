@@ -1,0 +1,13 @@
+pub mod BuiltHeadLemmas
+pub mod DeclareLemmas
+pub mod FillLemmas
+pub mod FreeNumberLemmas
+pub mod JudgedLemmas
+pub mod LaterHeadLemmas
+pub mod LineHeadLemmas
+pub mod LineLemmas
+pub mod LoadLemmas
+pub mod LoadedLemmas
+pub mod LoadingLemmas
+pub mod NumberLemmas
+pub mod StatementLemmas

@@ -1,0 +1,19 @@
+use Rattle.std.proofs.Common.{◌≡◌, ◌≤◌, ◌+◌, length}
+use Rattle.hx_load.specs.Filling.{Filling}
+use Rattle.hx_load.proofs.filling.fill.Given as goal
+
+abbrev pub invariant-loop-rest : goal.invariant-loop-rest
+invariant-loop-rest g l = record {
+  filling : Filling (g.F.Files.held l.fn.files) l.specs.specs l.fn.refs l.r l.rest l.refs;
+  place : l.r + length l.rest ≡ length l.specs.specs;
+  count : length l.refs.references ≡ length l.specs.specs;
+  heads : l.refs.heads ≡ l.fn.refs.heads;
+  held : g.F.Files.held l.files ≡ g.F.Files.held l.fn.files;
+  last : g.F.Files.last l.files ≡ g.F.Files.last l.fn.files;
+  later : g.F.Files.faults l.fn.files ≤ g.F.Files.faults l.files;
+  too_large : g.M.ReMaker.too_large l.maker ≡ g.M.ReMaker.too_large l.fn.maker;
+  large : g.M.ReMaker.large l.maker ≡ g.M.ReMaker.large l.fn.maker;
+}
+
+abbrev pub decreases-loop-rest : goal.decreases-loop-rest
+decreases-loop-rest g l = length l.rest

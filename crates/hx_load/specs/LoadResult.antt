@@ -1,0 +1,46 @@
+-- Views of what `load` answers, for private contracts.
+use Rattle.std.specs.Prelude.{◌≡◌, ℕ, List, Option, IsSomeAnd, Result, Ok, Err, ⊤}
+use Rattle.hx_base.specs.Pairs.{NamedBytes}
+use Rattle.hx_outside.specs.Makers.{ExpressionText}
+use Rattle.hx_refs.specs.References.{References}
+use Rattle.hx_refs.specs.declared.Limits.{Limits}
+use Rattle.hx_rules.specs.Programs.{Rules}
+use Rattle.hx_words.specs.Variable.{Env}
+use Rattle.hx_load.specs.Loads.{Judges, Loading, ReadsFile, loaded}
+use Rattle.hx_load.specs.Loads as loading
+use Rattle.hx_load.specs.References.{HasFiles}
+use Rattle.hx_load.specs.declared.load_fault.LoadFault.{LoadFault}
+use Rattle.hx_load.specs.declared.load_fault.LoadFault.TheVariants as load
+
+-- a configuration is loaded as it should be, under these files
+abbrev pub LoadsAs : Result (Rules × References) LoadFault → Loading → Type 0
+LoadsAs (Ok given) expected = expected ≡ loading.Accepted given.0 given.1
+LoadsAs (Err (load.Refused l code)) expected =
+    expected ≡ loading.Refused (record { line = l; code = code })
+LoadsAs (Err load.Failed) expected = ⊤
+LoadsAs (Err load.TooLarge) expected = ⊤
+LoadsAs (Err load.NoMemory) expected = ⊤
+
+-- the same under some files, which are those that are held, where that is known
+pub record LoadsHeld (held : Option NamedBytes) (env : Env) (limits : Limits)
+    (config : List ℕ)
+    (result : Result (Rules × References) LoadFault) : Type 0 where
+  pub files : NamedBytes
+  pub of_files : HasFiles held files
+  pub is : LoadsAs result (loaded env limits files config)
+
+-- the last name that was read in vain is that of a file to which the configuration comes
+pub record LoadReadsLast (held : Option NamedBytes) (env : Env) (limits : Limits)
+    (config : List ℕ)
+    (last : Option (List ℕ)) : Type 0 where
+  pub files : NamedBytes
+  pub of_files : HasFiles held files
+  pub reads : IsSomeAnd last (ReadsFile env limits files config)
+
+-- the last text that was too large for a maker is one that loading reads as an expression
+pub record LoadJudgesLast (held : Option NamedBytes) (env : Env) (limits : Limits)
+    (config : List ℕ)
+    (large : Option ExpressionText) : Type 0 where
+  pub files : NamedBytes
+  pub of_files : HasFiles held files
+  pub judged : IsSomeAnd large (Judges env limits files config)

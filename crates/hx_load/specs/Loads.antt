@@ -1,0 +1,197 @@
+-- What a configuration loads as: a program, the refusal of its first fault, or nothing where a file
+-- is missing. First all lines are judged, then the numbers that they give, then the files that
+-- their rules change, and then files and inline patterns in the order of their first appearance.
+use Rattle.std.specs.Prelude.{◌≡◌, ℕ, ◌+◌, ◌⊎◌, ◌&&◌, not, true, List, [], ◌∷◌, ◌++◌, length, Contains, Option, None, Some, is_some, Result, Ok, Err, if◌then◌else◌}
+use Rattle.hx_ast.specs.declared.AclUse.{AclUse}
+use Rattle.hx_ast.specs.declared.AclUse.TheVariants.{Named, Own}
+use Rattle.hx_ast.specs.declared.Decl.{Decl}
+use Rattle.hx_ast.specs.declared.Statement.{Statement}
+use Rattle.hx_ast.specs.declared.Statement.TheVariants as statement
+use Rattle.hx_ast.specs.declared.Term.{Term}
+use Rattle.hx_base.specs.Pairs.{NamedBytes}
+use Rattle.hx_outside.specs.Makers.{ExpressionText}
+use Rattle.hx_refs.specs.References.{References}
+use Rattle.hx_refs.specs.declared.Limits.{Limits}
+use Rattle.hx_rules.specs.Building.{is_statement_typed, statement_texts, with_statement}
+use Rattle.hx_rules.specs.Programs.{Rules, no_rules}
+use Rattle.hx_spell.specs.Known.{Known, Reading, nothing_known}
+use Rattle.hx_spell.specs.TableSpecs.{table_specs}
+use Rattle.hx_spell.specs.declared.TableSpec.{TableSpec}
+use Rattle.hx_text.specs.declared.By.TheVariants as method
+use Rattle.hx_words.specs.Variable.{Env}
+use Rattle.hx_load.specs.Configuration.{GiveStatements, IsFirstRefused, Refusal, SpellsStatement, lines_of, statements_from}
+use Rattle.hx_load.specs.References.{Filled, Whole, Refused as FillRefused, Missing as FillMissing, FillingAsksFor, FillingReads, declared_references, filled_from, id_taken, repeated_after, unknown_table}
+
+-- ---- programs
+
+-- a program, with what statements add to it, in their order
+abbrev pub with_statements : List Statement → Rules → Rules
+with_statements [] program = program
+with_statements (statement ∷ statements) program =
+    with_statements statements (with_statement statement program)
+
+-- ---- loading
+
+-- The line of the first appearance of the first file that a rule changes and that no `-f` and no
+-- map names. Such a file first appears on the first line with a rule that changes it.
+abbrev pub first_unknown : List TableSpec → Option ℕ
+first_unknown [] = None
+first_unknown (spec ∷ specs) =
+    if is_some spec.file && not spec.named then Some spec.line else first_unknown specs
+
+pub data Loading : Type 0 where
+  Accepted : (program : Rules) → (references : References) → Loading
+  Refused : (refusal : Refusal) → Loading
+  Missing : (name : List ℕ) → Loading
+
+abbrev pub declared : Limits → Known → References
+declared limits known = declared_references limits (table_specs known) known.heads
+
+-- statements of lines that have no fault, and the references that they bring
+abbrev pub loading_filled : List Statement → Filled → Loading
+loading_filled statements (Whole references) =
+    Accepted (with_statements statements no_rules) references
+loading_filled statements (FillRefused refusal) = Refused refusal
+loading_filled statements (FillMissing name) = Missing name
+
+abbrev pub loading_named : Limits → NamedBytes → Reading (List Statement) → Option ℕ → Loading
+loading_named limits files read (Some line) =
+    Refused (record { line = line; code = unknown_table })
+loading_named limits files read None =
+    loading_filled read.value
+    (filled_from files 0 (table_specs read.known) (declared limits read.known))
+
+abbrev pub loading_numbered : Limits → NamedBytes → Reading (List Statement) → Option ℕ → Loading
+loading_numbered limits files read (Some line) = Refused (record { line = line; code = id_taken })
+loading_numbered limits files read None =
+    loading_named limits files read (first_unknown (table_specs read.known))
+
+abbrev pub loading_of : Limits → NamedBytes → Result (Reading (List Statement)) Refusal → Loading
+loading_of limits files (Err refusal) = Refused refusal
+loading_of limits files (Ok read) =
+    loading_numbered limits files read (repeated_after [] (table_specs read.known))
+
+-- what a configuration loads as under an environment, limits of its references, and files
+unfoldable pub loaded : Env → Limits → NamedBytes → List ℕ → Loading
+loaded env limits files config =
+    loading_of limits files (statements_from env 1 (lines_of config) nothing_known)
+
+-- ---- the relation
+
+-- all lines give statements, no number is given twice, and each file that a rule changes is named
+-- by a `-f` or a map
+pub record GivesReferences (env : Env) (config : List ℕ) (read : Reading (List Statement))
+    : Type 0 where
+  pub given : GiveStatements env 1 (lines_of config) nothing_known read
+  pub once : repeated_after [] (table_specs read.known) ≡ None
+  pub known : first_unknown (table_specs read.known) ≡ None
+
+-- the references with their entries, or why they don't have all
+abbrev pub filled_of : Limits → NamedBytes → Known → Filled
+filled_of limits files known = filled_from files 0 (table_specs known) (declared limits known)
+
+-- a number is given twice, for the first time on this line
+pub record GivesTwice (env : Env) (config : List ℕ) (refusal : Refusal) : Type 0 where
+  pub read : Reading (List Statement)
+  pub given : GiveStatements env 1 (lines_of config) nothing_known read
+  pub line : repeated_after [] (table_specs read.known) ≡ Some refusal.line
+  pub code : refusal.code ≡ id_taken
+
+-- no number is given twice, and a rule changes a file that is named nowhere else, for the first
+-- time on this line
+pub record ChangesUnknown (env : Env) (config : List ℕ) (refusal : Refusal) : Type 0 where
+  pub read : Reading (List Statement)
+  pub given : GiveStatements env 1 (lines_of config) nothing_known read
+  pub once : repeated_after [] (table_specs read.known) ≡ None
+  pub line : first_unknown (table_specs read.known) ≡ Some refusal.line
+  pub code : refusal.code ≡ unknown_table
+
+-- an entry is refused
+pub record HasEntryFault (env : Env) (limits : Limits) (files : NamedBytes) (config : List ℕ)
+    (refusal : Refusal) : Type 0 where
+  pub read : Reading (List Statement)
+  pub lines : GivesReferences env config read
+  pub refused : filled_of limits files read.known ≡ FillRefused refusal
+
+-- What a configuration loads as. It is refused at the first line with a fault; else where a number
+-- is given twice; else where a rule changes a file that is named nowhere else; else at the first
+-- entry with a fault.
+abbrev pub Loads : Env → Limits → NamedBytes → List ℕ → Loading → Type 0
+Loads env limits files config (Accepted program references) =
+    (read : Reading (List Statement)) × GivesReferences env config read
+    × (filled_of limits files read.known ≡ Whole references)
+    × (program ≡ with_statements read.value no_rules)
+Loads env limits files config (Refused refusal) =
+    IsFirstRefused env 1 (lines_of config) nothing_known refusal
+    ⊎ (GivesTwice env config refusal ⊎ (ChangesUnknown env config refusal
+    ⊎ HasEntryFault env limits files config refusal))
+Loads env limits files config (Missing name) =
+    (read : Reading (List Statement)) × GivesReferences env config read
+    × (filled_of limits files read.known ≡ FillMissing name)
+
+-- ---- texts that are read as regular expressions
+
+-- the inline patterns that an ACL reads so
+abbrev pub IsPatternText : Decl → ExpressionText → Type 0
+IsPatternText decl text =
+    (decl.by ≡ method.Reg) × Contains decl.words text.text × (text.ci ≡ decl.ci)
+
+-- the ACL of a term does, where it stands in the condition itself
+abbrev pub IsUsePattern : AclUse → ExpressionText → Type 0
+IsUsePattern (Named name) text = ⊥
+IsUsePattern (Own decl) text = IsPatternText decl text
+
+abbrev pub IsConjPattern : List Term → ExpressionText → Type 0
+IsConjPattern conj text = (term : Term) × Contains conj term × IsUsePattern term.acl text
+
+abbrev pub IsCondPattern : List (List Term) → ExpressionText → Type 0
+IsCondPattern cond text = (conj : List Term) × Contains cond conj × IsConjPattern conj text
+
+abbrev pub IsWhenPattern : Option (List (List Term)) → ExpressionText → Type 0
+IsWhenPattern None text = ⊥
+IsWhenPattern (Some cond) text = IsCondPattern cond text
+
+-- the inline patterns that a statement reads so
+abbrev pub IsStatementPattern : Statement → ExpressionText → Type 0
+IsStatementPattern statement.Plain text = ⊥
+IsStatementPattern (statement.Acl line name decl) text = IsPatternText decl text
+IsStatementPattern (statement.Rule rule) text = IsWhenPattern rule.cond text
+IsStatementPattern (statement.Redirect rule) text = IsWhenPattern rule.cond text
+IsStatementPattern (statement.Backend line format unless cond) text = IsWhenPattern cond text
+IsStatementPattern (statement.Fallback line name) text = ⊥
+
+abbrev pub StatementReads : Statement → ExpressionText → Type 0
+StatementReads statement text =
+    Contains (statement_texts statement) text ⊎ IsStatementPattern statement text
+
+-- the line after lines that give statements spells one whose types fit, which reads the text
+pub record LineReads (env : Env) (config : List ℕ) (text : ExpressionText) : Type 0 where
+  pub lines_before : List (List ℕ)
+  pub line : List ℕ
+  pub lines_after : List (List ℕ)
+  pub lines_are : lines_of config ≡ lines_before ++ line ∷ lines_after
+  pub given : Reading (List Statement)
+  pub accepted : GiveStatements env 1 lines_before nothing_known given
+  pub read : Reading Statement
+  pub spelled : SpellsStatement env (1 + length lines_before) line given.known read
+  pub typed : is_statement_typed read.value ≡ true
+  pub reads : StatementReads read.value text
+
+-- all lines give statements, and an entry is read so
+pub record EntryReads (env : Env) (limits : Limits) (files : NamedBytes) (config : List ℕ)
+    (text : ExpressionText) : Type 0 where
+  pub read : Reading (List Statement)
+  pub lines : GivesReferences env config read
+  pub asked : FillingAsksFor files 0 (table_specs read.known) (declared limits read.known) text
+
+-- a file is one to which a configuration comes when it is loaded, with no fault before it
+pub record ReadsFile (env : Env) (limits : Limits) (files : NamedBytes) (config : List ℕ)
+    (name : List ℕ) : Type 0 where
+  pub read : Reading (List Statement)
+  pub lines : GivesReferences env config read
+  pub reads : FillingReads files 0 (table_specs read.known) (declared limits read.known) name
+
+-- a text is read as a regular expression when a configuration is loaded, before its first fault
+abbrev pub Judges : Env → Limits → NamedBytes → List ℕ → ExpressionText → Type 0
+Judges env limits files config text =
+    LineReads env config text ⊎ EntryReads env limits files config text

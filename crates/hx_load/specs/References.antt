@@ -1,0 +1,177 @@
+-- The references of a configuration: their numbers, and the entries of their files and inline
+-- patterns (HAProxy configuration manual 2.4, sections 7.1 and 7.3.1, `map`; management guide 2.4,
+-- section 9.3).
+use Rattle.std.specs.Prelude.{◌≡◌, ℕ, ◌+◌, ◌==◌, ◌⊎◌, ⊤, Bool, not, List, [], ◌∷◌, length, map, Option, None, Some, filter, filter_map, if◌then◌else◌}
+use Rattle.std.specs.List.{list_any, range_with_len}
+use Rattle.std.specs.Option.{option_map_or}
+use Rattle.hx_base.specs.Pairs.{NamedBytes, value_at}
+use Rattle.hx_outside.specs.Makers.{ExpressionText}
+use Rattle.hx_refs.specs.Additions.{AdditionAsksFor, Pair, addition_fault, after_addition}
+use Rattle.hx_refs.specs.FileLines.{key_alone, text_pairs}
+use Rattle.hx_refs.specs.References.{References, after_output, no_references, with_new}
+use Rattle.hx_refs.specs.Uses.{after_use}
+use Rattle.hx_refs.specs.declared.Limits.{Limits}
+use Rattle.hx_refs.specs.declared.RefFault.{RefFault}
+use Rattle.hx_refs.specs.declared.RefFault.TheVariants as ref_fault
+use Rattle.hx_sample.specs.Tables.{TableHead}
+use Rattle.hx_spell.specs.declared.HeadSpec.{HeadSpec}
+use Rattle.hx_spell.specs.declared.TableSpec.{TableSpec}
+use Rattle.hx_text.specs.declared.Out.TheVariants as out
+use Rattle.hx_load.specs.Configuration.{Refusal, bad_pattern}
+
+-- ---- numbers
+
+-- the code of a number that `-u` gives a second time
+abbrev pub id_taken : ℕ
+id_taken = 22
+
+-- the code of a file that a rule changes, and that is named nowhere else
+abbrev pub unknown_table : ℕ
+unknown_table = 21
+
+abbrev pub is_among : List ℕ → ℕ → Bool
+is_among numbers n = list_any (λ m. m == n) numbers
+
+-- the line of the first reference whose number is given again, after these numbers
+abbrev pub repeated_after : List ℕ → List TableSpec → Option ℕ
+repeated_after numbers [] = None
+repeated_after numbers (spec ∷ specs) =
+    option_map_or
+    (λ n. if is_among numbers n then Some spec.line else repeated_after (n ∷ numbers) specs)
+    spec.given (repeated_after numbers specs)
+
+-- the numbers that are given
+abbrev pub given_numbers : List TableSpec → List ℕ
+given_numbers specs = filter_map (λ spec. spec.given) specs
+
+-- the least numbers that aren't given: as many as there may be references without one
+abbrev pub free_numbers : List TableSpec → List ℕ
+free_numbers specs =
+    filter (λ n. not (is_among (given_numbers specs) n)) (range_with_len 0 (length specs))
+
+abbrev pub first_or_zero : List ℕ → ℕ
+first_or_zero [] = 0
+first_or_zero (n ∷ numbers) = n
+
+abbrev pub after_first : List ℕ → List ℕ
+after_first [] = []
+after_first (n ∷ numbers) = numbers
+
+-- the references' numbers: that which is given, or else the next one that is free
+abbrev pub numbers_by : List ℕ → List TableSpec → List ℕ
+numbers_by free [] = []
+numbers_by free (spec ∷ specs) =
+    option_map_or (λ n. n ∷ numbers_by free specs) spec.given
+    (first_or_zero free ∷ numbers_by (after_first free) specs)
+
+abbrev pub numbers_of : List TableSpec → List ℕ
+numbers_of specs = numbers_by (free_numbers specs) specs
+
+-- ---- references without entries
+
+-- the types, beside strings, in which the values of the reference at a position are read
+abbrev pub with_outputs : ℕ → TableSpec → References → References
+with_outputs r spec refs =
+    let ints = if spec.out_int then after_output refs r out.Int else refs in
+    if spec.out_ip then after_output ints r out.Ip else ints
+
+-- the references, with one more of this number
+abbrev pub with_table : ℕ → TableSpec → References → References
+with_table number spec refs =
+    with_outputs (length refs.references) spec
+    (with_new refs number spec.file spec.two_column spec.acl)
+
+abbrev pub with_tables : List ℕ → List TableSpec → References → References
+with_tables numbers [] refs = refs
+with_tables numbers (spec ∷ specs) refs =
+    with_tables (after_first numbers) specs (with_table (first_or_zero numbers) spec refs)
+
+abbrev pub with_heads : List HeadSpec → References → References
+with_heads [] refs = refs
+with_heads (head ∷ heads) refs = with_heads heads (after_use refs head.table head.by head.ci)
+
+-- the references in their order, with their heads, before they have entries
+abbrev pub declared_references : Limits → List TableSpec → List HeadSpec → References
+declared_references limits specs heads =
+    with_heads heads (with_tables (numbers_of specs) specs (no_references limits))
+
+-- the head that a use brings
+abbrev pub table_head : HeadSpec → TableHead
+table_head head = record { by = head.by; ci = head.ci; list = head.table }
+
+-- ---- entries
+
+-- the files that the configuration names are those that are held, where that is known
+abbrev pub HasFiles : Option NamedBytes → NamedBytes → Type 0
+HasFiles None files = ⊤
+HasFiles (Some held) files = files ≡ held
+
+-- the keys and values of a reference: of a file the lines of its text, of inline patterns these;
+-- none where there is no such file
+abbrev pub pairs_of_file : Bool → Option (List ℕ) → Option (List Pair)
+pairs_of_file two None = None
+pairs_of_file two (Some text) = Some (text_pairs two text)
+
+abbrev pub pairs_of_spec : NamedBytes → TableSpec → Option (List Pair)
+pairs_of_spec files spec =
+    option_map_or (λ name. pairs_of_file spec.two_column (value_at files name))
+    spec.file (Some (map key_alone spec.inline))
+
+-- the code of a fault of an entry: its key is no pattern (16), its value isn't readable (18), or it
+-- is one too many (20)
+abbrev pub entry_code : RefFault → ℕ
+entry_code ref_fault.BadPattern = bad_pattern
+entry_code ref_fault.BadValue = 18
+entry_code ref_fault.VersionFull = 20
+entry_code ref_fault.VersionWorn = 20
+entry_code _ = 0
+
+-- what comes of reading files in their order: the references with all entries, a refusal, or a file
+-- that is missing
+pub data Filled : Type 0 where
+  Whole : (references : References) → Filled
+  Refused : (refusal : Refusal) → Filled
+  Missing : (name : List ℕ) → Filled
+
+abbrev pub name_of : Option (List ℕ) → List ℕ
+name_of None = []
+name_of (Some name) = name
+
+-- an addition that is refused, or what comes after it
+abbrev pub after_fault : ℕ → Option RefFault → Filled → Filled
+after_fault line (Some fault) after = Refused (record { line = line; code = entry_code fault })
+after_fault line None after = after
+
+abbrev pub after_pairs : TableSpec → References → ℕ → Option (List Pair)
+    → (References → Filled) → Filled
+after_pairs spec refs r None after = Missing (name_of spec.file)
+after_pairs spec refs r (Some pairs) after =
+    after_fault spec.line (addition_fault refs r None pairs)
+    (after (after_addition refs r None pairs))
+
+-- the references with the entries of those from a position on
+abbrev pub filled_from : NamedBytes → ℕ → List TableSpec → References → Filled
+filled_from files r [] refs = Whole refs
+filled_from files r (spec ∷ specs) refs =
+    after_pairs spec refs r (pairs_of_spec files spec)
+    (λ filled. filled_from files (r + 1) specs filled)
+
+-- an entry that is added to one of the references from a position on, with no fault before it, is
+-- read as this regular expression
+abbrev pub FillingAsksFor :
+    NamedBytes → ℕ → List TableSpec → References → ExpressionText → Type 0
+FillingAsksFor files r [] refs text = ⊥
+FillingAsksFor files r (spec ∷ specs) refs text =
+    (pairs : List Pair) × (pairs_of_spec files spec ≡ Some pairs)
+    × (AdditionAsksFor refs r None pairs text
+    ⊎ ((addition_fault refs r None pairs ≡ None)
+    × FillingAsksFor files (r + 1) specs (after_addition refs r None pairs) text))
+
+-- the file of one of the references from a position on is this one, and there is no fault before it
+abbrev pub FillingReads : NamedBytes → ℕ → List TableSpec → References → List ℕ → Type 0
+FillingReads files r [] refs name = ⊥
+FillingReads files r (spec ∷ specs) refs name =
+    (spec.file ≡ Some name)
+    ⊎ ((pairs : List Pair) × (pairs_of_spec files spec ≡ Some pairs)
+    × (addition_fault refs r None pairs ≡ None)
+    × FillingReads files (r + 1) specs (after_addition refs r None pairs) name)

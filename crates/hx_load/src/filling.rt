@@ -1,0 +1,179 @@
+ghost use Rattle.std.specs.Prelude.{◌≡◌, ◌≤◌, ◌<◌, ◌⊎◌, ℕ, map, length, Some, Err};
+ghost use Rattle.std.specs.Prelude.{IfErr, IfOk, IfSome, IsErrOf, OnOk};
+ghost use Rattle.hx_base.specs.Pairs.{value_at};
+ghost use Rattle.hx_outside.specs.Count.{Rose};
+ghost use Rattle.hx_refs.specs.FileLines.{key_alone};
+ghost use Rattle.hx_spell.specs.TableSpecs.{AreSpecs};
+ghost use Rattle.hx_load.specs.Filling.{AsksOne, FillAsksLast, FillReadsLast, FillsHeld, FillsOne};
+ghost use Rattle.hx_load.specs.Filling.{HasPairs, IsFailedOrNoMemory, IsFileOf, RefusesOne};
+ghost use Rattle.hx_load.specs.Filling.{fault_of_entry};
+
+use crate::load_fault::LoadFault;
+use hx_ast::Texts;
+use hx_outside::{FileFault, Files, ReMaker};
+use hx_refs::{Pairs, RefFault, Refs};
+use hx_spell::{TableSpec, TableSpecs};
+use hx_text::NoMemory;
+use std::alloc::Global;
+
+/// The code of a key that is no pattern.
+const BAD_PATTERN: u32 = 16;
+
+/// The code of a value that can't be read.
+const BAD_VALUE: u32 = 18;
+
+/// The code of an entry that is one too many.
+const TOO_LONG: u32 = 20;
+
+/// Fills the references with the entries of their files and inline patterns, in their order.
+///
+/// `Refused` exactly where an entry has a fault, with the line of the first appearance of its
+/// reference: 16 where a key is no pattern, 18 where a value can't be read, 20 where an entry is
+/// one too many. `Failed` only where the files' count of faults rose; the last name that failed is
+/// then that of a file to which filling comes. `TooLarge` only where the maker's count of texts
+/// that were too large rose, and the last of them is a key that is read as an expression.
+/// `NoMemory` where memory runs out.
+///
+/// There are as many references as specs. HAProxy configuration manual 2.4, sections 7.1 and 7.3.1,
+/// `map`.
+#[tactic(auto, using(crate::proofs::FillLemmas::fills))]
+pub(crate) fn fill<F: Files, M: ReMaker>(
+    alloc: Global,
+    files: &mut F,
+    specs: &TableSpecs,
+    refs: &mut Refs,
+    maker: &mut M,
+) -> Result<(), LoadFault>
+    requires specs { AreSpecs specs.now }
+    requires count { length refs.old.references ≡ length specs.now.specs }
+    ensures filled { FillsHeld (F.held files.old) specs.now.specs refs.old refs.new result }
+    ensures failed { IsErrOf result LoadFault.Failed
+        → Rose (F.faults files.old) (F.faults files.new)
+        × FillReadsLast (F.held files.old) specs.now.specs refs.old (F.last files.new) }
+    ensures too_large { IsErrOf result LoadFault.TooLarge
+        → Rose (M.too_large maker.old) (M.too_large maker.new)
+        × FillAsksLast (F.held files.old) specs.now.specs refs.old (M.large maker.new) }
+    ensures uncounted { ¬ (IsErrOf result LoadFault.TooLarge)
+        → (M.too_large maker.new ≡ M.too_large maker.old)
+        × (M.large maker.new ≡ M.large maker.old) }
+    ensures held { F.held files.new ≡ F.held files.old }
+    ensures named { (F.last files.new ≡ F.last files.old)
+        ⊎ FillReadsLast (F.held files.old) specs.now.specs refs.old (F.last files.new) }
+    ensures later { F.faults files.old ≤ F.faults files.new }
+    ensures heads { OnOk result (refs.new.heads ≡ refs.old.heads) }
+    ensures references { OnOk result
+        (length refs.new.references ≡ length refs.old.references) }
+{
+    let mut rest = specs.as_slice();
+    let mut r = 0u32;
+    while let [spec, others @ ..] = rest {
+        fill_one(alloc, files, spec, r, refs, maker)?;
+        r += 1;
+        rest = others;
+    }
+    Ok(())
+}
+
+/// Fills the reference at the position `r`.
+fn fill_one<F: Files, M: ReMaker>(
+    alloc: Global,
+    files: &mut F,
+    spec: &TableSpec,
+    r: u32,
+    refs: &mut Refs,
+    maker: &mut M,
+) -> Result<(), LoadFault>
+    requires { r < length refs.old.references }
+    ensures filled { OnOk result (FillsOne (F.held files.old) spec.now r refs.old refs.new) }
+    ensures refused { (line code : ℕ) → result ≡ Err (LoadFault.Refused line code)
+        → RefusesOne (F.held files.old) spec.now r refs.old line code }
+    ensures failed { IsErrOf result LoadFault.Failed
+        → Rose (F.faults files.old) (F.faults files.new) × IsFileOf spec.now (F.last files.new) }
+    ensures named { ¬ (IsErrOf result LoadFault.Failed) → F.last files.new ≡ F.last files.old }
+    ensures too_large { IsErrOf result LoadFault.TooLarge
+        → Rose (M.too_large maker.old) (M.too_large maker.new)
+        × AsksOne (F.held files.old) spec.now r refs.old (M.large maker.new) }
+    ensures uncounted { ¬ (IsErrOf result LoadFault.TooLarge)
+        → (M.too_large maker.new ≡ M.too_large maker.old)
+        × (M.large maker.new ≡ M.large maker.old) }
+    ensures held { F.held files.new ≡ F.held files.old }
+    ensures later { F.faults files.old ≤ F.faults files.new }
+{
+    let pairs = pairs_of(alloc, files, spec)?;
+    match refs.add_many(r, None, &pairs, maker) {
+        Ok(()) => Ok(()),
+        Err(fault) => Err(entry_fault(spec.line, fault)),
+    }
+}
+
+/// The keys and values of a reference.
+fn pairs_of<F: Files>(alloc: Global, files: &mut F, spec: &TableSpec) -> Result<Pairs, LoadFault>
+    ensures pairs { IfOk result (λ pairs. HasPairs (F.held files.old) spec.now pairs) }
+    ensures err { IfErr result IsFailedOrNoMemory }
+    ensures failed { IsErrOf result LoadFault.Failed
+        → Rose (F.faults files.old) (F.faults files.new) × IsFileOf spec.now (F.last files.new) }
+    ensures named { ¬ (IsErrOf result LoadFault.Failed) → F.last files.new ≡ F.last files.old }
+    ensures held { F.held files.new ≡ F.held files.old }
+    ensures later { F.faults files.old ≤ F.faults files.new }
+{
+    match &spec.file {
+        Some(name) => {
+            let text = read_file(alloc, files, name.as_slice())?;
+            Ok(Pairs::of_text(alloc, text.as_slice(), spec.two_column)?)
+        }
+        None => Ok(keys(alloc, &spec.inline)?),
+    }
+}
+
+/// The bytes of the file of this name.
+fn read_file<F: Files>(alloc: Global, files: &mut F, name: &[u8]) -> Result<Vec<u8>, LoadFault>
+    ensures text { IfOk result (λ text. IfSome (F.held files.old) (λ files.
+        value_at files name.now ≡ Some text.items)) }
+    ensures err { IfErr result IsFailedOrNoMemory }
+    ensures failed { IsErrOf result LoadFault.Failed
+        → Rose (F.faults files.old) (F.faults files.new) × (F.last files.new ≡ Some name.now) }
+    ensures named { ¬ (IsErrOf result LoadFault.Failed) → F.last files.new ≡ F.last files.old }
+    ensures held { F.held files.new ≡ F.held files.old }
+    ensures later { F.faults files.old ≤ F.faults files.new }
+{
+    match files.read(alloc, name) {
+        Ok(text) => Ok(text),
+        Err(FileFault::Failed) => Err(LoadFault::Failed),
+        Err(FileFault::NoMemory) => Err(LoadFault::NoMemory),
+    }
+}
+
+/// The keys of inline patterns.
+fn keys(alloc: Global, words: &Texts) -> Result<Pairs, NoMemory>
+    ensures { IfOk result (λ pairs. pairs ≡ map key_alone words.now) }
+{
+    let mut pairs = Pairs::new(alloc);
+    let mut rest = words.as_slice();
+    while let [word, others @ ..] = rest {
+        pairs.push(word.as_slice(), b"")?;
+        rest = others;
+    }
+    Ok(pairs)
+}
+
+/// The fault of a configuration where an entry that this line brings has one.
+fn entry_fault(line: u64, fault: RefFault) -> LoadFault
+    ensures { result ≡ fault_of_entry line fault }
+{
+    match fault {
+        RefFault::BadPattern => LoadFault::Refused {
+            line,
+            code: BAD_PATTERN,
+        },
+        RefFault::BadValue => LoadFault::Refused {
+            line,
+            code: BAD_VALUE,
+        },
+        RefFault::VersionFull | RefFault::VersionWorn => LoadFault::Refused {
+            line,
+            code: TOO_LONG,
+        },
+        RefFault::TooLarge => LoadFault::TooLarge,
+        _ => LoadFault::NoMemory,
+    }
+}
