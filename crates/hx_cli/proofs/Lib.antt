@@ -1,0 +1,10 @@
+pub mod WordLemmas
+pub mod VersionLemmas
+pub mod CommandLemmas
+pub mod KeyLemmas
+pub mod ReplyLemmas
+pub mod ReferenceLineLemmas
+pub mod UseLineLemmas
+pub mod PayloadLemmas
+pub mod LineLemmas
+pub mod KeepLemmas

@@ -1,0 +1,189 @@
+-- The commands of the management socket, and the words that spell each (HAProxy management guide
+-- 2.4, section 9.3, `add acl`, `clear acl`, `commit acl`, `del acl`, `get acl`, `prepare acl`,
+-- `show acl`, and the same of `map`, and `set map`). `Spells` is to be read first, and `command_of`
+-- then.
+use Rattle.std.specs.Prelude.{◌≡◌, ℕ, ◌-◌, ◌^◌, ◌&&◌, ◌==◌, nat_lt, Bool, true, false, not, List, [], ◌∷◌, ◌++◌, length, drop, codes, Option, None, Some, option_map, option_and_then, if◌then◌else◌}
+use Rattle.std.specs.Fmt.{decimal}
+use Rattle.std.specs.Str.{bytes_eq}
+use Rattle.hx_text.specs.Number.{number_up_to}
+use Rattle.hx_cli.specs.declared.command.Command.{Command}
+use Rattle.hx_cli.specs.declared.command.Command.TheVariants.{ShowAll, Show, Get, Add, AddMany, Del, Set, Clear, Prepare, Commit}
+
+abbrev pub at_sign : ℕ
+at_sign = 64
+
+-- ---- words
+
+-- the word for lists of patterns or for maps
+abbrev pub kind_word : Bool → List ℕ
+kind_word is_map = if is_map then codes "map" else codes "acl"
+
+-- a version: `@`, and its number
+abbrev pub version_word : ℕ → List ℕ
+version_word number = at_sign ∷ decimal number
+
+-- the word of a version, and none for that which is searched
+abbrev pub version_words : Option ℕ → List (List ℕ)
+version_words None = []
+version_words (Some number) = version_word number ∷ []
+
+-- the words of an entry: a key, and in a map a value
+abbrev pub entry_words : Bool → List ℕ → List ℕ → List (List ℕ)
+entry_words is_map key value = if is_map then key ∷ value ∷ [] else key ∷ []
+
+-- the word that says that entries follow, line by line
+abbrev pub payload_word : List ℕ
+payload_word = codes "<<"
+
+-- the words of a command
+abbrev pub spelling : Command → List (List ℕ)
+spelling (ShowAll is_map) = codes "show" ∷ kind_word is_map ∷ []
+spelling (Show is_map ver name) = codes "show" ∷ kind_word is_map ∷ version_words ver ++ name ∷ []
+spelling (Get is_map name value) = codes "get" ∷ kind_word is_map ∷ name ∷ value ∷ []
+spelling (Add is_map ver name key value) =
+    codes "add" ∷ kind_word is_map ∷ version_words ver ++ name ∷ entry_words is_map key value
+spelling (AddMany is_map ver name) =
+    codes "add" ∷ kind_word is_map ∷ version_words ver ++ name ∷ payload_word ∷ []
+spelling (Del is_map name key) = codes "del" ∷ kind_word is_map ∷ name ∷ key ∷ []
+spelling (Set name key value) = codes "set" ∷ codes "map" ∷ name ∷ key ∷ value ∷ []
+spelling (Clear is_map ver name) = codes "clear" ∷ kind_word is_map ∷ version_words ver ++ name ∷ []
+spelling (Prepare is_map name) = codes "prepare" ∷ kind_word is_map ∷ name ∷ []
+spelling (Commit is_map ver name) =
+    codes "commit" ∷ kind_word is_map ∷ version_word ver ∷ name ∷ []
+
+-- ---- which commands there are
+
+-- a version's number has 32 bits
+abbrev pub is_version : ℕ → Bool
+is_version number = nat_lt number (2 ^ 32)
+
+abbrev pub begins_with_at : List ℕ → Bool
+begins_with_at [] = false
+begins_with_at (b ∷ bs) = b == at_sign
+
+-- a word that begins with `@` names no reference where a version may stand
+abbrev pub is_place : Option ℕ → List ℕ → Bool
+is_place None name = not (begins_with_at name)
+is_place (Some number) name = is_version number
+
+-- an entry of a list of patterns has no value, and its key isn't the word of a payload
+abbrev pub is_entry : Bool → List ℕ → List ℕ → Bool
+is_entry is_map key value =
+    if is_map then true else not (bytes_eq key payload_word) && (length value == 0)
+
+abbrev pub is_command : Command → Bool
+is_command (Show is_map ver name) = is_place ver name
+is_command (Add is_map ver name key value) = is_place ver name && is_entry is_map key value
+is_command (AddMany is_map ver name) = is_place ver name
+is_command (Clear is_map ver name) = is_place ver name
+is_command (Commit is_map ver name) = is_version ver
+is_command _ = true
+
+-- The words spell the command.
+pub record Spells (command : Command) (words : List (List ℕ)) : Type 0 where
+  pub is : is_command command ≡ true
+  pub words_are : words ≡ spelling command
+
+-- ---- versions, as a function of words
+
+-- the version that these digits write, without a zero before them
+abbrev pub version_of_digits : List ℕ → Option ℕ
+version_of_digits digits =
+    option_and_then (λ number. if bytes_eq digits (decimal number) then Some number else None)
+    (number_up_to (2 ^ 32 - 1) digits)
+
+-- a version, or none, and the words after it
+pub record AfterVersion : Type 0 where
+  pub ver : Option ℕ
+  pub words : List (List ℕ)
+
+abbrev pub without_version : List (List ℕ) → AfterVersion
+without_version words = record { ver = None; words = words }
+
+abbrev pub with_version : List (List ℕ) → ℕ → AfterVersion
+with_version words number = record { ver = Some number; words = words }
+
+-- the words from where a version may stand; none where a word that begins with `@` is no version
+abbrev pub after_version : List (List ℕ) → Option AfterVersion
+after_version [] = Some (without_version [])
+after_version (word ∷ words) =
+    if begins_with_at word then option_map (with_version words) (version_of_digits (drop 1 word))
+    else Some (without_version (word ∷ words))
+
+-- ---- commands, as functions of words
+
+-- a command of one word
+abbrev pub of_one_word : (List ℕ → Command) → List (List ℕ) → Option Command
+of_one_word make (name ∷ []) = Some (make name)
+of_one_word make _ = None
+
+-- a command of two words
+abbrev pub of_two_words : (List ℕ → List ℕ → Command) → List (List ℕ) → Option Command
+of_two_words make (name ∷ word ∷ []) = Some (make name word)
+of_two_words make _ = None
+
+-- a command of a version, or none, and one word
+abbrev pub of_name : (Option ℕ → List ℕ → Command) → AfterVersion → Option Command
+of_name make after = of_one_word (make after.ver) after.words
+
+-- the words after `show` and the kind
+abbrev pub show_command : Bool → List (List ℕ) → Option Command
+show_command is_map [] = Some (ShowAll is_map)
+show_command is_map (word ∷ words) =
+    option_and_then (of_name (Show is_map)) (after_version (word ∷ words))
+
+-- an addition of two words: of the entries that follow, or of a key without a value
+abbrev pub addition_of_two : Bool → Option ℕ → List ℕ → List ℕ → Option Command
+addition_of_two is_map ver name word =
+    if bytes_eq word payload_word then Some (AddMany is_map ver name)
+    else if is_map then None else Some (Add false ver name word [])
+
+-- an addition to a version, or to that which is searched
+abbrev pub addition : Bool → Option ℕ → List (List ℕ) → Option Command
+addition is_map ver (name ∷ word ∷ []) = addition_of_two is_map ver name word
+addition is_map ver (name ∷ key ∷ value ∷ []) =
+    if is_map then Some (Add true ver name key value) else None
+addition is_map ver _ = None
+
+-- the words after `add`, the kind and where a version may stand
+abbrev pub add_command : Bool → AfterVersion → Option Command
+add_command is_map after = addition is_map after.ver after.words
+
+-- the words after `set` and the kind; only a map has values
+abbrev pub set_command : Bool → List (List ℕ) → Option Command
+set_command true (name ∷ key ∷ value ∷ []) = Some (Set name key value)
+set_command _ _ = None
+
+-- the words after `commit`, the kind and the version, which is there
+abbrev pub commit_command : Bool → AfterVersion → Option Command
+commit_command is_map after =
+    option_and_then (λ number. of_one_word (Commit is_map number) after.words) after.ver
+
+-- the command of a first word, for lists or for maps, with the words after these two
+abbrev pub command_by : List ℕ → Bool → List (List ℕ) → Option Command
+command_by verb is_map words =
+    if bytes_eq verb (codes "show") then show_command is_map words
+    else if bytes_eq verb (codes "get") then of_two_words (Get is_map) words
+    else if bytes_eq verb (codes "add")
+    then option_and_then (add_command is_map) (after_version words)
+    else if bytes_eq verb (codes "del") then of_two_words (Del is_map) words
+    else if bytes_eq verb (codes "set") then set_command is_map words
+    else if bytes_eq verb (codes "clear")
+    then option_and_then (of_name (Clear is_map)) (after_version words)
+    else if bytes_eq verb (codes "prepare") then of_one_word (Prepare is_map) words
+    else if bytes_eq verb (codes "commit")
+    then option_and_then (commit_command is_map) (after_version words)
+    else None
+
+-- whether a word is that of maps, or that of lists
+abbrev pub kind_of_word : List ℕ → Option Bool
+kind_of_word word =
+    if bytes_eq word (kind_word true) then Some true
+    else if bytes_eq word (kind_word false) then Some false
+    else None
+
+-- the command that these words spell, if they spell one
+abbrev pub command_of : List (List ℕ) → Option Command
+command_of (verb ∷ kind ∷ words) =
+    option_and_then (λ is_map. command_by verb is_map words) (kind_of_word kind)
+command_of _ = None

@@ -1,0 +1,8 @@
+-- what callers need
+pub mod CommandLine
+pub mod Commands
+pub mod Replies
+pub mod Effects
+pub mod Payloads
+-- views of the code, for the contracts of private functions
+pub mod ChangeReplies
