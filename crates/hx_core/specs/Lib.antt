@@ -1,0 +1,7 @@
+-- what callers need
+pub mod World
+pub mod Answers
+pub mod Steps
+-- views of the code, for the contracts of private functions
+pub mod Faults
+pub mod StepView

@@ -1,0 +1,129 @@
+ghost use Rattle.std.specs.Prelude.{◌≡◌, [], None, Some, IfErr, IfOk, IfSome, OnOk};
+ghost use Rattle.hx_core.specs.Steps.{answer_of, EventAsksFor, IsRefusal, refusal_of, StepCountsLarge, world_after};
+ghost use Rattle.hx_core.specs.World.{first_world, FitRules, running};
+
+use crate::answer::Answer;
+use crate::fault::StepFault;
+use crate::world::KeptWorld;
+use hx_outside::ReMaker;
+use hx_record::Event;
+use hx_refs::Refs;
+use hx_rules::Program;
+use std::alloc::Global;
+use std::marker::Model;
+use std::mem;
+
+/// A configuration under way: its rules and references, the connections that are open, the
+/// variables, and the sessions of the management socket. Contracts see its world, and the fault
+/// with which it stopped, if it did.
+#[derive(Drop)]
+pub struct Engine {
+    alloc: Global,
+    world: KeptWorld,
+    stopped: Option<StepFault>,
+    // the memory of an answer that was given back
+    room: Vec<u8>,
+}
+
+impl Model for Engine {
+    ghost use Rattle.std.specs.Coded.{codes};
+    ghost use Rattle.hx_core.specs.World.{EngineParts};
+    ghost use Rattle.hx_core.specs.contracts.world.KeptWorld as world_contracts;
+
+    ghost Value = { EngineParts };
+
+    ghost coded = { Prim.hlevel (codes, world_contracts.the_row.coded) };
+
+    ghost view = { λ engine. record { world = engine.world; stopped = engine.stopped } };
+}
+
+impl Engine {
+    /// An engine before the first event, with the rules and the references of a configuration. It
+    /// takes no memory; what it needs later it takes from `alloc`.
+    ///
+    /// The references have the heads and the lists that the rules name.
+    pub fn new(alloc: Global, program: Program, refs: Refs) -> Engine
+        requires { FitRules refs program }
+        ensures { result ≡ running (first_world program refs) }
+    {
+        Engine {
+            alloc,
+            world: KeptWorld::new(alloc, program, refs),
+            stopped: None,
+            room: Vec::new(alloc),
+        }
+    }
+
+    /// The references, as the events so far have changed them.
+    pub fn refs(&self) -> &Refs
+        ensures { result.now ≡ self.now.world.refs }
+    {
+        self.world.refs()
+    }
+
+    /// The fault with which it stopped. None exactly where it didn't.
+    pub fn stopped(&self) -> Option<StepFault>
+        ensures { result ≡ self.now.stopped }
+    {
+        self.stopped
+    }
+
+    /// Goes on to the world after an event, and gives its answer: the lines of a request, those of
+    /// the reply to a line of the management socket, and nothing for a connection that opens or
+    /// closes. The variables of a request end with it, and those of a session with its connection.
+    /// Regular expressions that rules and commands add to lists are made by `maker`.
+    ///
+    /// `UnknownConn` exactly where a request or an end names a connection that isn't open, and
+    /// `ConnOpen` exactly where one opens that is open; nothing is changed then. `TooLarge` only
+    /// where the maker's count of texts that were too large rose; the last such text is then one
+    /// that a rule or a command adds. `NoMemory` where memory runs out. After these two it has
+    /// stopped: it answers that fault from then on, and changes no more.
+    pub fn step<M: ReMaker>(&mut self, event: &Event, maker: &mut M) -> Result<Answer, StepFault>
+        ensures answer { IfOk result (λ answer. answer ≡ answer_of self.old.world event.now) }
+        ensures world { OnOk result (self.new ≡ running (world_after self.old.world event.now)) }
+        ensures allowed { OnOk result
+            ((self.old.stopped ≡ None) × (refusal_of self.old.world event.now ≡ None)) }
+        ensures refused { self.old.stopped ≡ None → IfErr result (λ fault. IsRefusal fault
+            → (refusal_of self.old.world event.now ≡ Some fault) × (self.new ≡ self.old)) }
+        ensures failed { self.old.stopped ≡ None → IfErr result (λ fault. ¬ (IsRefusal fault)
+            → (refusal_of self.old.world event.now ≡ None) × (self.new.stopped ≡ Some fault)) }
+        ensures large { self.old.stopped ≡ None
+            → StepCountsLarge result (EventAsksFor self.old.world event.now)
+            (record { too_large = M.too_large maker.old; large = M.large maker.old })
+            (record { too_large = M.too_large maker.new; large = M.large maker.new }) }
+        ensures stopped { IfSome self.old.stopped (λ fault. (result ≡ Err fault)
+            × (self.new ≡ self.old) × (maker.new ≡ maker.old)) }
+    {
+        if let Some(fault) = self.stopped {
+            return Err(fault);
+        }
+        let room = emptied(self.alloc, &mut self.room);
+        match self.world.step(event, room, maker) {
+            Ok(answer) => {
+                self.world.tidy();
+                Ok(answer)
+            }
+            Err(fault) => {
+                self.stopped = fault.stop();
+                Err(fault)
+            }
+        }
+    }
+
+    /// Takes back an answer, so that the next one needs no memory of its own.
+    pub fn reuse(&mut self, answer: Answer)
+        ensures { self.new ≡ self.old }
+    {
+        let Answer { bytes } = answer;
+        self.room = bytes;
+    }
+}
+
+/// The memory of `room`, without bytes; `room` has none from then on.
+fn emptied(alloc: Global, room: &mut Vec<u8>) -> Vec<u8>
+    ensures { result.items ≡ [] }
+{
+    let mut taken = mem::replace(room, Vec::new(alloc));
+    taken.clear();
+    taken
+}

@@ -1,0 +1,122 @@
+ghost use Rattle.std.specs.Prelude.{◌≡◌, [], IfErr, IfOk, OnOk};
+ghost use Rattle.hx_http.specs.Head.{head_of};
+ghost use Rattle.hx_rules.specs.Failures.{RulesAskFor};
+ghost use Rattle.hx_rules.specs.Verdicts.{start};
+ghost use Rattle.hx_core.specs.Answers.{bad_line};
+ghost use Rattle.hx_core.specs.StepView.{DoesStep};
+ghost use Rattle.hx_core.specs.Steps.{after_evaluation, after_head, after_number, EventAsksFor, evaluation_text, HeadAsksFor, head_answer, IsRefusal, next_number, request_evaluation, StepCountsLarge};
+ghost use Rattle.hx_core.specs.World.{refs_view};
+
+use crate::answer::Answer;
+use crate::evaluating::evaluated;
+use crate::fault::StepFault;
+use crate::verdicts::{append_answer, append_bad};
+use crate::world::KeptWorld;
+use hx_fetch::Conn;
+use hx_http::{HeadFault, Message, read_head};
+use hx_outside::ReMaker;
+use hx_record::Event;
+use hx_text::NoMemory;
+use std::marker::Brand;
+use std::sync::ledger::Blank;
+
+impl KeptWorld {
+    /// A request of these bytes.
+    pub(crate) fn request<M: ReMaker>(
+        &mut self,
+        id: u32,
+        bytes: &[u8],
+        room: Vec<u8>,
+        maker: &mut M,
+    ) -> Result<Answer, StepFault>
+        requires { room.items ≡ [] }
+        ensures steps { DoesStep self.old self.new (Event.Req id bytes.now) result }
+        ensures large { StepCountsLarge result (EventAsksFor self.old (Event.Req id bytes.now))
+            (record { too_large = M.too_large maker.old; large = M.large maker.old })
+            (record { too_large = M.too_large maker.new; large = M.large maker.new }) }
+    {
+        let Some(conn) = self.connections.get(id) else {
+            return Err(StepFault::UnknownConn);
+        };
+        let conn = *conn;
+        self.answer(&conn, bytes, room, maker)
+    }
+
+    /// Answers a request of an open connection.
+    fn answer<M: ReMaker>(
+        &mut self,
+        conn: &Conn,
+        bytes: &[u8],
+        room: Vec<u8>,
+        maker: &mut M,
+    ) -> Result<Answer, StepFault>
+        requires { room.items ≡ [] }
+        ensures world { OnOk result
+            (self.new ≡ after_head self.old conn.now (head_of bytes.now)) }
+        ensures text { IfOk result (λ text. text
+            ≡ head_answer self.old conn.now (head_of bytes.now)) }
+        ensures kind { IfErr result (λ fault. ¬ (IsRefusal fault)) }
+        ensures large { StepCountsLarge result
+            (HeadAsksFor self.old conn.now (head_of bytes.now))
+            (record { too_large = M.too_large maker.old; large = M.large maker.old })
+            (record { too_large = M.too_large maker.new; large = M.large maker.new }) }
+    {
+        match read_head(self.alloc, bytes) {
+            Ok((read, _)) => self.answer_head(conn, &read, room, maker),
+            Err(HeadFault::NotAHead) => Ok(self.answer_bad(room)?),
+            Err(HeadFault::TooManyHeaders) => Ok(self.answer_bad(room)?),
+            Err(HeadFault::NoMemory) => Err(StepFault::NoMemory),
+        }
+    }
+
+    /// Answers a request whose bytes begin with no head; the rules aren't asked.
+    fn answer_bad(&mut self, mut room: Vec<u8>) -> Result<Answer, NoMemory>
+        requires { room.items ≡ [] }
+        ensures world { OnOk result (self.new ≡ after_number self.old) }
+        ensures text { IfOk result (λ text. text ≡ bad_line (next_number self.old.requests)) }
+    {
+        self.requests = self.requests.saturating_add(1);
+        append_bad(&mut room, self.requests)?;
+        Ok(Answer { bytes: room })
+    }
+
+    /// Answers a request with this head.
+    fn answer_head<M: ReMaker>(
+        &mut self,
+        conn: &Conn,
+        read: &Message,
+        mut room: Vec<u8>,
+        maker: &mut M,
+    ) -> Result<Answer, StepFault>
+        requires { room.items ≡ [] }
+        ensures world { OnOk result (self.new ≡ after_evaluation
+            (request_evaluation self.old conn.now read.now) self.old) }
+        ensures text { IfOk result (λ text. text
+            ≡ evaluation_text (next_number self.old.requests) read.now
+            (request_evaluation self.old conn.now read.now)) }
+        ensures kind { IfErr result (λ fault. ¬ (IsRefusal fault)) }
+        ensures large { StepCountsLarge result (RulesAskFor refs_view conn.now self.old.rules
+            (start read.now self.old.vars self.old.refs))
+            (record { too_large = M.too_large maker.old; large = M.large maker.old })
+            (record { too_large = M.too_large maker.new; large = M.large maker.new }) }
+    {
+        let mut made = read.copy()?;
+        let rules = &self.rules;
+        let vars = &mut self.vars;
+        let refs = &mut self.refs;
+        let verdict = evaluated::<M, Brand>(
+            self.alloc,
+            rules,
+            &mut made,
+            conn,
+            vars,
+            refs,
+            maker,
+            Blank::new(1),
+        )?;
+        self.vars.end_request();
+        self.requests = self.requests.saturating_add(1);
+        append_answer(&mut room, self.requests, &verdict, read, &made)?;
+        Ok(Answer { bytes: room })
+    }
+}

@@ -1,0 +1,146 @@
+ghost use Rattle.std.specs.Prelude.{◌≡◌, [], ◌++◌, codes, slice_get, OnOk};
+ghost use Rattle.std.specs.Fmt.{decimal};
+ghost use Rattle.std.specs.List.{flat_map};
+ghost use Rattle.std.specs.Option.{option_map_or};
+ghost use Rattle.hx_core.specs.Answers.{answer_text, bad_line, changed_text, head_text, header_text, verdict_text};
+
+use hx_http::Message;
+use hx_rules::Verdict;
+use hx_text::NoMemory;
+use itoa::Buffer;
+
+/// Appends the line that answers the request with this number, whose bytes begin with no head;
+/// where memory runs out, perhaps the first bytes of it.
+pub(crate) fn append_bad(bytes: &mut Vec<u8>, number: u64) -> Result<(), NoMemory>
+    ensures { OnOk result (bytes.new.items ≡ bytes.old.items ++ bad_line number) }
+{
+    let mut digits = Buffer::new();
+    bytes.extend_from_slice(digits.format(number).as_bytes())?;
+    bytes.extend_from_slice(b" bad 400\n")?;
+    Ok(())
+}
+
+/// Appends the lines that answer the request with this number, whose head was read as `read` and
+/// which the rules made `made`; where memory runs out, perhaps the first bytes of them.
+pub(crate) fn append_answer(
+    bytes: &mut Vec<u8>,
+    number: u64,
+    verdict: &Verdict,
+    read: &Message,
+    made: &Message,
+) -> Result<(), NoMemory>
+    ensures { OnOk result (bytes.new.items
+        ≡ bytes.old.items ++ answer_text number verdict.now read.now made.now) }
+{
+    let mut digits = Buffer::new();
+    bytes.extend_from_slice(digits.format(number).as_bytes())?;
+    append_verdict(bytes, verdict, read, made)
+}
+
+/// Appends what follows the number of a request.
+fn append_verdict(
+    bytes: &mut Vec<u8>,
+    verdict: &Verdict,
+    read: &Message,
+    made: &Message,
+) -> Result<(), NoMemory>
+    ensures { OnOk result (bytes.new.items
+        ≡ bytes.old.items ++ verdict_text verdict.now read.now made.now) }
+{
+    match verdict {
+        Verdict::Pass { backend } => {
+            let name = match backend {
+                Some(name) => name.as_slice(),
+                None => b"-".as_slice(),
+            };
+            bytes.extend_from_slice(b" pass ")?;
+            bytes.extend_from_slice(name)?;
+            bytes.extend_from_slice(b"\n")?;
+            append_changed(bytes, read, made)
+        }
+        Verdict::Deny { code } => append_denied(bytes, *code),
+        Verdict::Redirect { code, location } => append_redirect(bytes, *code, location.as_slice()),
+        Verdict::Error => {
+            bytes.extend_from_slice(b" error 500\n")?;
+            Ok(())
+        }
+    }
+}
+
+/// Appends that the request is denied, and with which status.
+fn append_denied(bytes: &mut Vec<u8>, code: u16) -> Result<(), NoMemory>
+    ensures { OnOk result (bytes.new.items
+        ≡ bytes.old.items ++ (codes " deny " ++ (decimal code ++ codes "\n"))) }
+{
+    let mut digits = Buffer::new();
+    bytes.extend_from_slice(b" deny ")?;
+    bytes.extend_from_slice(digits.format(code).as_bytes())?;
+    bytes.extend_from_slice(b"\n")?;
+    Ok(())
+}
+
+/// Appends where the client is sent, and with which status.
+fn append_redirect(bytes: &mut Vec<u8>, code: u16, location: &[u8]) -> Result<(), NoMemory>
+    ensures { OnOk result (bytes.new.items ≡ bytes.old.items ++ (codes " redirect "
+        ++ (decimal code ++ (codes "\n| location: " ++ (location.now ++ codes "\n"))))) }
+{
+    let mut digits = Buffer::new();
+    bytes.extend_from_slice(b" redirect ")?;
+    bytes.extend_from_slice(digits.format(code).as_bytes())?;
+    bytes.extend_from_slice(b"\n| location: ")?;
+    bytes.extend_from_slice(location)?;
+    bytes.extend_from_slice(b"\n")?;
+    Ok(())
+}
+
+/// Appends the lines of the head that the rules made, where it isn't the one that was read.
+fn append_changed(bytes: &mut Vec<u8>, read: &Message, made: &Message) -> Result<(), NoMemory>
+    ensures { OnOk result (bytes.new.items ≡ bytes.old.items ++ changed_text read.now made.now) }
+{
+    if read.same(made) {
+        return Ok(());
+    }
+    append_head(bytes, made)
+}
+
+/// Appends the lines of a head.
+fn append_head(bytes: &mut Vec<u8>, head: &Message) -> Result<(), NoMemory>
+    ensures { OnOk result (bytes.new.items ≡ bytes.old.items ++ head_text head.now) }
+{
+    let mut digits = Buffer::new();
+    bytes.extend_from_slice(b"| ")?;
+    bytes.extend_from_slice(head.method())?;
+    bytes.extend_from_slice(b" ")?;
+    bytes.extend_from_slice(head.target())?;
+    bytes.extend_from_slice(b" HTTP/1.")?;
+    bytes.extend_from_slice(digits.format(head.minor()).as_bytes())?;
+    bytes.extend_from_slice(b"\n")?;
+    append_lines(bytes, head)
+}
+
+/// Appends the header lines of a head.
+fn append_lines(bytes: &mut Vec<u8>, head: &Message) -> Result<(), NoMemory>
+    ensures { OnOk result (bytes.new.items
+        ≡ bytes.old.items ++ flat_map header_text head.now.headers) }
+{
+    for at in 0..head.len() {
+        append_line(bytes, head, at)?;
+    }
+    Ok(())
+}
+
+/// Appends the header line at a position, if there is one.
+fn append_line(bytes: &mut Vec<u8>, head: &Message, at: usize) -> Result<(), NoMemory>
+    ensures { OnOk result (bytes.new.items
+        ≡ bytes.old.items ++ option_map_or header_text (slice_get head.now.headers at) []) }
+{
+    let Some((name, value)) = head.header(at) else {
+        return Ok(());
+    };
+    bytes.extend_from_slice(b"| ")?;
+    bytes.extend_from_slice(name)?;
+    bytes.extend_from_slice(b": ")?;
+    bytes.extend_from_slice(value)?;
+    bytes.extend_from_slice(b"\n")?;
+    Ok(())
+}

@@ -1,0 +1,178 @@
+ghost use Rattle.std.specs.Prelude.{◌≡◌, [], IsErrOf};
+ghost use Rattle.hx_core.specs.StepView.{DoesStep};
+ghost use Rattle.hx_core.specs.Steps.{EventAsksFor, StepCountsLarge};
+ghost use Rattle.hx_core.specs.World.{first_world, FitRules};
+
+use crate::answer::Answer;
+use crate::connections::Connections;
+use crate::fault::StepFault;
+use crate::replies::append_reply;
+use hx_cli::Sessions;
+use hx_fetch::Conn;
+use hx_outside::ReMaker;
+use hx_record::Event;
+use hx_refs::Refs;
+use hx_rules::Program;
+use hx_sample::Vars;
+use std::alloc::Global;
+use std::marker::Model;
+
+/// How many slots of memory of versions that were dropped are given back after an event.
+const TIDY: usize = 64;
+
+/// What is known between two events. Contracts see it as a world, whose references fit its rules.
+#[derive(Drop)]
+pub(crate) struct KeptWorld {
+    pub(crate) alloc: Global,
+    pub(crate) rules: Program,
+    pub(crate) connections: Connections,
+    pub(crate) requests: u64,
+    pub(crate) vars: Vars,
+    pub(crate) refs: Refs,
+    pub(crate) sessions: Sessions,
+}
+
+impl Model for KeptWorld {
+    ghost use Rattle.std.specs.Coded.{codes};
+    ghost use Rattle.hx_cli.specs.contracts.Sessions as sessions_contracts;
+    ghost use Rattle.hx_sample.specs.contracts.Vars as vars_contracts;
+    ghost use Rattle.hx_core.specs.World.{FitRules, World};
+    ghost use Rattle.hx_core.specs.contracts.connections.Connections as connections_contracts;
+
+    ghost Value = { World };
+
+    ghost coded = { Prim.hlevel (
+      codes,
+      connections_contracts.the_row.coded,
+      vars_contracts.the_row.coded,
+      sessions_contracts.the_row.coded,
+    ) };
+
+    ghost view = { λ kept. record {
+      rules = kept.rules;
+      connections = kept.connections;
+      requests = kept.requests;
+      vars = kept.vars;
+      refs = kept.refs;
+      payloads = kept.sessions;
+    } };
+
+    ghost invariant = { λ kept. FitRules kept.refs kept.rules };
+}
+
+impl KeptWorld {
+    /// Before the first event.
+    pub(crate) fn new(alloc: Global, rules: Program, refs: Refs) -> KeptWorld
+        requires { FitRules refs rules }
+        ensures { result ≡ first_world rules refs }
+    {
+        KeptWorld {
+            alloc,
+            rules,
+            connections: Connections::new(alloc),
+            requests: 0,
+            vars: Vars::new(alloc),
+            refs,
+            sessions: Sessions::new(alloc),
+        }
+    }
+
+    /// The references.
+    pub(crate) fn refs(&self) -> &Refs
+        ensures { result.now ≡ self.now.refs }
+    {
+        &self.refs
+    }
+
+    /// Gives memory back that no version of a reference needs any more.
+    pub(crate) fn tidy(&mut self)
+        ensures { self.new ≡ self.old }
+    {
+        self.refs.tidy(TIDY);
+    }
+
+    /// Goes on to the world after an event, and gives its answer in the memory of `room`.
+    pub(crate) fn step<M: ReMaker>(
+        &mut self,
+        event: &Event,
+        room: Vec<u8>,
+        maker: &mut M,
+    ) -> Result<Answer, StepFault>
+        requires { room.items ≡ [] }
+        ensures steps { DoesStep self.old self.new event.now result }
+        ensures large { StepCountsLarge result (EventAsksFor self.old event.now)
+            (record { too_large = M.too_large maker.old; large = M.large maker.old })
+            (record { too_large = M.too_large maker.new; large = M.large maker.new }) }
+    {
+        match event {
+            Event::Conn {
+                id,
+                src,
+                src_port,
+                dst,
+                dst_port,
+            } => {
+                let conn = Conn {
+                    id: *id,
+                    src: *src,
+                    src_port: *src_port,
+                    dst: *dst,
+                    dst_port: *dst_port,
+                };
+                self.open(conn, room)
+            }
+            Event::Req { id, bytes } => self.request(*id, bytes.as_slice(), room, maker),
+            Event::Close { id } => self.close(*id, room),
+            Event::Cli { session, text } => self.line(*session, text.as_slice(), room, maker),
+        }
+    }
+
+    /// A connection opens.
+    fn open(&mut self, conn: Conn, room: Vec<u8>) -> Result<Answer, StepFault>
+        requires { room.items ≡ [] }
+        ensures steps { DoesStep self.old self.new
+            (Event.Conn conn.id conn.src conn.src_port conn.dst conn.dst_port) result }
+        ensures kind { ¬ (IsErrOf result StepFault.TooLarge) }
+    {
+        if self.connections.is_open(conn.id) {
+            return Err(StepFault::ConnOpen);
+        }
+        self.connections.open(conn)?;
+        Ok(Answer { bytes: room })
+    }
+
+    /// A connection closes.
+    fn close(&mut self, id: u32, room: Vec<u8>) -> Result<Answer, StepFault>
+        requires { room.items ≡ [] }
+        ensures steps { DoesStep self.old self.new (Event.Close id) result }
+        ensures kind { ¬ (IsErrOf result StepFault.TooLarge) }
+    {
+        if !self.connections.is_open(id) {
+            return Err(StepFault::UnknownConn);
+        }
+        self.connections.close(id);
+        self.vars.end_session(id);
+        Ok(Answer { bytes: room })
+    }
+
+    /// A line of the management socket.
+    fn line<M: ReMaker>(
+        &mut self,
+        session: u32,
+        text: &[u8],
+        mut room: Vec<u8>,
+        maker: &mut M,
+    ) -> Result<Answer, StepFault>
+        requires { room.items ≡ [] }
+        ensures steps { DoesStep self.old self.new (Event.Cli session text.now) result }
+        ensures large { StepCountsLarge result
+            (EventAsksFor self.old (Event.Cli session text.now))
+            (record { too_large = M.too_large maker.old; large = M.large maker.old })
+            (record { too_large = M.too_large maker.new; large = M.large maker.new }) }
+    {
+        let refs = &mut self.refs;
+        let reply = self.sessions.line(session, text, refs, maker)?;
+        append_reply(&mut room, session, &reply)?;
+        Ok(Answer { bytes: room })
+    }
+}
