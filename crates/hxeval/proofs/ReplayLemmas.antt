@@ -1,5 +1,5 @@
 -- Laws of what a record is answered, event by event.
-use Rattle.std.proofs.Common.{◌≡◌, ℕ, ◌+◌, ◌≤◌, Bool, true, false, List, [], ◌++◌, Option, None, Some, Result, Ok, Err, unwrap_or, arith, refl, sym, ◌∙◌, ap, append_assoc, append-nil}
+use Rattle.std.proofs.Common.{◌≡◌, ℕ, ◌+◌, ◌≤◌, Bool, true, false, List, [], ◌++◌, Option, None, Some, Result, Ok, Err, IsSomeAnd, option_map, inl, inr, unwrap_or, arith, refl, sym, ◌∙◌, ap, subst, append_assoc, append-nil}
 use mathlib.Core.Bool.{true≢false}
 use Rattle.std.specs.Io.KnownBytes.{Appends, Consumes, IsAtEnd, Keeps}
 use Rattle.std.proofs.KnownBytes.{Appends-trans, Appends-nil, Consumes-trans, Consumes-nil, Consumes-kept}
@@ -7,32 +7,37 @@ use Rattle.hx_outside.specs.Prefixes.{AppendsPrefix}
 use Rattle.hx_outside.specs.Log.{Log}
 use Rattle.hx_outside.specs.declared.SinkFault.{SinkFault}
 use Rattle.hx_outside.specs.declared.SinkFault.TheVariants as sink
-use Rattle.hx_record.specs.Record.{Items, Unknown, Then, items_from}
+use Rattle.hx_core.specs.Steps.{answer_of, EventAsksFor, IsRefusal, refusal_of, world_after}
+use Rattle.hx_core.specs.World.{first_world, World}
+use Rattle.hx_core.specs.declared.fault.StepFault.{StepFault}
+use Rattle.hx_core.specs.declared.fault.StepFault.TheVariants as step
+use Rattle.hx_outside.specs.Makers.{ExpressionText, LastIsAsked}
+use Rattle.hx_record.specs.Record.{Items, Unknown, Then, items_from, record_items}
 use Rattle.hx_record.specs.State.{State, items_after, decided_items_now, MayFollow}
 use Rattle.hx_record.specs.Reading.{AnswersNext, Decides, Fills}
 use Rattle.hx_record.specs.declared.Event.{Event}
-use Rattle.hx_record.specs.declared.Event.TheVariants.{Conn, Req, Close, Cli}
 use Rattle.hx_record.specs.declared.Next.{Next}
 use Rattle.hx_record.specs.declared.Next.TheVariants as next
 use Rattle.hx_record.specs.declared.Placed.{Placed}
 use Rattle.hx_record.specs.declared.RecordFault.{RecordFault}
 use Rattle.hx_record.specs.declared.RecordFault.TheVariants as reader
-use Rattle.hxeval.specs.Gathering.{Replays, Passes, AnswersEvent, IsFailure}
+use Rattle.hxeval.specs.Gathering.{Replays, Passes, AnswersEvent, GathersAnswer, IsFailure}
 use Rattle.hxeval.specs.Outcome.{Outcome, Completed, RecordRefused, Undecided, after_answers}
-use Rattle.hxeval.specs.Replay.{IsRecord, WritesDecided, record_limit, ends_with, replay_outcome, record_outcome, decided_outcome}
+use Rattle.hxeval.specs.Replay.{IsRecord, ItemsAskFor, ReplayAsksLast, WritesDecided, record_limit, ends_with, event_outcome, refusal_code, replay_outcome, record_outcome, decided_outcome}
 use Rattle.hxeval.specs.Program.{Program}
 use Rattle.hxeval.specs.RunFault.{IsReplayFault, result_end, reader_fault, sink_fault}
-use Rattle.hxeval.specs.Step.{Steps, initial_state, refusal_of, state_after, answer_of}
-use Rattle.hxeval.specs.declared.replay_state.ReplayState.{ReplayState}
-use Rattle.hxeval.specs.declared.replay_state.StepFault.TheVariants as step
 use Rattle.hxeval.specs.declared.run_fault.RunFault.{RunFault}
 use Rattle.hxeval.specs.declared.run_fault.RunFault.TheVariants as run
 use Rattle.hxeval.proofs.OutcomeLemmas.{shorter_prefix}
 
+-- an expression that is asked for at the one items, from the one world on, is asked for at the other ones, from the other
+abbrev pub AskAlike : World → Items → World → Items → Type 0
+AskAlike world items first all = (text : ExpressionText) → ItemsAskFor world items text → ItemsAskFor first all text
+
 -- What was taken and answered so far. Whatever follows the bytes that the reader has, the record's outcome is the
 -- answers that were written, those that are gathered, and then what the items before are answered, and these stand to
--- the items after as `what` says.
-pub record Progress (what : Items → Items → Type 0) (program : Program) (state : ReplayState) (s : State)
+-- the items after as `what` says. An expression that is asked for at the items before is asked for in the record.
+pub record Progress (what : Items → Items → Type 0) (program : Program) (world : World) (s : State)
     (left left' old new : Option (List ℕ)) (gathered : List ℕ) : Type 0 where
   pub took : List ℕ
   pub consumed : Consumes left left' took
@@ -41,8 +46,9 @@ pub record Progress (what : Items → Items → Type 0) (program : Program) (sta
   pub limit : s.limit ≡ record_limit
   pub same : (ends : Bool) (more : List ℕ) → MayFollow s ends more
       → (before : Items) × what before (items_after s ends more)
-      × (replay_outcome program initial_state (items_from ends 0 (took ++ more) record_limit)
-      ≡ after_answers (wrote ++ gathered) (replay_outcome program state before))
+      × (replay_outcome (first_world program.rules program.references) (items_from ends 0 (took ++ more) record_limit)
+      ≡ after_answers (wrote ++ gathered) (replay_outcome world before))
+      × AskAlike world before (first_world program.rules program.references) (items_from ends 0 (took ++ more) record_limit)
 
 -- between two events the items before are those after
 abbrev pub AreSame : Items → Items → Type 0
@@ -53,25 +59,36 @@ abbrev pub Answer : Result Next RecordFault → Items → Items → Type 0
 Answer result before after = AnswersNext before after result
 
 pub progress_start : (program : Program) (left out : Option (List ℕ))
-    → Progress AreSame program initial_state (record { limit = record_limit; at = 0; pending = []; ended = false }) left left out out []
+    → Progress AreSame program (first_world program.rules program.references) (record { limit = record_limit; at = 0; pending = []; ended = false }) left left out out []
 progress_start program left out = record {
   took = [];
   consumed = Consumes-nil left;
   wrote = [];
   appended = Appends-nil out;
   limit = refl;
-  same = λ ends more may. (items_from ends 0 more record_limit, refl, refl);
+  same = λ ends more may. (items_from ends 0 more record_limit, refl, refl, λ text asked. asked);
 }
 
 after_twice : (first second : List ℕ) (outcome : Outcome)
     → after_answers first (after_answers second outcome) ≡ after_answers (first ++ second) outcome
 after_twice first second outcome = ap (λ t. record { answers = t; end = outcome.end }) (sym (append_assoc first second outcome.answers))
 
+-- a fault that `?` hands on: which it was by the result, and the result by which it was
+pub handed_on : (result : Result (Unit {0}) RunFault) (given made wanted : RunFault) → result ≡ Err given → given ≡ made → result ≡ Err wanted → made ≡ wanted
+handed_on result given made wanted returned from is = cc
+
+abbrev failed : RunFault → Result (Unit {0}) RunFault
+failed fault = Err fault
+
+pub handed_back : (result : Result (Unit {0}) RunFault) (given made wanted : RunFault) → result ≡ Err given → given ≡ made
+    → failed made ≡ failed wanted → result ≡ Err wanted
+handed_back result given made wanted returned from is = returned ∙ ap failed from ∙ is
+
 -- a call of the reader that reads nothing
-pub progress_decides : (program : Program) (state : ReplayState) (s s' : State) (left left' old new : Option (List ℕ)) (gathered : List ℕ)
-    (result : Result Next RecordFault) → Progress AreSame program state s left left' old new gathered → Decides s s' result
-    → Progress (Answer result) program state s' left left' old new gathered
-progress_decides program state s s' left left' old new gathered result p d = record {
+pub progress_decides : (program : Program) (world : World) (s s' : State) (left left' old new : Option (List ℕ)) (gathered : List ℕ)
+    (result : Result Next RecordFault) → Progress AreSame program world s left left' old new gathered → Decides s s' result
+    → Progress (Answer result) program world s' left left' old new gathered
+progress_decides program world s s' left left' old new gathered result p d = record {
   took = p.took;
   consumed = p.consumed;
   wrote = p.wrote;
@@ -79,58 +96,63 @@ progress_decides program state s s' left left' old new gathered result p d = rec
   limit = d.limit ∙ p.limit;
   same = λ ends more may.
       let may_before : MayFollow s ends more = λ ended. may (d.ended ∙ ended) in
-      let (before, is, outcome) = p.same ends more may_before in (
+      let (before, is, outcome, asks) = p.same ends more may_before in (
         items_after s ends more,
         d.answers ends more may,
-        outcome ∙ ap (λ i. after_answers (p.wrote ++ gathered) (replay_outcome program state i)) is,
+        outcome ∙ ap (λ i. after_answers (p.wrote ++ gathered) (replay_outcome world i)) is,
+        λ text asked. asks text (subst (λ i. ItemsAskFor world i text) (sym is) asked),
       );
 }
 
 -- all that was gathered is written, and more of the record is read
-pub progress_fills : {log log' : Option Log} → (program : Program) (state : ReplayState) (s s' : State) (left left' left'' old new new' : Option (List ℕ))
-    (gathered : List ℕ) → Progress (Answer (Ok next.Undecided)) program state s left left' old new gathered → s.ended ≡ false
-    → Appends new new' gathered → Fills s s' left' left'' log log' → Progress AreSame program state s' left left'' old new' []
-progress_fills program state s s' left left' left'' old new new' gathered p going appended f = record {
+pub progress_fills : {log log' : Option Log} → (program : Program) (world : World) (s s' : State) (left left' left'' old new new' : Option (List ℕ))
+    (gathered : List ℕ) → Progress (Answer (Ok next.Undecided)) program world s left left' old new gathered → s.ended ≡ false
+    → Appends new new' gathered → Fills s s' left' left'' log log' → Progress AreSame program world s' left left'' old new' []
+progress_fills program world s s' left left' left'' old new new' gathered p going appended f = record {
   took = p.took ++ f.got;
   consumed = Consumes-trans left left' left'' p.took f.got p.consumed f.consumed;
   wrote = p.wrote ++ gathered;
   appended = Appends-trans old new new' p.wrote gathered p.appended appended;
   limit = f.limit ∙ p.limit;
   same = λ ends more may.
-      let (before, is, outcome) = p.same ends (f.got ++ more) (λ ended. absurd (true≢false (sym ended ∙ going))) in (
+      let (before, is, outcome, asks) = p.same ends (f.got ++ more) (λ ended. absurd (true≢false (sym ended ∙ going))) in
+      let same : before ≡ items_after s' ends more = sym is ∙ f.items ends more in (
         items_after s' ends more,
         refl,
         rw (append_assoc p.took f.got more, append-nil (p.wrote ++ gathered))
-            (outcome ∙ ap (λ i. after_answers (p.wrote ++ gathered) (replay_outcome program state i)) (sym is ∙ f.items ends more)),
+            (outcome ∙ ap (λ i. after_answers (p.wrote ++ gathered) (replay_outcome world i)) same),
+        λ text asked. rw (append_assoc p.took f.got more) (asks text (subst (λ i. ItemsAskFor world i text) (sym same) asked)),
       );
 }
 
 -- an event that is answered
-pub progress_answers : (program : Program) (state after : ReplayState) (s : State) (left left' old new new' : Option (List ℕ)) (placed : Placed)
-    (gathered gathered' : List ℕ) → Progress (Answer (Ok (next.Event placed))) program state s left left' old new gathered
-    → AnswersEvent program state after placed new new' gathered gathered' (Ok tt) → Progress AreSame program after s left left' old new' gathered'
+pub progress_answers : (program : Program) (world after : World) (s : State) (left left' old new new' : Option (List ℕ)) (placed : Placed)
+    (gathered gathered' : List ℕ) → Progress (Answer (Ok (next.Event placed))) program world s left left' old new gathered
+    → AnswersEvent world after placed new new' gathered gathered' (Ok tt) → Progress AreSame program after s left left' old new' gathered'
 unfolding replay_outcome
-progress_answers program state after s left left' old new new' placed gathered gathered' p (allowed, goes, passes) = record {
+progress_answers program world after s left left' old new new' placed gathered gathered' p (allowed, goes, passes) = record {
   took = p.took;
   consumed = p.consumed;
   wrote = p.wrote ++ passes.wrote;
   appended = Appends-trans old new new' p.wrote passes.wrote p.appended passes.appended;
   limit = p.limit;
   same = λ ends more may.
-      let (before, stand, outcome) = p.same ends more may in
+      let (before, stand, outcome, asks) = p.same ends more may in
       let rest = items_after s ends more in
-      let here : replay_outcome program state (Then placed rest)
-      ≡ after_answers (answer_of program state placed.event) (replay_outcome program after rest) = rw (allowed, goes) refl in
-      let text : p.wrote ++ gathered ++ answer_of program state placed.event ≡ p.wrote ++ passes.wrote ++ gathered' =
-      append_assoc p.wrote gathered (answer_of program state placed.event)
+      let here : replay_outcome world (Then placed rest)
+      ≡ after_answers (answer_of world placed.event) (replay_outcome after rest) = rw (allowed, goes) refl in
+      let text : p.wrote ++ gathered ++ answer_of world placed.event ≡ p.wrote ++ passes.wrote ++ gathered' =
+      append_assoc p.wrote gathered (answer_of world placed.event)
       ∙ ap (λ t. p.wrote ++ t) (passes.whole ∙ ap (λ t. passes.wrote ++ t) (append-nil gathered'))
       ∙ sym (append_assoc p.wrote passes.wrote gathered') in (
         rest,
         refl,
-        outcome ∙ ap (λ i. after_answers (p.wrote ++ gathered) (replay_outcome program state i)) stand
+        outcome ∙ ap (λ i. after_answers (p.wrote ++ gathered) (replay_outcome world i)) stand
             ∙ ap (λ o. after_answers (p.wrote ++ gathered) o) here
-            ∙ after_twice (p.wrote ++ gathered) (answer_of program state placed.event) (replay_outcome program after rest)
-            ∙ ap (λ t. after_answers t (replay_outcome program after rest)) text,
+            ∙ after_twice (p.wrote ++ gathered) (answer_of world placed.event) (replay_outcome after rest)
+            ∙ ap (λ t. after_answers t (replay_outcome after rest)) text,
+        λ asked_for asked. asks asked_for (subst (λ i. ItemsAskFor world i asked_for) (sym stand)
+            (allowed, inr (subst (λ (later : World). ItemsAskFor later rest asked_for) goes asked))),
       );
 }
 
@@ -148,7 +170,7 @@ may_follow s None at_end ended = (refl, refl)
 may_follow s (Some left') at_end ended = (at_end ended, refl)
 
 -- the whole record, seen from an event of it
-record Seen (what : Items → Items → Type 0) (program : Program) (state : ReplayState) (left old new : Option (List ℕ)) (gathered : List ℕ) : Type 0 where
+record Seen (what : Items → Items → Type 0) (program : Program) (world : World) (left old new : Option (List ℕ)) (gathered : List ℕ) : Type 0 where
   bytes : List ℕ
   of_source : IsRecord left bytes
   wrote : List ℕ
@@ -156,12 +178,13 @@ record Seen (what : Items → Items → Type 0) (program : Program) (state : Rep
   before : Items
   after : Items
   stand : what before after
-  outcome : record_outcome program bytes ≡ after_answers (wrote ++ gathered) (replay_outcome program state before)
+  outcome : record_outcome program bytes ≡ after_answers (wrote ++ gathered) (replay_outcome world before)
+  asks : AskAlike world before (first_world program.rules program.references) (record_items bytes record_limit)
 
-seen : (what : Items → Items → Type 0) (program : Program) (state : ReplayState) (s : State) (left left' old new : Option (List ℕ)) (gathered : List ℕ)
-    → Progress what program state s left left' old new gathered → (s.ended ≡ true → IsAtEnd left') → Seen what program state left old new gathered
-seen what program state s left left' old new gathered p at_end =
-    let (before, stand, outcome) = p.same true (rest_of left') (may_follow s left' at_end) in
+seen : (what : Items → Items → Type 0) (program : Program) (world : World) (s : State) (left left' old new : Option (List ℕ)) (gathered : List ℕ)
+    → Progress what program world s left left' old new gathered → (s.ended ≡ true → IsAtEnd left') → Seen what program world left old new gathered
+seen what program world s left left' old new gathered p at_end =
+    let (before, stand, outcome, asks) = p.same true (rest_of left') (may_follow s left' at_end) in
     record {
       bytes = p.took ++ rest_of left';
       of_source = record_is left left' p.took p.consumed;
@@ -171,17 +194,18 @@ seen what program state s left left' old new gathered p at_end =
       after = items_after s true (rest_of left');
       stand = stand;
       outcome = outcome;
+      asks = asks;
     }
 
 -- the record's end
-pub replays_end : (program : Program) (state : ReplayState) (s : State) (left left' old new : Option (List ℕ)) (gathered : List ℕ)
-    → Progress (Answer (Ok next.End)) program state s left left' old new gathered → (s.ended ≡ true → IsAtEnd left')
+pub replays_end : (program : Program) (world : World) (s : State) (left left' old new : Option (List ℕ)) (gathered : List ℕ)
+    → Progress (Answer (Ok next.End)) program world s left left' old new gathered → (s.ended ≡ true → IsAtEnd left')
     → Replays program left old new gathered (Ok tt)
 unfolding replay_outcome
-replays_end program state s left left' old new gathered p at_end =
-    let v = seen (Answer (Ok next.End)) program state s left left' old new gathered p at_end in
+replays_end program world s left left' old new gathered p at_end =
+    let v = seen (Answer (Ok next.End)) program world s left left' old new gathered p at_end in
     let done : record_outcome program v.bytes ≡ after_answers (v.wrote ++ gathered) (ends_with Completed) =
-    v.outcome ∙ ap (λ i. after_answers (v.wrote ++ gathered) (replay_outcome program state i)) v.stand.0 in
+    v.outcome ∙ ap (λ i. after_answers (v.wrote ++ gathered) (replay_outcome world i)) v.stand.0 in
     record {
       bytes = v.bytes;
       of_source = v.of_source;
@@ -191,28 +215,28 @@ replays_end program state s left left' old new gathered p at_end =
     }
 
 -- where memory runs out, a prefix of the answers is written or gathered
-pub replays_part : (what : Items → Items → Type 0) (program : Program) (state : ReplayState) (s : State) (left left' old new : Option (List ℕ)) (gathered : List ℕ)
-    → Progress what program state s left left' old new gathered → (s.ended ≡ true → IsAtEnd left')
+pub replays_part : (what : Items → Items → Type 0) (program : Program) (world : World) (s : State) (left left' old new : Option (List ℕ)) (gathered : List ℕ)
+    → Progress what program world s left left' old new gathered → (s.ended ≡ true → IsAtEnd left')
     → (fault : RunFault) → result_end (Err fault) ≡ Undecided → Replays program left old new gathered (Err fault)
-replays_part what program state s left left' old new gathered p at_end fault undecided =
-    let v = seen what program state s left left' old new gathered p at_end in
+replays_part what program world s left left' old new gathered p at_end fault undecided =
+    let v = seen what program world s left left' old new gathered p at_end in
     record {
       bytes = v.bytes;
       of_source = v.of_source;
       wrote = v.wrote;
       appended = v.appended;
-      answers = rw undecided ((replay_outcome program state v.before).answers, ap (λ (o : Outcome). o.answers) v.outcome);
+      answers = rw undecided ((replay_outcome world v.before).answers, ap (λ (o : Outcome). o.answers) v.outcome);
     }
 
 -- a fault of the reader, which reads nothing
-pub replays_fault : (program : Program) (state : ReplayState) (s : State) (left left' old new : Option (List ℕ)) (gathered : List ℕ) (fault : RecordFault)
-    → Progress (Answer (Err fault)) program state s left left' old new gathered → (s.ended ≡ true → IsAtEnd left')
+pub replays_fault : (program : Program) (world : World) (s : State) (left left' old new : Option (List ℕ)) (gathered : List ℕ) (fault : RecordFault)
+    → Progress (Answer (Err fault)) program world s left left' old new gathered → (s.ended ≡ true → IsAtEnd left')
     → Replays program left old new gathered (Err (reader_fault fault))
 unfolding replay_outcome
-replays_fault program state s left left' old new gathered (reader.Bad offset code) p at_end =
-    let v = seen (Answer (Err (reader.Bad offset code))) program state s left left' old new gathered p at_end in
+replays_fault program world s left left' old new gathered (reader.Bad offset code) p at_end =
+    let v = seen (Answer (Err (reader.Bad offset code))) program world s left left' old new gathered p at_end in
     let done : record_outcome program v.bytes ≡ after_answers (v.wrote ++ gathered) (ends_with (RecordRefused offset code)) =
-    v.outcome ∙ ap (λ i. after_answers (v.wrote ++ gathered) (replay_outcome program state i)) v.stand.0 in
+    v.outcome ∙ ap (λ i. after_answers (v.wrote ++ gathered) (replay_outcome world i)) v.stand.0 in
     record {
       bytes = v.bytes;
       of_source = v.of_source;
@@ -220,10 +244,10 @@ replays_fault program state s left left' old new gathered (reader.Bad offset cod
       appended = v.appended;
       answers = (ap (λ (o : Outcome). o.end) done, ap (λ (o : Outcome). o.answers) done ∙ append-nil (v.wrote ++ gathered));
     }
-replays_fault program state s left left' old new gathered reader.Failed p at_end =
-    replays_part (Answer (Err reader.Failed)) program state s left left' old new gathered p at_end run.Source refl
-replays_fault program state s left left' old new gathered reader.NoMemory p at_end =
-    replays_part (Answer (Err reader.NoMemory)) program state s left left' old new gathered p at_end run.NoMemory refl
+replays_fault program world s left left' old new gathered reader.Failed p at_end =
+    replays_part (Answer (Err reader.Failed)) program world s left left' old new gathered p at_end run.Source refl
+replays_fault program world s left left' old new gathered reader.NoMemory p at_end =
+    replays_part (Answer (Err reader.NoMemory)) program world s left left' old new gathered p at_end run.NoMemory refl
 
 -- such a fault is none of the source
 pub no_source : (before after : State) (fault : RecordFault) → Decides before after (Err fault) → reader_fault fault ≡ run.Source → ⊥
@@ -263,33 +287,52 @@ pub sink_kind : (fault : SinkFault) → IsReplayFault (sink_fault fault)
 sink_kind sink.Failed = tt
 sink_kind sink.NoMemory = tt
 
+-- an event of which the engine gives no answer
+pub no_answer : (world after : World) (event : Event) (old new : List ℕ) (fault : StepFault) → (IsRefusal fault → refusal_of world event ≡ Some fault)
+    → (¬ (IsRefusal fault) → refusal_of world event ≡ None) → new ≡ old → GathersAnswer world after event old new (Err fault)
+no_answer world after event old new step.UnknownConn refused allowed same = (refused tt, same)
+no_answer world after event old new step.ConnOpen refused allowed same = (refused tt, same)
+no_answer world after event old new step.TooLarge refused allowed same = (allowed (λ is. is), same)
+no_answer world after event old new step.NoMemory refused allowed same = (allowed (λ is. is), same)
+
+-- the last text that was too large is one that was asked for
+pub asked_last : (Asked : ExpressionText → Type 0) (count : ℕ) (large : Option ExpressionText)
+    → LastIsAsked Asked (record { too_large = count; large = large }) → IsSomeAnd large Asked
+asked_last Asked count large last = subst (λ found. IsSomeAnd found Asked) (sym last.is) last.asked
+
 -- an event that is answered, and the sink fails
-pub event_lost : (program : Program) (state after : ReplayState) (placed : Placed) (old new : Option (List ℕ)) (gathered mid gathered' : List ℕ)
-    (fault : SinkFault) → Steps program state after placed.event gathered mid (Ok tt) → AppendsPrefix old new mid → gathered' ≡ []
-    → AnswersEvent program state after placed old new gathered gathered' (Err (sink_fault fault))
-event_lost program state after placed old new gathered mid gathered' sink.Failed (allowed, goes, is) part empty =
+pub event_lost : (world after : World) (placed : Placed) (old new : Option (List ℕ)) (gathered mid gathered' : List ℕ)
+    (fault : SinkFault) → GathersAnswer world after placed.event gathered mid (Ok tt) → AppendsPrefix old new mid → gathered' ≡ []
+    → AnswersEvent world after placed old new gathered gathered' (Err (sink_fault fault))
+event_lost world after placed old new gathered mid gathered' sink.Failed (allowed, goes, is) part empty =
     (allowed, (part.rest, record { wrote = part.prefix; appended = part.appended; whole = rw empty (sym is ∙ part.whole) }))
-event_lost program state after placed old new gathered mid gathered' sink.NoMemory (allowed, goes, is) part empty =
+event_lost world after placed old new gathered mid gathered' sink.NoMemory (allowed, goes, is) part empty =
     (allowed, (part.rest, record { wrote = part.prefix; appended = part.appended; whole = rw empty (sym is ∙ part.whole) }))
 
--- an event for whose answer memory runs out
-pub event_unanswered : (program : Program) (state after : ReplayState) (placed : Placed) (old : Option (List ℕ)) (gathered gathered' : List ℕ)
-    → Steps program state after placed.event gathered gathered' (Err step.NoMemory)
-    → AnswersEvent program state after placed old old gathered gathered' (Err run.NoMemory)
-event_unanswered program state after placed old gathered gathered' (allowed, stays, is) = (
+-- an event for whose answer memory runs out, or an expression is too large
+pub event_unanswered : (world after : World) (placed : Placed) (old : Option (List ℕ)) (gathered gathered' : List ℕ)
+    → GathersAnswer world after placed.event gathered gathered' (Err step.NoMemory)
+    → AnswersEvent world after placed old old gathered gathered' (Err run.NoMemory)
+event_unanswered world after placed old gathered gathered' (allowed, is) = (
   allowed,
   (
-    answer_of program state placed.event,
-    record { wrote = []; appended = Appends-nil old; whole = ap (λ t. t ++ answer_of program state placed.event) (sym is) },
+    answer_of world placed.event,
+    record { wrote = []; appended = Appends-nil old; whole = ap (λ t. t ++ answer_of world placed.event) (sym is) },
   ),
 )
 
+pub event_too_large : (world after : World) (placed : Placed) (old : Option (List ℕ)) (gathered gathered' : List ℕ)
+    → GathersAnswer world after placed.event gathered gathered' (Err step.TooLarge)
+    → AnswersEvent world after placed old old gathered gathered' (Err run.TooLarge)
+event_too_large world after placed old gathered gathered' steps =
+    event_unanswered world after placed old gathered gathered' steps
+
 -- of what was gathered a prefix was written, and the rest is lost
-pub replays_lost : (program : Program) (state : ReplayState) (s : State) (left left' old new new' : Option (List ℕ)) (gathered : List ℕ)
-    (result : Result Next RecordFault) → Progress (Answer result) program state s left left' old new gathered → (s.ended ≡ true → IsAtEnd left')
+pub replays_lost : (program : Program) (world : World) (s : State) (left left' old new new' : Option (List ℕ)) (gathered : List ℕ)
+    (result : Result Next RecordFault) → Progress (Answer result) program world s left left' old new gathered → (s.ended ≡ true → IsAtEnd left')
     → AppendsPrefix new new' gathered → (fault : RunFault) → IsFailure fault → Replays program left old new' [] (Err fault)
-replays_lost program state s left left' old new new' gathered result p at_end part fault failure =
-    let v = seen (Answer result) program state s left left' old new gathered p at_end in
+replays_lost program world s left left' old new new' gathered result p at_end part fault failure =
+    let v = seen (Answer result) program world s left left' old new gathered p at_end in
     let whole : v.wrote ++ gathered ≡ (v.wrote ++ part.prefix ++ []) ++ part.rest =
     ap (λ t. v.wrote ++ t) part.whole ∙ sym (append_assoc v.wrote part.prefix part.rest)
     ∙ ap (λ t. t ++ part.rest) (sym (append-nil (v.wrote ++ part.prefix))) in
@@ -299,20 +342,20 @@ replays_lost program state s left left' old new new' gathered result p at_end pa
       wrote = v.wrote ++ part.prefix;
       appended = Appends-trans old new new' v.wrote part.prefix v.appended part.appended;
       answers = rw (failure_end fault failure) (shorter_prefix Undecided (record_outcome program v.bytes) (v.wrote ++ gathered)
-          (v.wrote ++ part.prefix ++ []) part.rest ((replay_outcome program state v.before).answers, ap (λ (o : Outcome). o.answers) v.outcome) whole);
+          (v.wrote ++ part.prefix ++ []) part.rest ((replay_outcome world v.before).answers, ap (λ (o : Outcome). o.answers) v.outcome) whole);
     }
 
 -- the source failed where the bytes that the reader has decide nothing more
-pub writes_decided : (program : Program) (state : ReplayState) (s : State) (left left' left'' old new new' : Option (List ℕ)) (gathered : List ℕ)
-    → Progress (Answer (Ok next.Undecided)) program state s left left' old new gathered → s.ended ≡ false → decided_items_now s ≡ Unknown
+pub writes_decided : (program : Program) (world : World) (s : State) (left left' left'' old new new' : Option (List ℕ)) (gathered : List ℕ)
+    → Progress (Answer (Ok next.Undecided)) program world s left left' old new gathered → s.ended ≡ false → decided_items_now s ≡ Unknown
     → Keeps left' left'' → Appends new new' gathered → WritesDecided program left left'' old new'
 unfolding replay_outcome
-writes_decided program state s left left' left'' old new new' gathered p going undecided kept appended =
-    let (before, stand, outcome) = p.same false [] (λ ended. absurd (true≢false (sym ended ∙ going))) in
+writes_decided program world s left left' left'' old new new' gathered p going undecided kept appended =
+    let (before, stand, outcome, _) = p.same false [] (λ ended. absurd (true≢false (sym ended ∙ going))) in
     let unknown : items_after s false [] ≡ Unknown = ap (λ ends. items_after s ends []) (sym going) ∙ undecided in
     let here : decided_outcome program p.took ≡ after_answers (p.wrote ++ gathered) (ends_with Undecided) =
-    ap (λ t. replay_outcome program initial_state (items_from false 0 t record_limit)) (sym (append-nil p.took)) ∙ outcome
-    ∙ ap (λ i. after_answers (p.wrote ++ gathered) (replay_outcome program state i)) (sym stand ∙ unknown) in
+    ap (λ t. replay_outcome (first_world program.rules program.references) (items_from false 0 t record_limit)) (sym (append-nil p.took)) ∙ outcome
+    ∙ ap (λ i. after_answers (p.wrote ++ gathered) (replay_outcome world i)) (sym stand ∙ unknown) in
     record {
       took = p.took;
       consumed = Consumes-kept left left' left'' p.took p.consumed kept;
@@ -322,18 +365,18 @@ writes_decided program state s left left' left'' old new new' gathered p going u
     }
 
 -- an event of whose answer, with those gathered before, a part is lost
-event_part : (program : Program) (state after : ReplayState) (s : State) (left left' old new new' : Option (List ℕ)) (placed : Placed)
-    (gathered gathered' : List ℕ) (fault : RunFault) → Progress (Answer (Ok (next.Event placed))) program state s left left' old new gathered
-    → (s.ended ≡ true → IsAtEnd left') → result_end (Err fault) ≡ Undecided → refusal_of state placed.event ≡ None → (rest : List ℕ)
-    → Passes new new' (gathered ++ answer_of program state placed.event) gathered' rest → Replays program left old new' gathered' (Err fault)
+event_part : (program : Program) (world after : World) (s : State) (left left' old new new' : Option (List ℕ)) (placed : Placed)
+    (gathered gathered' : List ℕ) (fault : RunFault) → Progress (Answer (Ok (next.Event placed))) program world s left left' old new gathered
+    → (s.ended ≡ true → IsAtEnd left') → result_end (Err fault) ≡ Undecided → refusal_of world placed.event ≡ None → (rest : List ℕ)
+    → Passes new new' (gathered ++ answer_of world placed.event) gathered' rest → Replays program left old new' gathered' (Err fault)
 unfolding replay_outcome
-event_part program state after s left left' old new new' placed gathered gathered' fault p at_end undecided allowed rest passes =
-    let v = seen (Answer (Ok (next.Event placed))) program state s left left' old new gathered p at_end in
-    let answer = answer_of program state placed.event in
-    let following = replay_outcome program (state_after state placed.event) v.after in
-    let here : replay_outcome program state (Then placed v.after) ≡ after_answers answer following = rw allowed refl in
+event_part program world after s left left' old new new' placed gathered gathered' fault p at_end undecided allowed rest passes =
+    let v = seen (Answer (Ok (next.Event placed))) program world s left left' old new gathered p at_end in
+    let answer = answer_of world placed.event in
+    let following = replay_outcome (world_after world placed.event) v.after in
+    let here : replay_outcome world (Then placed v.after) ≡ after_answers answer following = rw allowed refl in
     let outcome : record_outcome program v.bytes ≡ after_answers (v.wrote ++ gathered ++ answer) following =
-    v.outcome ∙ ap (λ i. after_answers (v.wrote ++ gathered) (replay_outcome program state i)) v.stand
+    v.outcome ∙ ap (λ i. after_answers (v.wrote ++ gathered) (replay_outcome world i)) v.stand
     ∙ ap (λ o. after_answers (v.wrote ++ gathered) o) here ∙ after_twice (v.wrote ++ gathered) answer following in
     let whole : v.wrote ++ gathered ++ answer ≡ (v.wrote ++ passes.wrote ++ gathered') ++ rest =
     append_assoc v.wrote gathered answer ∙ ap (λ t. v.wrote ++ t) passes.whole
@@ -347,19 +390,27 @@ event_part program state after s left left' old new new' placed gathered gathere
           (v.wrote ++ passes.wrote ++ gathered') rest (following.answers, ap (λ (o : Outcome). o.answers) outcome) whole);
     }
 
+-- the outcome of an event that is refused with a code
+refused_by : (refusal : Option StepFault) (offset code : ℕ) (answer : List ℕ) (following : Outcome) → option_map refusal_code refusal ≡ Some code
+    → event_outcome refusal offset answer following ≡ ends_with (RecordRefused offset code)
+refused_by None offset code answer following is = cc
+refused_by (Some refusal) offset code answer following is =
+    let same : refusal_code refusal ≡ code = cc in ap (λ c. ends_with (RecordRefused offset c)) same
+
 -- an event that ends the replay
-pub replays_event : (program : Program) (state after : ReplayState) (s : State) (left left' old new new' : Option (List ℕ)) (placed : Placed)
-    (gathered gathered' : List ℕ) (fault : RunFault) → Progress (Answer (Ok (next.Event placed))) program state s left left' old new gathered
+pub replays_event : (program : Program) (world after : World) (s : State) (left left' old new new' : Option (List ℕ)) (placed : Placed)
+    (gathered gathered' : List ℕ) (fault : RunFault) → Progress (Answer (Ok (next.Event placed))) program world s left left' old new gathered
     → (s.ended ≡ true → IsAtEnd left') → IsReplayFault fault
-    → AnswersEvent program state after placed new new' gathered gathered' (Err fault) → Replays program left old new' gathered' (Err fault)
+    → AnswersEvent world after placed new new' gathered gathered' (Err fault) → Replays program left old new' gathered' (Err fault)
 unfolding replay_outcome
-replays_event program state after s left left' old new new' placed gathered gathered' (run.ConfigRefused line code) p at_end kind event = absurd kind
-replays_event program state after s left left' old new new' placed gathered gathered' run.Files p at_end kind event = absurd kind
-replays_event program state after s left left' old new new' placed gathered gathered' run.TooLarge p at_end kind event = absurd kind
-replays_event program state after s left left' old new new' placed gathered gathered' (run.RecordRefused offset code) p at_end kind (refused, here, nothing, stays) =
-    let v = seen (Answer (Ok (next.Event placed))) program state s left left' old new gathered p at_end in
+replays_event program world after s left left' old new new' placed gathered gathered' (run.ConfigRefused line code) p at_end kind event = absurd kind
+replays_event program world after s left left' old new new' placed gathered gathered' run.Files p at_end kind event = absurd kind
+replays_event program world after s left left' old new new' placed gathered gathered' (run.RecordRefused offset code) p at_end kind (refused, here, nothing, stays) =
+    let v = seen (Answer (Ok (next.Event placed))) program world s left left' old new gathered p at_end in
     let done : record_outcome program v.bytes ≡ after_answers (v.wrote ++ gathered) (ends_with (RecordRefused placed.offset code)) =
-    v.outcome ∙ ap (λ i. after_answers (v.wrote ++ gathered) (replay_outcome program state i)) v.stand ∙ rw refused refl in
+    v.outcome ∙ ap (λ i. after_answers (v.wrote ++ gathered) (replay_outcome world i)) v.stand
+    ∙ ap (λ o. after_answers (v.wrote ++ gathered) o) (refused_by (refusal_of world placed.event) placed.offset code (answer_of world placed.event)
+    (replay_outcome (world_after world placed.event) v.after) refused) in
     record {
       bytes = v.bytes;
       of_source = v.of_source;
@@ -370,19 +421,56 @@ replays_event program state after s left left' old new new' placed gathered gath
         ap (λ (o : Outcome). o.answers) done ∙ append-nil (v.wrote ++ gathered) ∙ ap (λ t. v.wrote ++ t) (sym stays),
       );
     }
-replays_event program state after s left left' old new new' placed gathered gathered' run.Source p at_end kind event =
-    event_part program state after s left left' old new new' placed gathered gathered' run.Source p at_end refl event.0 event.1.0 event.1.1
-replays_event program state after s left left' old new new' placed gathered gathered' run.Sink p at_end kind event =
-    event_part program state after s left left' old new new' placed gathered gathered' run.Sink p at_end refl event.0 event.1.0 event.1.1
-replays_event program state after s left left' old new new' placed gathered gathered' run.NoMemory p at_end kind event =
-    event_part program state after s left left' old new new' placed gathered gathered' run.NoMemory p at_end refl event.0 event.1.0 event.1.1
+replays_event program world after s left left' old new new' placed gathered gathered' run.Source p at_end kind event =
+    event_part program world after s left left' old new new' placed gathered gathered' run.Source p at_end refl event.0 event.1.0 event.1.1
+replays_event program world after s left left' old new new' placed gathered gathered' run.Sink p at_end kind event =
+    event_part program world after s left left' old new new' placed gathered gathered' run.Sink p at_end refl event.0 event.1.0 event.1.1
+replays_event program world after s left left' old new new' placed gathered gathered' run.NoMemory p at_end kind event =
+    event_part program world after s left left' old new new' placed gathered gathered' run.NoMemory p at_end refl event.0 event.1.0 event.1.1
+replays_event program world after s left left' old new new' placed gathered gathered' run.TooLarge p at_end kind event =
+    event_part program world after s left left' old new new' placed gathered gathered' run.TooLarge p at_end refl event.0 event.1.0 event.1.1
 
--- an event comes after fewer requests than the record has bytes before it
-pub requests_after : (state : ReplayState) (event : Event) → (state_after state event).requests ≤ state.requests + 1
-requests_after state (Conn id src src_port dst dst_port) = omega arith
-requests_after state (Req id bytes) = omega arith
-requests_after state (Close id) = omega arith
-requests_after state (Cli session text) = omega arith
+-- an event at which the text that was too large is asked for
+asked_there : (world : World) (placed : Placed) (rest : Items) (first : World) (all : Items)
+    (large : Option ExpressionText) → refusal_of world placed.event ≡ None → AskAlike world (Then placed rest) first all
+    → IsSomeAnd large (EventAsksFor world placed.event) → IsSomeAnd large (ItemsAskFor first all)
+asked_there world placed rest first all None allowed asks there = absurd there
+asked_there world placed rest first all (Some text) allowed asks there = asks text (allowed, inl there)
+
+pub replays_asks : (program : Program) (world after : World) (s : State) (left left' old new new' : Option (List ℕ)) (placed : Placed)
+    (gathered gathered' : List ℕ) (fault : RunFault) (large : Option ExpressionText)
+    → Progress (Answer (Ok (next.Event placed))) program world s left left' old new gathered → (s.ended ≡ true → IsAtEnd left')
+    → fault ≡ run.TooLarge → AnswersEvent world after placed new new' gathered gathered' (Err fault)
+    → IsSomeAnd large (EventAsksFor world placed.event) → ReplayAsksLast program left large
+replays_asks program world after s left left' old new new' placed gathered gathered' fault large p at_end is event there =
+    let v = seen (Answer (Ok (next.Event placed))) program world s left left' old new gathered p at_end in
+    let first = first_world program.rules program.references in
+    let all = record_items v.bytes record_limit in
+    let here : AnswersEvent world after placed new new' gathered gathered' (Err run.TooLarge) =
+    subst (λ (f : RunFault). AnswersEvent world after placed new new' gathered gathered' (Err f)) is event in
+    record {
+      bytes = v.bytes;
+      of_source = v.of_source;
+      asks = asked_there world placed v.after first all large here.0
+          (subst (λ (i : Items). AskAlike world i first all) v.stand v.asks) there;
+    }
+
+-- what is too large comes from no other part
+pub failure_not_large : (fault : RunFault) → IsFailure fault → fault ≡ run.TooLarge → ⊥
+failure_not_large fault failure is = subst IsFailure is failure
+
+pub reader_not_large : (fault : RecordFault) → reader_fault fault ≡ run.TooLarge → ⊥
+reader_not_large (reader.Bad offset code) is = cc
+reader_not_large reader.Failed is = cc
+reader_not_large reader.NoMemory is = cc
+
+pub sink_not_large : (fault : SinkFault) → sink_fault fault ≡ run.TooLarge → ⊥
+sink_not_large fault is = failure_not_large (sink_fault fault) (sink_failure fault) is
+
+-- a fault of the sink is its failure, or that memory ran out
+pub sink_kinds : (fault : SinkFault) → ¬ (sink_fault fault ≡ run.Sink) → ¬ (sink_fault fault ≡ run.NoMemory) → ⊥
+sink_kinds sink.Failed no_sink no_memory = no_sink refl
+sink_kinds sink.NoMemory no_sink no_memory = no_memory refl
 
 -- the answers that were gathered are written at the end
 pub replays_written : (program : Program) (left old new new' : Option (List ℕ)) (gathered : List ℕ) (result : Result (Unit {0}) RunFault)

@@ -1,27 +1,49 @@
 -- Laws of a run: what it has written at each of its ends.
-use Rattle.std.proofs.Common.{◌≡◌, ℕ, List, [], Option, None, Some, Result, Ok, Err, IfSome, unwrap_or, IsSomeAnd, ◌⊎◌, inl, inr, refl, ◌∙◌, sym, subst, append-nil}
+use Rattle.std.proofs.Common.{◌≡◌, ℕ, suc, List, [], ◌∷◌, Option, None, Some, Result, Ok, Err, IfErr, IfSome, map, length, unwrap_or, IsSomeAnd, ◌⊎◌, inl, inr, refl, ◌∙◌, sym, ap, subst, append-nil}
 use Rattle.std.specs.Io.KnownBytes.{Appends}
 use Rattle.std.proofs.KnownBytes.{Appends-nil, Appends-trans}
 use Rattle.hx_base.specs.Pairs.{NamedBytes, value_at}
+use Rattle.hx_core.specs.World.{FitRules}
 use Rattle.hx_outside.specs.Makers.{ExpressionText}
+use Rattle.hx_outside.specs.Prefixes.{AppendsPrefix}
 use Rattle.hx_outside.specs.declared.FileFault.{FileFault}
 use Rattle.hx_outside.specs.declared.FileFault.TheVariants as file
-use Rattle.hx_words.specs.Variable.{Env}
+use Rattle.hx_outside.specs.declared.SinkFault.{SinkFault}
+use Rattle.hx_outside.specs.declared.SinkFault.TheVariants as sink
+use Rattle.hx_refs.specs.References.{References, version_entries}
+use Rattle.hx_refs.specs.declared.Limits.{Limits}
+use Rattle.hx_rules.specs.Programs.{Rules}
+use Rattle.hx_rules.specs.Tables.{HasHeads, HasLists}
 use Rattle.hxeval.specs.Gathering.{Replays}
 use Rattle.hxeval.specs.Outcome.{ConfigRefused, Undecided}
-use Rattle.hxeval.specs.Replay.{IsRecord, WritesDecided, ends_with, record_outcome, decided_outcome}
-use Rattle.hxeval.specs.LoadResult.{LoadJudgesLast, LoadReadsLast, LoadsHeld}
-use Rattle.hxeval.specs.Loads.{Loading, Loads, ReadsFile, loaded}
-use Rattle.hxeval.specs.Loads as loading
+use Rattle.hxeval.specs.Replay.{IsRecord, ReplayAsksLast, WritesDecided, ends_with, record_outcome, decided_outcome}
+use Rattle.hx_load.specs.LoadResult.{LoadJudgesLast, LoadReadsLast, LoadsHeld}
+use Rattle.hx_load.specs.Loads.{Loading, Loads, ReadsFile, loaded}
+use Rattle.hx_load.specs.Loads as loading
 use Rattle.hxeval.specs.Program.{Program}
-use Rattle.hxeval.specs.References.{HasFiles}
-use Rattle.hxeval.specs.Run.{Setting, HasConfig, RunJudgesLast, RunReads, SourceFails, outcome_of}
-use Rattle.hxeval.specs.RunFault.{Attempted, IsReplayFault, result_end, fault_of_file, load_fault}
-use Rattle.hxeval.specs.declared.load_fault.LoadFault.{LoadFault}
-use Rattle.hxeval.specs.declared.load_fault.LoadFault.TheVariants as load
+use Rattle.hx_load.specs.References.{HasFiles}
+use Rattle.hxeval.specs.Run.{Setting, Accepts, HasConfig, RunAsksLast, RunJudgesLast, RunReads, SourceFails, accepted_outcome, check_line, outcome_of, usual_limits}
+use Rattle.hxeval.specs.RunFault.{Attempted, IsReplayFault, result_end, fault_of_file, load_fault, sink_fault}
+use Rattle.hxeval.specs.declared.command.Task.{Task}
+use Rattle.hxeval.specs.declared.command.Task.TheVariants as task
+use Rattle.hx_load.specs.declared.load_fault.LoadFault.{LoadFault}
+use Rattle.hx_load.specs.declared.load_fault.LoadFault.TheVariants as load
 use Rattle.hxeval.specs.declared.run_fault.RunFault.{RunFault}
 use Rattle.hxeval.specs.declared.run_fault.RunFault.TheVariants as run
-use Rattle.hxeval.proofs.LoadedLemmas.{files_in, files_in_are, loads}
+use Rattle.hx_load.proofs.LoadedLemmas.{loads}
+
+-- the files, as far as it is known what they hold
+abbrev files_in : Option NamedBytes → NamedBytes
+files_in None = []
+files_in (Some files) = files
+
+files_in_are : (held : Option NamedBytes) → HasFiles held (files_in held)
+files_in_are None = tt
+files_in_are (Some files) = refl
+
+-- a configuration as it was loaded
+abbrev pub program_of : Rules → References → Program
+program_of rules refs = record { rules = rules; references = refs }
 
 -- the configuration and the record, as far as files and source are known
 abbrev config_in : Option NamedBytes → List ℕ → Option (List ℕ)
@@ -36,7 +58,7 @@ record_in_is : (left : Option (List ℕ)) → IsRecord left (unwrap_or left [])
 record_in_is None = tt
 record_in_is (Some left) = refl
 
-pub is_config : (held : Option NamedBytes) (name items : List ℕ) → IfSome held (λ files. value_at files name ≡ Some items)
+is_config : (held : Option NamedBytes) (name items : List ℕ) → IfSome held (λ files. value_at files name ≡ Some items)
     → HasConfig held name (Some items)
 is_config None name items known = tt
 is_config (Some files) name items known = sym known
@@ -44,7 +66,7 @@ is_config (Some files) name items known = sym known
 -- where nothing was written and nothing has to be, any configuration and record will do
 unknown : (s : Setting) (old : Option (List ℕ)) (fault : RunFault) → result_end (Err fault) ≡ Undecided → Attempted s old old (Err fault)
 unknown s old fault undecided =
-    let outcome = outcome_of s.env (files_in s.held) (config_in s.held s.name) (unwrap_or s.left []) in
+    let outcome = outcome_of s.env s.task (files_in s.held) (config_in s.held s.name) (unwrap_or s.left []) in
     record {
       outcome = outcome;
       of_setting = record {
@@ -66,13 +88,28 @@ pub unread : (s : Setting) (old : Option (List ℕ)) (fault : FileFault) → Att
 unread s old file.Failed = unknown s old run.Files refl
 unread s old file.NoMemory = unknown s old run.NoMemory refl
 
--- what is said of files and a text is said of those that are the same
-here : (held now : Option NamedBytes) (items text : List ℕ) (P : Option NamedBytes → List ℕ → Type 0) → now ≡ held → text ≡ items → P now text
-    → P held items
-here held now items text P same is p = subst (λ (t : List ℕ). P held t) is (subst (λ (h : Option NamedBytes). P h text) same p)
+-- The configuration of a setting was read: its bytes, and the files, limits and text that `load` is given.
+pub record ReadsConfig (s : Setting) (now : Option NamedBytes) (limits : Limits) (items text : List ℕ) : Type 0 where
+  pub config : HasConfig s.held s.name (Some items)
+  pub files : now ≡ s.held
+  pub usual : limits ≡ usual_limits
+  pub bytes : text ≡ items
+
+pub reads_config : (s : Setting) (now : Option NamedBytes) (limits : Limits) (items text : List ℕ)
+    → IfSome s.held (λ files. value_at files s.name ≡ Some items) → now ≡ s.held → limits ≡ usual_limits → text ≡ items
+    → ReadsConfig s now limits items text
+reads_config s now limits items text known files usual bytes =
+    record { config = is_config s.held s.name items known; files = files; usual = usual; bytes = bytes }
+
+-- what is said of these is said of those of the setting
+here : (s : Setting) (now : Option NamedBytes) (limits : Limits) (items text : List ℕ) → ReadsConfig s now limits items text
+    → (P : Option NamedBytes → Limits → List ℕ → Type 0) → P now limits text → P s.held usual_limits items
+here s now limits items text r P p =
+    subst (λ (t : List ℕ). P s.held usual_limits t) r.bytes
+    (subst (λ (l : Limits). P s.held l text) r.usual (subst (λ (h : Option NamedBytes). P h limits text) r.files p))
 
 unloaded_here : (s : Setting) (items : List ℕ) (old : Option (List ℕ)) (fault : LoadFault) → HasConfig s.held s.name (Some items)
-    → LoadsHeld s.held s.env items (Err fault) → Attempted s old old (Err (load_fault fault))
+    → LoadsHeld s.held s.env usual_limits items (Err fault) → Attempted s old old (Err (load_fault fault))
 unfolding outcome_of
 unloaded_here s items old (load.Refused line code) config l = record {
   outcome = ends_with (ConfigRefused line code);
@@ -83,7 +120,7 @@ unloaded_here s items old (load.Refused line code) config l = record {
     of_config = config;
     of_files = l.of_files;
     of_source = record_in_is s.left;
-    is = let is : loaded s.env l.files items ≡ loading.Refused (record { line = line; code = code }) = l.is in rw is refl;
+    is = let is : loaded s.env usual_limits l.files items ≡ loading.Refused (record { line = line; code = code }) = l.is in rw is refl;
   };
   wrote = [];
   appended = Appends-nil old;
@@ -94,17 +131,37 @@ unloaded_here s items old load.TooLarge config l = unknown s old run.TooLarge re
 unloaded_here s items old load.NoMemory config l = unknown s old run.NoMemory refl
 
 -- the configuration isn't loaded
-pub unloaded : (s : Setting) (now : Option NamedBytes) (items text : List ℕ) (old : Option (List ℕ)) (fault : LoadFault) → HasConfig s.held s.name (Some items)
-    → now ≡ s.held → text ≡ items → LoadsHeld now s.env text (Err fault) → Attempted s old old (Err (load_fault fault))
-unloaded s now items text old fault config same is l =
-    unloaded_here s items old fault config
-    (here s.held now items text (λ (h : Option NamedBytes) (t : List ℕ). LoadsHeld h s.env t (Err fault)) same is l)
+pub unloaded : (s : Setting) (now : Option NamedBytes) (limits : Limits) (items text : List ℕ) (old : Option (List ℕ)) (fault : LoadFault)
+    → ReadsConfig s now limits items text → LoadsHeld now s.env limits text (Err fault) → Attempted s old old (Err (load_fault fault))
+unloaded s now limits items text old fault read l =
+    unloaded_here s items old fault read.config
+    (here s now limits items text read (λ (h : Option NamedBytes) (m : Limits) (t : List ℕ). LoadsHeld h s.env m t (Err fault)) l)
 
-replayed_here : (s : Setting) (items : List ℕ) (program : Program) (old new : Option (List ℕ)) (r : Result (Unit {0}) RunFault)
-    → HasConfig s.held s.name (Some items) → LoadsHeld s.held s.env items (Ok program) → Replays program s.left old new [] r → Attempted s old new r
+-- a configuration that is accepted, with the files under which it is
+loaded_accepts : (s : Setting) (items : List ℕ) (rules : Rules) (refs : References) → HasConfig s.held s.name (Some items)
+    → (l : LoadsHeld s.held s.env usual_limits items (Ok (rules, refs))) → Accepts s l.files (program_of rules refs)
+loaded_accepts s items rules refs config l =
+    let is : loaded s.env usual_limits l.files items ≡ loading.Accepted rules refs = l.is in
+    record {
+      config = items;
+      of_config = config;
+      of_files = l.of_files;
+      loads = subst (λ (said : Loading). Loads s.env usual_limits l.files items said) is (loads s.env usual_limits l.files items);
+    }
+
+-- its outcome
+accepted_is : (s : Setting) (items : List ℕ) (rules : Rules) (refs : References) (bytes : List ℕ) (asked : Task) → s.task ≡ asked
+    → (l : LoadsHeld s.held s.env usual_limits items (Ok (rules, refs)))
+    → accepted_outcome asked (program_of rules refs) bytes ≡ outcome_of s.env s.task l.files (Some items) bytes
 unfolding outcome_of
-replayed_here s items program old new r config l replays = record {
-  outcome = record_outcome program replays.bytes;
+accepted_is s items rules refs bytes asked same l =
+    let is : loaded s.env usual_limits l.files items ≡ loading.Accepted rules refs = l.is in rw (is, same) refl
+
+replayed_here : (s : Setting) (items : List ℕ) (rules : Rules) (refs : References) (old new : Option (List ℕ)) (r : Result (Unit {0}) RunFault)
+    → s.task ≡ task.Replay → HasConfig s.held s.name (Some items) → LoadsHeld s.held s.env usual_limits items (Ok (rules, refs))
+    → Replays (program_of rules refs) s.left old new [] r → Attempted s old new r
+replayed_here s items rules refs old new r asked config l replays = record {
+  outcome = record_outcome (program_of rules refs) replays.bytes;
   of_setting = record {
     config = Some items;
     files = l.files;
@@ -112,7 +169,7 @@ replayed_here s items program old new r config l replays = record {
     of_config = config;
     of_files = l.of_files;
     of_source = replays.of_source;
-    is = let is : loaded s.env l.files items ≡ loading.Accepted program = l.is in rw is refl;
+    is = accepted_is s items rules refs replays.bytes task.Replay asked l;
   };
   wrote = replays.wrote;
   appended = replays.appended;
@@ -120,38 +177,126 @@ replayed_here s items program old new r config l replays = record {
 }
 
 -- a record that was replayed
-pub replayed_run : (s : Setting) (now : Option NamedBytes) (items text : List ℕ) (program : Program) (old new : Option (List ℕ)) (r : Result (Unit {0}) RunFault)
-    → HasConfig s.held s.name (Some items) → now ≡ s.held → text ≡ items → LoadsHeld now s.env text (Ok program)
-    → Replays program s.left old new [] r → Attempted s old new r
-replayed_run s now items text program old new r config same is l replays =
-    replayed_here s items program old new r config
-    (here s.held now items text (λ (h : Option NamedBytes) (t : List ℕ). LoadsHeld h s.env t (Ok program)) same is l) replays
+pub replayed_run : (s : Setting) (now : Option NamedBytes) (limits : Limits) (items text : List ℕ) (rules : Rules) (refs : References) (old new : Option (List ℕ)) (r : Result (Unit {0}) RunFault)
+    → s.task ≡ task.Replay
+    → ReadsConfig s now limits items text → LoadsHeld now s.env limits text (Ok (rules, refs))
+    → Replays (program_of rules refs) s.left old new [] r → Attempted s old new r
+replayed_run s now limits items text rules refs old new r asked read l replays =
+    replayed_here s items rules refs old new r asked read.config
+    (here s now limits items text read (λ (h : Option NamedBytes) (m : Limits) (t : List ℕ). LoadsHeld h s.env m t (Ok (rules, refs))) l) replays
 
--- a configuration that is accepted, as the relation has it
-pub accepts : (env : Env) (files : NamedBytes) (config : List ℕ) (program : Program) → loaded env files config ≡ loading.Accepted program
-    → Loads env files config (loading.Accepted program)
-accepts env files config program is = subst (λ (l : Loading). Loads env files config l) is (loads env files config)
+checked_here : (s : Setting) (items : List ℕ) (rules : Rules) (refs : References) (old new : Option (List ℕ))
+    → s.task ≡ task.Check → HasConfig s.held s.name (Some items) → LoadsHeld s.held s.env usual_limits items (Ok (rules, refs))
+    → Appends old new (check_line rules refs) → Attempted s old new (Ok tt)
+checked_here s items rules refs old new asked config l appended = record {
+  outcome = accepted_outcome task.Check (program_of rules refs) (unwrap_or s.left []);
+  of_setting = record {
+    config = Some items;
+    files = l.files;
+    bytes = unwrap_or s.left [];
+    of_config = config;
+    of_files = l.of_files;
+    of_source = record_in_is s.left;
+    is = accepted_is s items rules refs (unwrap_or s.left []) task.Check asked l;
+  };
+  wrote = check_line rules refs;
+  appended = appended;
+  answers = (refl, refl);
+}
 
-source_fails_here : (s : Setting) (items : List ℕ) (program : Program) (left' old new : Option (List ℕ))
-    → HasConfig s.held s.name (Some items) → LoadsHeld s.held s.env items (Ok program) → WritesDecided program s.left left' old new
-    → SourceFails s left' old new
-source_fails_here s items program left' old new config l written = record {
-  config = items;
+-- a configuration that was checked
+pub checked_run : (s : Setting) (now : Option NamedBytes) (limits : Limits) (items text : List ℕ) (rules : Rules) (refs : References) (old new : Option (List ℕ))
+    → s.task ≡ task.Check
+    → ReadsConfig s now limits items text → LoadsHeld now s.env limits text (Ok (rules, refs))
+    → Appends old new (check_line rules refs) → Attempted s old new (Ok tt)
+checked_run s now limits items text rules refs old new asked read l appended =
+    checked_here s items rules refs old new asked read.config
+    (here s now limits items text read (λ (h : Option NamedBytes) (m : Limits) (t : List ℕ). LoadsHeld h s.env m t (Ok (rules, refs))) l) appended
+
+uncheckable : (fault : SinkFault) → result_end (Err (sink_fault fault)) ≡ Undecided
+uncheckable sink.Failed = refl
+uncheckable sink.NoMemory = refl
+
+unchecked_here : (s : Setting) (items : List ℕ) (rules : Rules) (refs : References) (old new : Option (List ℕ)) (fault : SinkFault)
+    → s.task ≡ task.Check → HasConfig s.held s.name (Some items) → LoadsHeld s.held s.env usual_limits items (Ok (rules, refs))
+    → AppendsPrefix old new (check_line rules refs) → Attempted s old new (Err (sink_fault fault))
+unchecked_here s items rules refs old new fault asked config l part = record {
+  outcome = accepted_outcome task.Check (program_of rules refs) (unwrap_or s.left []);
+  of_setting = record {
+    config = Some items;
+    files = l.files;
+    bytes = unwrap_or s.left [];
+    of_config = config;
+    of_files = l.of_files;
+    of_source = record_in_is s.left;
+    is = accepted_is s items rules refs (unwrap_or s.left []) task.Check asked l;
+  };
+  wrote = part.prefix;
+  appended = part.appended;
+  answers = rw (uncheckable fault) (part.rest, part.whole);
+}
+
+-- one that was checked, where its line couldn't be written
+pub unchecked_run : (s : Setting) (now : Option NamedBytes) (limits : Limits) (items text : List ℕ) (rules : Rules) (refs : References) (old new : Option (List ℕ)) (fault : SinkFault)
+    → s.task ≡ task.Check
+    → ReadsConfig s now limits items text → LoadsHeld now s.env limits text (Ok (rules, refs))
+    → AppendsPrefix old new (check_line rules refs) → Attempted s old new (Err (sink_fault fault))
+unchecked_run s now limits items text rules refs old new fault asked read l part =
+    unchecked_here s items rules refs old new fault asked read.config
+    (here s now limits items text read (λ (h : Option NamedBytes) (m : Limits) (t : List ℕ). LoadsHeld h s.env m t (Ok (rules, refs))) l) part
+
+source_fails_here : (s : Setting) (items : List ℕ) (rules : Rules) (refs : References) (left' old new : Option (List ℕ))
+    → s.task ≡ task.Replay → HasConfig s.held s.name (Some items) → LoadsHeld s.held s.env usual_limits items (Ok (rules, refs))
+    → WritesDecided (program_of rules refs) s.left left' old new → SourceFails s left' old new
+source_fails_here s items rules refs left' old new asked config l written = record {
+  task = asked;
   files = l.files;
-  program = program;
-  of_config = config;
-  of_files = l.of_files;
-  accepted = accepts s.env l.files items program l.is;
+  program = program_of rules refs;
+  accepted = loaded_accepts s items rules refs config l;
   written = written;
 }
 
 -- a replay that the source ended
-pub source_fails : (s : Setting) (now : Option NamedBytes) (items text : List ℕ) (program : Program) (left' old new : Option (List ℕ))
-    → HasConfig s.held s.name (Some items) → now ≡ s.held → text ≡ items → LoadsHeld now s.env text (Ok program)
-    → WritesDecided program s.left left' old new → SourceFails s left' old new
-source_fails s now items text program left' old new config same is l written =
-    source_fails_here s items program left' old new config
-    (here s.held now items text (λ (h : Option NamedBytes) (t : List ℕ). LoadsHeld h s.env t (Ok program)) same is l) written
+pub source_fails : (s : Setting) (now : Option NamedBytes) (limits : Limits) (items text : List ℕ) (rules : Rules) (refs : References) (left' old new : Option (List ℕ))
+    → s.task ≡ task.Replay
+    → ReadsConfig s now limits items text → LoadsHeld now s.env limits text (Ok (rules, refs))
+    → WritesDecided (program_of rules refs) s.left left' old new → SourceFails s left' old new
+source_fails s now limits items text rules refs left' old new asked read l written =
+    source_fails_here s items rules refs left' old new asked read.config
+    (here s now limits items text read (λ (h : Option NamedBytes) (m : Limits) (t : List ℕ). LoadsHeld h s.env m t (Ok (rules, refs))) l) written
+
+asks_here : (s : Setting) (items : List ℕ) (rules : Rules) (refs : References) (large : Option ExpressionText)
+    → s.task ≡ task.Replay → HasConfig s.held s.name (Some items) → LoadsHeld s.held s.env usual_limits items (Ok (rules, refs))
+    → ReplayAsksLast (program_of rules refs) s.left large → RunAsksLast s large
+asks_here s items rules refs large asked config l asks = record {
+  task = asked;
+  files = l.files;
+  program = program_of rules refs;
+  accepted = loaded_accepts s items rules refs config l;
+  asks = asks;
+}
+
+-- a text for which an event asks
+pub run_asks : (s : Setting) (now : Option NamedBytes) (limits : Limits) (items text : List ℕ) (rules : Rules) (refs : References) (large : Option ExpressionText)
+    → s.task ≡ task.Replay
+    → ReadsConfig s now limits items text → LoadsHeld now s.env limits text (Ok (rules, refs))
+    → ReplayAsksLast (program_of rules refs) s.left large → RunAsksLast s large
+run_asks s now limits items text rules refs large asked read l asks =
+    asks_here s items rules refs large asked read.config
+    (here s now limits items text read (λ (h : Option NamedBytes) (m : Limits) (t : List ℕ). LoadsHeld h s.env m t (Ok (rules, refs))) l) asks
+
+-- ---- what a replay is given
+
+map_count : {A B : Type 0} (f : A → B) (xs : List A) → length xs ≡ length (map f xs)
+map_count f [] = refl
+map_count f (x ∷ xs) = ap suc (map_count f xs)
+
+-- rules that name heads and lists of the references fit them
+pub fits : (refs : References) (rules : Rules) → HasHeads refs.heads rules → HasLists (length refs.references) rules → FitRules refs rules
+fits refs rules heads lists = record {
+  heads = heads;
+  lists = subst (λ (count : ℕ). HasLists count rules) (map_count (λ reference. version_entries reference None) refs.references) lists;
+}
 
 -- ---- files and texts of a run
 
@@ -161,23 +306,23 @@ config_unread s last is = rw is (inl refl)
 
 -- a file to which the configuration comes is one of the run
 comes_to : (s : Setting) (items : List ℕ) (files : NamedBytes) (last : Option (List ℕ)) → HasConfig s.held s.name (Some items) → HasFiles s.held files
-    → IsSomeAnd last (ReadsFile s.env files items) → IsSomeAnd last (RunReads s)
+    → IsSomeAnd last (ReadsFile s.env usual_limits files items) → IsSomeAnd last (RunReads s)
 comes_to s items files None config of_files reads = absurd reads
 comes_to s items files (Some name) config of_files reads =
     inr (record { config = items; files = files; of_config = config; of_files = of_files; reads = reads })
 
-pub load_reads : (s : Setting) (now : Option NamedBytes) (items text : List ℕ) (last : Option (List ℕ)) → HasConfig s.held s.name (Some items)
-    → now ≡ s.held → text ≡ items → LoadReadsLast now s.env text last → IsSomeAnd last (RunReads s)
-load_reads s now items text last config same is l =
-    let there : LoadReadsLast s.held s.env items last =
-    here s.held now items text (λ (h : Option NamedBytes) (t : List ℕ). LoadReadsLast h s.env t last) same is l in
-    comes_to s items there.files last config there.of_files there.reads
+pub load_reads : (s : Setting) (now : Option NamedBytes) (limits : Limits) (items text : List ℕ) (last : Option (List ℕ))
+    → ReadsConfig s now limits items text → LoadReadsLast now s.env limits text last → IsSomeAnd last (RunReads s)
+load_reads s now limits items text last read l =
+    let there : LoadReadsLast s.held s.env usual_limits items last =
+    here s now limits items text read (λ (h : Option NamedBytes) (m : Limits) (t : List ℕ). LoadReadsLast h s.env m t last) l in
+    comes_to s items there.files last read.config there.of_files there.reads
 
 -- the last name stays, or is that of a file that the run reads: after the configuration was read
-pub load_named : (s : Setting) (now : Option NamedBytes) (items text : List ℕ) (old mid new : Option (List ℕ)) → HasConfig s.held s.name (Some items)
-    → now ≡ s.held → text ≡ items → mid ≡ old → (new ≡ mid) ⊎ LoadReadsLast now s.env text new → (new ≡ old) ⊎ IsSomeAnd new (RunReads s)
-load_named s now items text old mid new config same is kept (inl stays) = inl (stays ∙ kept)
-load_named s now items text old mid new config same is kept (inr l) = inr (load_reads s now items text new config same is l)
+pub load_named : (s : Setting) (now : Option NamedBytes) (limits : Limits) (items text : List ℕ) (old mid new : Option (List ℕ))
+    → ReadsConfig s now limits items text → mid ≡ old → (new ≡ mid) ⊎ LoadReadsLast now s.env limits text new → (new ≡ old) ⊎ IsSomeAnd new (RunReads s)
+load_named s now limits items text old mid new read kept (inl stays) = inl (stays ∙ kept)
+load_named s now limits items text old mid new read kept (inr l) = inr (load_reads s now limits items text new read l)
 
 -- and where it wasn't read
 pub config_named : (s : Setting) (old new : Option (List ℕ)) (fault : FileFault) → (fault ≡ file.Failed → new ≡ Some s.name)
@@ -186,12 +331,12 @@ config_named s old new file.Failed named kept = inr (config_unread s new (named 
 config_named s old new file.NoMemory named kept = inl (kept refl)
 
 -- a text that loading reads is one of the run
-pub load_judges : (s : Setting) (now : Option NamedBytes) (items text : List ℕ) (large : Option ExpressionText) → HasConfig s.held s.name (Some items)
-    → now ≡ s.held → text ≡ items → LoadJudgesLast now s.env text large → RunJudgesLast s large
-load_judges s now items text large config same is l =
-    let there : LoadJudgesLast s.held s.env items large =
-    here s.held now items text (λ (h : Option NamedBytes) (t : List ℕ). LoadJudgesLast h s.env t large) same is l in
-    record { config = items; files = there.files; of_config = config; of_files = there.of_files; judged = there.judged }
+pub load_judges : (s : Setting) (now : Option NamedBytes) (limits : Limits) (items text : List ℕ) (large : Option ExpressionText)
+    → ReadsConfig s now limits items text → LoadJudgesLast now s.env limits text large → RunJudgesLast s large
+load_judges s now limits items text large read l =
+    let there : LoadJudgesLast s.held s.env usual_limits items large =
+    here s now limits items text read (λ (h : Option NamedBytes) (m : Limits) (t : List ℕ). LoadJudgesLast h s.env m t large) l in
+    record { config = items; files = there.files; of_config = read.config; of_files = there.of_files; judged = there.judged }
 
 -- which fault of a part it was
 pub file_failed : (fault : FileFault) → fault_of_file fault ≡ run.Files → fault ≡ file.Failed
@@ -213,11 +358,9 @@ load_large load.NoMemory is = cc
 -- it stays so where nothing more is written
 pub source_moved : (s : Setting) (left' old mid new : Option (List ℕ)) → SourceFails s left' old mid → Appends mid new [] → SourceFails s left' old new
 source_moved s left' old mid new f nothing = record {
-  config = f.config;
+  task = f.task;
   files = f.files;
   program = f.program;
-  of_config = f.of_config;
-  of_files = f.of_files;
   accepted = f.accepted;
   written = record {
     took = f.written.took;
@@ -229,29 +372,36 @@ source_moved s left' old mid new f nothing = record {
 }
 
 -- a replay refuses no configuration, and reads no file
-pub no_config : (fault : RunFault) (line code : ℕ) → IsReplayFault fault → fault ≡ run.ConfigRefused line code → ⊥
-no_config (run.ConfigRefused _ _) line code kind is = kind
-no_config (run.RecordRefused _ _) line code kind is = cc
-no_config run.Files line code kind is = kind
-no_config run.Source line code kind is = cc
-no_config run.Sink line code kind is = cc
-no_config run.TooLarge line code kind is = cc
-no_config run.NoMemory line code kind is = cc
+pub no_config : (r : Result (Unit {0}) RunFault) (line code : ℕ) → IfErr r IsReplayFault → r ≡ Err (run.ConfigRefused line code) → ⊥
+no_config (Ok done) line code kind is = cc
+no_config (Err (run.ConfigRefused _ _)) line code kind is = kind
+no_config (Err (run.RecordRefused _ _)) line code kind is = cc
+no_config (Err run.Files) line code kind is = kind
+no_config (Err run.Source) line code kind is = cc
+no_config (Err run.Sink) line code kind is = cc
+no_config (Err run.TooLarge) line code kind is = cc
+no_config (Err run.NoMemory) line code kind is = cc
 
-pub no_files : (fault : RunFault) → IsReplayFault fault → fault ≡ run.Files → ⊥
-no_files (run.ConfigRefused _ _) kind is = kind
-no_files (run.RecordRefused _ _) kind is = cc
-no_files run.Files kind is = kind
-no_files run.Source kind is = cc
-no_files run.Sink kind is = cc
-no_files run.TooLarge kind is = cc
-no_files run.NoMemory kind is = cc
+pub no_files : (r : Result (Unit {0}) RunFault) → IfErr r IsReplayFault → r ≡ Err run.Files → ⊥
+no_files (Ok done) kind is = cc
+no_files (Err (run.ConfigRefused _ _)) kind is = kind
+no_files (Err (run.RecordRefused _ _)) kind is = cc
+no_files (Err run.Files) kind is = kind
+no_files (Err run.Source) kind is = cc
+no_files (Err run.Sink) kind is = cc
+no_files (Err run.TooLarge) kind is = cc
+no_files (Err run.NoMemory) kind is = cc
 
-pub no_large : (fault : RunFault) → IsReplayFault fault → fault ≡ run.TooLarge → ⊥
-no_large (run.ConfigRefused _ _) kind is = cc
-no_large (run.RecordRefused _ _) kind is = cc
-no_large run.Files kind is = cc
-no_large run.Source kind is = cc
-no_large run.Sink kind is = cc
-no_large run.TooLarge kind is = kind
-no_large run.NoMemory kind is = cc
+-- which fault of the sink it was
+pub check_failed : (fault : SinkFault) → sink_fault fault ≡ run.Sink → fault ≡ sink.Failed
+check_failed sink.Failed is = refl
+check_failed sink.NoMemory is = cc
+
+-- the sink refuses no configuration, reads nothing and makes no expression
+pub no_config_at_sink : (fault : SinkFault) (line code : ℕ) → sink_fault fault ≡ run.ConfigRefused line code → ⊥
+no_config_at_sink sink.Failed line code is = cc
+no_config_at_sink sink.NoMemory line code is = cc
+
+pub only_sink : (fault : SinkFault) → ((sink_fault fault ≡ run.Files) → ⊥) × ((sink_fault fault ≡ run.Source) → ⊥) × ((sink_fault fault ≡ run.TooLarge) → ⊥)
+only_sink sink.Failed = (λ is. cc, λ is. cc, λ is. cc)
+only_sink sink.NoMemory = (λ is. cc, λ is. cc, λ is. cc)

@@ -1,23 +1,27 @@
 -- Laws of the status with which a run ends.
-use Rattle.std.proofs.Common.{◌≡◌, ◌≢◌, ℕ, zero, suc, ◌<◌, ◌≤◌, ◌⊎◌, true, List, [], ◌∷◌, ◌++◌, Contains, Option, None, Some, Ok, Err, inl, inr, arith, refl, sym, ◌∙◌, ap, append_assoc, append-nil}
+use Rattle.std.proofs.Common.{◌≡◌, ◌≢◌, ℕ, zero, suc, ◌<◌, ◌≤◌, ◌⊎◌, true, List, [], ◌∷◌, ◌++◌, Contains, Option, None, Some, Ok, Err, inl, inr, arith, refl, sym, ◌∙◌, ap, subst, append_assoc, append-nil}
 use Rattle.std.specs.Io.KnownBytes.{Appends}
 use Rattle.std.proofs.KnownBytes.{Appends-trans}
+use Rattle.hx_core.specs.Steps.{answer_of, refusal_of, world_after}
+use Rattle.hx_core.specs.World.{first_world, World}
+use Rattle.hx_core.specs.declared.fault.StepFault.{StepFault}
 use Rattle.hx_outside.specs.Count.{Rose}
 use Rattle.hx_record.specs.Record.{Items, Unknown, Done, Bad, Then, record_items}
 use Rattle.hx_record.specs.declared.Placed.{Placed}
 use Rattle.hxeval.specs.Outcome.{End, Outcome, Completed, ConfigRefused, RecordRefused, Undecided, status_of, last_line, text_of, after_answers}
-use Rattle.hxeval.specs.Replay.{ends_with, replay_outcome, record_outcome, record_limit, events_of, is_whole, AreAllowed, answers_to}
-use Rattle.hxeval.specs.Loads.{Loading, loaded}
-use Rattle.hxeval.specs.Loads as loading
+use Rattle.hxeval.specs.Replay.{ends_with, refusal_code, replay_outcome, record_outcome, record_limit, events_of, is_whole, AreAllowed, answers_to}
+use Rattle.hx_load.specs.Loads.{Loading, Loads, loaded}
+use Rattle.hx_load.specs.Loads as loading
 use Rattle.hxeval.specs.Program.{Program}
-use Rattle.hxeval.specs.Run.{Setting, HasOutcome, HasStatus, Ran, Headline, outcome_under, outcome_of}
+use Rattle.hxeval.specs.Run.{Setting, Accepts, Checked, HasOutcome, HasStatus, Ran, Headline, check_line, outcome_under, outcome_of, usual_limits}
+use Rattle.hxeval.specs.declared.command.Task.{Task}
+use Rattle.hxeval.specs.declared.command.Task.TheVariants as task
 use Rattle.hxeval.specs.RunFault.{Attempted, Finishes, fault_end, fault_status}
-use Rattle.hxeval.specs.Step.{initial_state, refusal_of, state_after, answer_of}
-use Rattle.hxeval.specs.declared.replay_state.ReplayState.{ReplayState}
 use Rattle.hxeval.specs.declared.run_fault.RunFault.{RunFault}
 use Rattle.hxeval.specs.declared.run_fault.RunFault.TheVariants as run
 use Rattle.hxeval.proofs.OutcomeLemmas.{prefix_of}
-use Rattle.hxeval.proofs.RunLemmas.{accepts}
+use Rattle.hxeval.proofs.RunLemmas.{program_of}
+use Rattle.hx_load.proofs.LoadedLemmas.{loads}
 
 -- an end is completed or not
 abbrev IsCompleted : End → Type 0
@@ -31,78 +35,126 @@ completed (RecordRefused offset code) is = cc
 completed Undecided is = cc
 
 -- a completed replay was of a whole record of events that may stand where they stand, and wrote their answers
-pub record Completes (program : Program) (state : ReplayState) (items : Items) : Type 0 where
+pub record Completes (world : World) (items : Items) : Type 0 where
   pub whole : is_whole items ≡ true
-  pub allowed : AreAllowed state (events_of items)
-  pub answers : (replay_outcome program state items).answers ≡ answers_to program state (events_of items)
+  pub allowed : AreAllowed world (events_of items)
+  pub answers : (replay_outcome world items).answers ≡ answers_to world (events_of items)
 
-completes_then : (program : Program) (state : ReplayState) (placed : Placed) (rest : Items) (refusal : Option ℕ) → refusal_of state placed.event ≡ refusal
-    → (replay_outcome program state (Then placed rest)).end ≡ Completed
-    → ((replay_outcome program (state_after state placed.event) rest).end ≡ Completed → Completes program (state_after state placed.event) rest)
-    → Completes program state (Then placed rest)
+completes_then : (world : World) (placed : Placed) (rest : Items) (refusal : Option StepFault) → refusal_of world placed.event ≡ refusal
+    → (replay_outcome world (Then placed rest)).end ≡ Completed
+    → ((replay_outcome (world_after world placed.event) rest).end ≡ Completed → Completes (world_after world placed.event) rest)
+    → Completes world (Then placed rest)
 unfolding replay_outcome
-completes_then program state placed rest None allowed is following =
-    let here : replay_outcome program state (Then placed rest)
-    ≡ after_answers (answer_of program state placed.event) (replay_outcome program (state_after state placed.event) rest) = rw allowed refl in
+completes_then world placed rest None allowed is following =
+    let here : replay_outcome world (Then placed rest)
+    ≡ after_answers (answer_of world placed.event) (replay_outcome (world_after world placed.event) rest) = rw allowed refl in
     let later = following (sym (ap (λ (o : Outcome). o.end) here) ∙ is) in
     record {
       whole = later.whole;
       allowed = (allowed, later.allowed);
-      answers = ap (λ (o : Outcome). o.answers) here ∙ ap (λ text. answer_of program state placed.event ++ text) later.answers;
+      answers = ap (λ (o : Outcome). o.answers) here ∙ ap (λ text. answer_of world placed.event ++ text) later.answers;
     }
-completes_then program state placed rest (Some code) refused is following =
-    let here : replay_outcome program state (Then placed rest) ≡ ends_with (RecordRefused placed.offset code) = rw refused refl in
-    absurd (completed (RecordRefused placed.offset code) (sym (ap (λ (o : Outcome). o.end) here) ∙ is))
+completes_then world placed rest (Some fault) refused is following =
+    let here : replay_outcome world (Then placed rest) ≡ ends_with (RecordRefused placed.offset (refusal_code fault)) = rw refused refl in
+    absurd (completed (RecordRefused placed.offset (refusal_code fault)) (sym (ap (λ (o : Outcome). o.end) here) ∙ is))
 
-completes : (program : Program) (state : ReplayState) (items : Items) → (replay_outcome program state items).end ≡ Completed → Completes program state items
+completes : (world : World) (items : Items) → (replay_outcome world items).end ≡ Completed → Completes world items
 unfolding replay_outcome
-completes program state Unknown is = absurd (completed Undecided is)
-completes program state Done is = record { whole = refl; allowed = tt; answers = refl }
-completes program state (Bad offset code) is = absurd (completed (RecordRefused offset code) is)
-completes program state (Then placed rest) is =
-    completes_then program state placed rest (refusal_of state placed.event) refl is (completes program (state_after state placed.event) rest)
+completes world Unknown is = absurd (completed Undecided is)
+completes world Done is = record { whole = refl; allowed = tt; answers = refl }
+completes world (Bad offset code) is = absurd (completed (RecordRefused offset code) is)
+completes world (Then placed rest) is =
+    completes_then world placed rest (refusal_of world placed.event) refl is (completes (world_after world placed.event) rest)
 
 -- a configuration and a record that complete a run
-record Accepted (loaded : Loading) (bytes : List ℕ) : Type 0 where
+record CompletesRun (loaded : Loading) (bytes : List ℕ) : Type 0 where
   program : Program
-  is : loaded ≡ loading.Accepted program
+  is : loaded ≡ loading.Accepted program.rules program.references
   end : (record_outcome program bytes).end ≡ Completed
-  answers : (outcome_under loaded bytes).answers ≡ (record_outcome program bytes).answers
+  answers : (outcome_under task.Replay loaded bytes).answers ≡ (record_outcome program bytes).answers
 
-accepted : (loaded : Loading) (bytes : List ℕ) → (outcome_under loaded bytes).end ≡ Completed → Accepted loaded bytes
-accepted (loading.Refused refusal) bytes is = absurd (completed (ConfigRefused refusal.line refusal.code) is)
-accepted (loading.Missing name) bytes is = absurd (completed Undecided is)
-accepted (loading.Accepted program) bytes is = record { program = program; is = refl; end = is; answers = refl }
+completes_run : (loaded : Loading) (bytes : List ℕ) → (outcome_under task.Replay loaded bytes).end ≡ Completed → CompletesRun loaded bytes
+completes_run (loading.Refused refusal) bytes is = absurd (completed (ConfigRefused refusal.line refusal.code) is)
+completes_run (loading.Missing name) bytes is = absurd (completed Undecided is)
+completes_run (loading.Accepted rules refs) bytes is =
+    record { program = program_of rules refs; is = refl; end = is; answers = refl }
+
+-- a configuration that completes a check
+record CompletesCheck (loaded : Loading) (bytes : List ℕ) : Type 0 where
+  program : Program
+  is : loaded ≡ loading.Accepted program.rules program.references
+  answers : (outcome_under task.Check loaded bytes).answers ≡ check_line program.rules program.references
+
+completes_check : (loaded : Loading) (bytes : List ℕ) → (outcome_under task.Check loaded bytes).end ≡ Completed → CompletesCheck loaded bytes
+completes_check (loading.Refused refusal) bytes is = absurd (completed (ConfigRefused refusal.line refusal.code) is)
+completes_check (loading.Missing name) bytes is = absurd (completed Undecided is)
+completes_check (loading.Accepted rules refs) bytes is = record { program = program_of rules refs; is = refl; answers = refl }
+
+-- the outcome of a configuration by its task
+outcome_by : (s : Setting) (outcome : Outcome) (config : List ℕ) (asked : Task) (o : HasOutcome s outcome) → s.task ≡ asked → o.config ≡ Some config
+    → outcome ≡ outcome_under asked (loaded s.env usual_limits o.files config) o.bytes
+unfolding outcome_of
+outcome_by s outcome config asked o same is = o.is ∙ rw (is, same) refl
+
+no_config_left : (s : Setting) (outcome : Outcome) (o : HasOutcome s outcome) → o.config ≡ None → outcome.end ≡ Completed → ⊥
+unfolding outcome_of
+no_config_left s outcome o config end =
+    let here : outcome ≡ ends_with Undecided = o.is ∙ rw config refl in
+    completed Undecided (sym (ap (λ (o : Outcome). o.end) here) ∙ end)
+
+accepts : (s : Setting) (outcome : Outcome) (config : List ℕ) (program : Program) (o : HasOutcome s outcome) → o.config ≡ Some config
+    → loaded s.env usual_limits o.files config ≡ loading.Accepted program.rules program.references → Accepts s o.files program
+accepts s outcome config program o config_is is = record {
+  config = config;
+  of_config = rw config_is at o.of_config;
+  of_files = o.of_files;
+  loads = subst (λ (l : Loading). Loads s.env usual_limits o.files config l) is (loads s.env usual_limits o.files config);
+}
 
 headline_of : (s : Setting) (old new : Option (List ℕ)) (wrote : List ℕ) (outcome : Outcome) (config : Option (List ℕ)) (o : HasOutcome s outcome)
-    → o.config ≡ config → Appends old new wrote → outcome.end ≡ Completed → outcome.answers ≡ wrote → Headline s old new
-unfolding outcome_of
-headline_of s old new wrote outcome None o config appended end answers =
-    let here : outcome ≡ ends_with Undecided = o.is ∙ rw config refl in
-    absurd (completed Undecided (sym (ap (λ (o : Outcome). o.end) here) ∙ end))
-headline_of s old new wrote outcome (Some config) o is appended end answers =
-    let here : outcome ≡ outcome_under (loaded s.env o.files config) o.bytes = o.is ∙ rw is refl in
-    let a = accepted (loaded s.env o.files config) o.bytes (sym (ap (λ (o : Outcome). o.end) here) ∙ end) in
-    let c = completes a.program initial_state (record_items o.bytes record_limit) a.end in
-    let all : wrote ≡ answers_to a.program initial_state (events_of (record_items o.bytes record_limit)) =
+    → s.task ≡ task.Replay → o.config ≡ config → Appends old new wrote → outcome.end ≡ Completed → outcome.answers ≡ wrote → Headline s old new
+headline_of s old new wrote outcome None o asked config appended end answers = absurd (no_config_left s outcome o config end)
+headline_of s old new wrote outcome (Some config) o asked is appended end answers =
+    let here = outcome_by s outcome config task.Replay o asked is in
+    let a = completes_run (loaded s.env usual_limits o.files config) o.bytes (sym (ap (λ (o : Outcome). o.end) here) ∙ end) in
+    let c = completes (first_world a.program.rules a.program.references) (record_items o.bytes record_limit) a.end in
+    let all : wrote ≡ answers_to (first_world a.program.rules a.program.references) (events_of (record_items o.bytes record_limit)) =
     sym answers ∙ ap (λ (o : Outcome). o.answers) here ∙ a.answers ∙ c.answers in
     record {
-      config = config;
       files = o.files;
       bytes = o.bytes;
       program = a.program;
-      of_config = rw is at o.of_config;
-      of_files = o.of_files;
+      accepted = accepts s outcome config a.program o is a.is;
       of_source = o.of_source;
-      accepted = accepts s.env o.files config a.program a.is;
       read = c.whole;
       allowed = c.allowed;
       written = rw (← all) appended;
     }
 
--- a run that is completed
-pub headline : (s : Setting) (old new : Option (List ℕ)) → Attempted s old new (Ok tt) → Headline s old new
-headline s old new a = headline_of s old new a.wrote a.outcome a.of_setting.config a.of_setting refl a.appended a.answers.0 a.answers.1
+-- a replay that is completed
+pub headline : (s : Setting) (old new : Option (List ℕ)) → s.task ≡ task.Replay → Attempted s old new (Ok tt) → Headline s old new
+headline s old new asked a =
+    headline_of s old new a.wrote a.outcome a.of_setting.config a.of_setting asked refl a.appended a.answers.0 a.answers.1
+
+checked_of : (s : Setting) (old new : Option (List ℕ)) (wrote : List ℕ) (outcome : Outcome) (config : Option (List ℕ)) (o : HasOutcome s outcome)
+    → s.task ≡ task.Check → o.config ≡ config → Appends old new wrote → outcome.end ≡ Completed → outcome.answers ≡ wrote → Checked s old new
+checked_of s old new wrote outcome None o asked config appended end answers = absurd (no_config_left s outcome o config end)
+checked_of s old new wrote outcome (Some config) o asked is appended end answers =
+    let here = outcome_by s outcome config task.Check o asked is in
+    let a = completes_check (loaded s.env usual_limits o.files config) o.bytes (sym (ap (λ (o : Outcome). o.end) here) ∙ end) in
+    let all : wrote ≡ check_line a.program.rules a.program.references =
+    sym answers ∙ ap (λ (o : Outcome). o.answers) here ∙ a.answers in
+    record {
+      files = o.files;
+      program = a.program;
+      accepted = accepts s outcome config a.program o is a.is;
+      written = rw (← all) appended;
+    }
+
+-- a check that is completed
+pub checked : (s : Setting) (old new : Option (List ℕ)) → s.task ≡ task.Check → Attempted s old new (Ok tt) → Checked s old new
+checked s old new asked a =
+    checked_of s old new a.wrote a.outcome a.of_setting.config a.of_setting asked refl a.appended a.answers.0 a.answers.1
 
 -- all answers of an outcome, and then what is written of its end
 wrote_all : (outcome : Outcome) (end : End) (wrote line : List ℕ) → outcome.end ≡ end → outcome.answers ≡ wrote → line ≡ last_line end

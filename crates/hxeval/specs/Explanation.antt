@@ -3,10 +3,11 @@
 -- they stand.
 use Rattle.std.specs.Prelude.{ℕ, ◌==◌, List, [], ◌∷◌, ◌++◌, Option, None, Some, codes, flat_map, map, unwrap_or, if◌then◌else◌}
 use Rattle.std.specs.Borrow.{Bor}
+use Rattle.std.specs.Option.{option_map_or}
 use Rattle.std.specs.Str.{bytes_eq}
 use Rattle.hx_base.specs.Bytes.{line_feed, space}
 use Rattle.hx_text.specs.Cut.{cut_of}
-use Rattle.hxeval.specs.Run.{config_name}
+use Rattle.hxeval.specs.Run.{command_of}
 use Rattle.hxeval.specs.declared.explain.TheConstants.{CONFIG_CODES, RECORD_CODES, RECORD_UNREAD, STATUS_TEXTS, UNKNOWN_CODE, UNKNOWN_STATUS}
 
 -- the bytes of all parts of a text
@@ -15,7 +16,8 @@ all_of parts = flat_map (λ part. part.now) parts
 
 -- the name of the configuration that a command line gives
 abbrev pub given_name : List (List ℕ) → List ℕ
-given_name words = unwrap_or (config_name words) (codes "the configuration")
+given_name words =
+    option_map_or (λ command. command.name) (command_of words) (codes "the configuration")
 
 -- the text before the first byte of this value and the text after it; without such a byte, the
 -- whole text and nothing

@@ -1,12 +1,15 @@
 -- Views of the code of a replay: answers that are gathered before they are written.
-use Rattle.std.specs.Prelude.{◌≡◌, ℕ, List, [], ◌++◌, Option, None, Some, Result, Ok, Err, ⊤}
+use Rattle.std.specs.Prelude.{◌≡◌, ℕ, List, [], ◌++◌, Option, None, Some, option_map, Result, Ok, Err, ⊤}
 use Rattle.std.specs.Io.KnownBytes.{Appends}
+use Rattle.hx_record.specs.declared.Event.{Event}
 use Rattle.hx_record.specs.declared.Placed.{Placed}
-use Rattle.hxeval.specs.Replay.{IsRecord, record_outcome}
+use Rattle.hx_core.specs.Steps.{refusal_of, world_after, answer_of}
+use Rattle.hx_core.specs.World.{World}
+use Rattle.hx_core.specs.declared.fault.StepFault.{StepFault}
+use Rattle.hx_core.specs.declared.fault.StepFault.TheVariants as step
+use Rattle.hxeval.specs.Replay.{IsRecord, record_outcome, refusal_code}
 use Rattle.hxeval.specs.Program.{Program}
-use Rattle.hxeval.specs.Step.{refusal_of, state_after, answer_of}
 use Rattle.hxeval.specs.RunFault.{AreAnswersTo, result_end}
-use Rattle.hxeval.specs.declared.replay_state.ReplayState.{ReplayState}
 use Rattle.hxeval.specs.declared.run_fault.RunFault.{RunFault}
 use Rattle.hxeval.specs.declared.run_fault.RunFault.TheVariants.{ConfigRefused, RecordRefused, Files, TooLarge}
 
@@ -26,23 +29,39 @@ pub record Passes (old new : Option (List ℕ)) (text gathered rest : List ℕ) 
   pub appended : Appends old new wrote
   pub whole : text ≡ wrote ++ (gathered ++ rest)
 
+-- What a step gathers: the world goes on, and the answer to the event follows those before it. One
+-- that may not stand where it stands has no answer. Where memory runs out, or an expression is too
+-- large, it may stand there, and the answers are as before.
+abbrev pub GathersAnswer : (before after : World) → Event → (old new : List ℕ)
+    → Result (Unit {0}) StepFault → Type 0
+GathersAnswer before after event old new (Ok _) =
+    (refusal_of before event ≡ None) × (after ≡ world_after before event)
+    × (new ≡ old ++ answer_of before event)
+GathersAnswer before after event old new (Err step.UnknownConn) =
+    (refusal_of before event ≡ Some step.UnknownConn) × (new ≡ old)
+GathersAnswer before after event old new (Err step.ConnOpen) =
+    (refusal_of before event ≡ Some step.ConnOpen) × (new ≡ old)
+GathersAnswer before after event old new (Err step.TooLarge) =
+    (refusal_of before event ≡ None) × (new ≡ old)
+GathersAnswer before after event old new (Err step.NoMemory) =
+    (refusal_of before event ≡ None) × (new ≡ old)
+
 -- What one event changes: its answer follows those that are gathered, of which the first ones may
--- be written, and the state goes on. Or it may not stand here. Or a part of these answers is
+-- be written, and the world goes on. Or it may not stand here. Or a part of these answers is
 -- lost.
-abbrev pub AnswersEvent : Program → (before after : ReplayState) → Placed
+abbrev pub AnswersEvent : (before after : World) → Placed
     → (old new : Option (List ℕ)) → (gathered gathered' : List ℕ)
     → Result (Unit {0}) RunFault → Type 0
-AnswersEvent program before after placed old new gathered gathered' (Ok _) =
-    (refusal_of before placed.event ≡ None) × (after ≡ state_after before placed.event)
-    × Passes old new (gathered ++ answer_of program before placed.event) gathered' []
-AnswersEvent program before after placed old new gathered gathered'
-    (Err (RecordRefused offset code)) =
-    (refusal_of before placed.event ≡ Some code) × (offset ≡ placed.offset)
-    × Appends old new [] × (gathered' ≡ gathered)
-AnswersEvent program before after placed old new gathered gathered' (Err _) =
+AnswersEvent before after placed old new gathered gathered' (Ok _) =
+    (refusal_of before placed.event ≡ None) × (after ≡ world_after before placed.event)
+    × Passes old new (gathered ++ answer_of before placed.event) gathered' []
+AnswersEvent before after placed old new gathered gathered' (Err (RecordRefused offset code)) =
+    (option_map refusal_code (refusal_of before placed.event) ≡ Some code)
+    × (offset ≡ placed.offset) × Appends old new [] × (gathered' ≡ gathered)
+AnswersEvent before after placed old new gathered gathered' (Err _) =
     (refusal_of before placed.event ≡ None)
     × ((rest : List ℕ)
-    × Passes old new (gathered ++ answer_of program before placed.event) gathered' rest)
+    × Passes old new (gathered ++ answer_of before placed.event) gathered' rest)
 
 -- no refusal: something outside failed, or memory ran out
 abbrev pub IsFailure : RunFault → Type 0

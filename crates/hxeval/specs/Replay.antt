@@ -1,32 +1,44 @@
 -- What a record is answered, event by event.
-use Rattle.std.specs.Prelude.{◌≡◌, ℕ, Bool, true, false, List, [], ◌∷◌, ◌++◌, Option, None, Some, ⊤}
+use Rattle.std.specs.Prelude.{◌≡◌, ℕ, Bool, true, false, List, [], ◌∷◌, ◌++◌, Option, None, Some, IsSomeAnd, ⊤, ◌⊎◌}
 use Rattle.std.specs.Io.KnownBytes.{Appends, Consumes}
 use Rattle.hx_record.specs.Record.{Items, Unknown, Done, Bad, Then, record_items, decided_items}
 use Rattle.hx_record.specs.declared.Event.{Event}
 use Rattle.hxeval.specs.Outcome.{End, Outcome, Completed, RecordRefused, Undecided, after_answers}
 pub use Rattle.hxeval.specs.Outcome.{record_line}
 use Rattle.hxeval.specs.Program.{Program}
-use Rattle.hxeval.specs.Step.{initial_state, refusal_of, state_after, answer_of}
-use Rattle.hxeval.specs.declared.replay_state.ReplayState.{ReplayState}
+use Rattle.hx_core.specs.Steps.{answer_of, EventAsksFor, refusal_of, world_after}
+use Rattle.hx_core.specs.World.{first_world, World}
+use Rattle.hx_core.specs.declared.fault.StepFault.{StepFault}
+use Rattle.hx_core.specs.declared.fault.StepFault.TheVariants.{UnknownConn, ConnOpen, TooLarge, NoMemory}
+use Rattle.hx_outside.specs.Makers.{ExpressionText}
 
 -- a run that ends here without an answer
 abbrev pub ends_with : End → Outcome
 ends_with end = record { answers = []; end = end }
 
--- an event at an offset: its answer and then what follows, or its refusal
-abbrev pub event_outcome : Option ℕ → ℕ → List ℕ → Outcome → Outcome
-event_outcome None offset answer following = after_answers answer following
-event_outcome (Some code) offset answer following = ends_with (RecordRefused offset code)
+-- The code of a record with an event that may not stand where it stands: a request or an end of a
+-- connection that isn't open, or the opening of one that is. The other faults say nothing of the
+-- record, and have none.
+abbrev pub refusal_code : StepFault → ℕ
+refusal_code UnknownConn = 6
+refusal_code ConnOpen = 7
+refusal_code TooLarge = 0
+refusal_code NoMemory = 0
 
--- what the items of a record are answered from a state on
-unfoldable pub replay_outcome : Program → ReplayState → Items → Outcome
-replay_outcome program state Unknown = ends_with Undecided
-replay_outcome program state Done = ends_with Completed
-replay_outcome program state (Bad offset code) = ends_with (RecordRefused offset code)
-replay_outcome program state (Then placed rest) =
-    event_outcome (refusal_of state placed.event) placed.offset
-    (answer_of program state placed.event)
-    (replay_outcome program (state_after state placed.event) rest)
+-- an event at an offset: its answer and then what follows, or its refusal
+abbrev pub event_outcome : Option StepFault → ℕ → List ℕ → Outcome → Outcome
+event_outcome None offset answer following = after_answers answer following
+event_outcome (Some refusal) offset answer following =
+    ends_with (RecordRefused offset (refusal_code refusal))
+
+-- what the items of a record are answered from a world on
+unfoldable pub replay_outcome : World → Items → Outcome
+replay_outcome world Unknown = ends_with Undecided
+replay_outcome world Done = ends_with Completed
+replay_outcome world (Bad offset code) = ends_with (RecordRefused offset code)
+replay_outcome world (Then placed rest) =
+    event_outcome (refusal_of world placed.event) placed.offset (answer_of world placed.event)
+    (replay_outcome (world_after world placed.event) rest)
 
 -- the most bytes that a record may have
 abbrev pub record_limit : ℕ
@@ -34,11 +46,13 @@ record_limit = 4294967296
 
 -- what a whole record is answered
 abbrev pub record_outcome : Program → List ℕ → Outcome
-record_outcome program bytes = replay_outcome program initial_state (record_items bytes record_limit)
+record_outcome program bytes =
+    replay_outcome (first_world program.rules program.references) (record_items bytes record_limit)
 
 -- what the first bytes of a record are answered, whatever follows them
 abbrev pub decided_outcome : Program → List ℕ → Outcome
-decided_outcome program bytes = replay_outcome program initial_state (decided_items bytes record_limit)
+decided_outcome program bytes =
+    replay_outcome (first_world program.rules program.references) (decided_items bytes record_limit)
 
 -- the record is all that the source has left, where that is known
 abbrev pub IsRecord : Option (List ℕ) → List ℕ → Type 0
@@ -68,13 +82,33 @@ is_whole (Bad offset code) = false
 is_whole (Then placed rest) = is_whole rest
 
 -- each event may stand where it stands
-abbrev pub AreAllowed : ReplayState → List Event → Type 0
-AreAllowed state [] = Unit {0}
-AreAllowed state (event ∷ events) =
-    (refusal_of state event ≡ None) × AreAllowed (state_after state event) events
+abbrev pub AreAllowed : World → List Event → Type 0
+AreAllowed world [] = Unit {0}
+AreAllowed world (event ∷ events) =
+    (refusal_of world event ≡ None) × AreAllowed (world_after world event) events
 
 -- the answers to events in order, one after the other
-abbrev pub answers_to : Program → ReplayState → List Event → List ℕ
-answers_to program state [] = []
-answers_to program state (event ∷ events) =
-    answer_of program state event ++ answers_to program (state_after state event) events
+abbrev pub answers_to : World → List Event → List ℕ
+answers_to world [] = []
+answers_to world (event ∷ events) =
+    answer_of world event ++ answers_to (world_after world event) events
+
+-- a rule or a command asks for this expression at one of the items of a record, with no refusal
+-- before it
+abbrev pub ItemsAskFor : World → Items → ExpressionText → Type 0
+ItemsAskFor world Unknown text = ⊥
+ItemsAskFor world Done text = ⊥
+ItemsAskFor world (Bad offset code) text = ⊥
+ItemsAskFor world (Then placed rest) text =
+    (refusal_of world placed.event ≡ None)
+    × (EventAsksFor world placed.event text
+    ⊎ ItemsAskFor (world_after world placed.event) rest text)
+
+-- the last text that was too large for a maker is one for which a rule or a command asks, at an
+-- event of the record that a source has left
+pub record ReplayAsksLast (program : Program) (left : Option (List ℕ))
+    (large : Option ExpressionText) : Type 0 where
+  pub bytes : List ℕ
+  pub of_source : IsRecord left bytes
+  pub asks : IsSomeAnd large
+      (ItemsAskFor (first_world program.rules program.references) (record_items bytes record_limit))

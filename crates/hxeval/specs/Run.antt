@@ -1,62 +1,108 @@
 -- What a run writes, and its status.
-use Rattle.std.specs.Prelude.{◌≡◌, ◌⊎◌, ℕ, true, List, [], ◌∷◌, map, codes, Contains, IsSomeAnd, Option, None, Some, ⊤, if◌then◌else◌}
+use Rattle.std.specs.Prelude.{◌≡◌, ◌⊎◌, ◌++◌, ℕ, true, List, [], ◌∷◌, length, map, codes, Contains, IsSomeAnd, Option, None, Some, option_map, ⊤, if◌then◌else◌}
+use Rattle.std.specs.Fmt.{decimal}
 use Rattle.std.specs.Io.KnownBytes.{Appends}
 use Rattle.std.specs.Str.{bytes_eq}
 use Rattle.std.specs.declared.alloc.Global.{Global}
 use Rattle.std.specs.declared.vec.Vec.{Vec}
 use Rattle.hx_base.specs.Pairs.{NamedBytes, pairs_of, value_at}
+use Rattle.hx_core.specs.World.{first_world}
+use Rattle.hx_load.specs.Loads.{Judges, Loading, Loads, ReadsFile, loaded}
+use Rattle.hx_load.specs.Loads as loading
+use Rattle.hx_load.specs.References.{HasFiles}
 use Rattle.hx_outside.specs.Makers.{ExpressionText}
 use Rattle.hx_outside.specs.Prefixes.{AppendsPrefix}
 use Rattle.hx_record.specs.Record.{record_items}
+use Rattle.hx_refs.specs.References.{References}
+use Rattle.hx_refs.specs.declared.Limits.{Limits}
+use Rattle.hx_rules.specs.Programs.{Rules, rule_count}
 use Rattle.hx_words.specs.Variable.{Env}
-use Rattle.hxeval.specs.Loads.{Judges, Loading, Loads, ReadsFile, loaded}
-use Rattle.hxeval.specs.Loads as loading
-use Rattle.hxeval.specs.Outcome.{Outcome, ConfigRefused, Undecided, status_of, text_of}
+use Rattle.hxeval.specs.Outcome.{Outcome, Completed, ConfigRefused, Undecided, status_of, text_of}
 pub use Rattle.hxeval.specs.Outcome.{config_line}
-use Rattle.hxeval.specs.Replay.{IsRecord, WritesDecided, record_limit, ends_with, record_outcome, events_of, is_whole, AreAllowed, answers_to}
+use Rattle.hxeval.specs.Replay.{IsRecord, ReplayAsksLast, WritesDecided, record_limit, ends_with, record_outcome, events_of, is_whole, AreAllowed, answers_to}
 use Rattle.hxeval.specs.Program.{Program}
-use Rattle.hxeval.specs.References.{HasFiles}
-use Rattle.hxeval.specs.Step.{initial_state}
+use Rattle.hxeval.specs.declared.command.Task.{Task}
+use Rattle.hxeval.specs.declared.command.Task.TheVariants.{Check, Replay}
 
 -- the bytes of the words of a command line
 abbrev pub texts_of : List (Vec ℕ Global) → List (List ℕ)
 texts_of words = map (λ word. word.items) words
 
--- the name of the configuration, where the words are `run CONFIG`
-abbrev pub config_name : List (List ℕ) → Option (List ℕ)
-config_name (command ∷ name ∷ []) = if bytes_eq command (codes "run") then Some name else None
-config_name _ = None
+-- the task of a first word: that a record is answered, or that a configuration is checked
+abbrev pub task_of : List ℕ → Option Task
+task_of word =
+    if bytes_eq word (codes "run") then Some Replay
+    else if bytes_eq word (codes "check") then Some Check
+    else None
 
--- What a run is given: the environment, what the files hold, the name of the configuration, and
--- what the source has left. Of files and source that is what is known.
+-- a command: its task, and the name of the configuration
+pub record Asked : Type 0 where
+  pub task : Task
+  pub name : List ℕ
+
+-- the command of these words, which are `run CONFIG` or `check CONFIG`
+abbrev pub command_of : List (List ℕ) → Option Asked
+command_of (word ∷ name ∷ []) =
+    option_map (λ task. record { task = task; name = name }) (task_of word)
+command_of _ = None
+
+-- What a run is given: the environment, what the files hold, the command, and what the source has
+-- left. Of files and source that is what is known.
 pub record Setting : Type 0 where
   pub env : Env
   pub held : Option NamedBytes
+  pub task : Task
   pub name : List ℕ
   pub left : Option (List ℕ)
 
-abbrev pub setting : List (Vec ℕ Global × Vec ℕ Global) → Option NamedBytes → List ℕ
+abbrev pub setting : List (Vec ℕ Global × Vec ℕ Global) → Option NamedBytes → Asked
     → Option (List ℕ) → Setting
-setting env held name left = record { env = pairs_of env; held = held; name = name; left = left }
+setting env held command left = record {
+  env = pairs_of env;
+  held = held;
+  task = command.task;
+  name = command.name;
+  left = left;
+}
+
+-- the limits of the references of a configuration
+abbrev pub usual_limits : Limits
+usual_limits = record { entries = 1000000; adds = 4000000000; versions = 4294967295 }
 
 -- the configuration is what the files hold under its name, where that is known
 abbrev pub HasConfig : Option NamedBytes → List ℕ → Option (List ℕ) → Type 0
 HasConfig None name config = ⊤
 HasConfig (Some files) name config = config ≡ value_at files name
 
--- what a record is answered under the program of a configuration, or the configuration's refusal;
--- where a file is missing, nothing
-abbrev pub outcome_under : Loading → List ℕ → Outcome
-outcome_under (loading.Accepted program) bytes = record_outcome program bytes
-outcome_under (loading.Refused refusal) bytes =
-    ends_with (ConfigRefused refusal.line refusal.code)
-outcome_under (loading.Missing name) bytes = ends_with Undecided
+-- what is written of a configuration that is accepted: the number of its rules, and that of its
+-- references
+abbrev pub check_line : Rules → References → List ℕ
+check_line rules refs =
+    codes "ok " ++ (decimal (rule_count rules)
+    ++ (codes " " ++ (decimal (length refs.references) ++ codes "\n")))
 
--- the outcome of a configuration, files and a record under an environment; of no configuration,
--- nothing
-unfoldable pub outcome_of : Env → NamedBytes → Option (List ℕ) → List ℕ → Outcome
-outcome_of env files None bytes = ends_with Undecided
-outcome_of env files (Some config) bytes = outcome_under (loaded env files config) bytes
+-- what comes of a configuration that is accepted: what a record is answered, or that it is accepted
+abbrev pub accepted_outcome : Task → Program → List ℕ → Outcome
+accepted_outcome Replay program bytes = record_outcome program bytes
+accepted_outcome Check program bytes = record {
+  answers = check_line program.rules program.references;
+  end = Completed;
+}
+
+-- the same of any configuration, or its refusal; where a file is missing, nothing
+abbrev pub outcome_under : Task → Loading → List ℕ → Outcome
+outcome_under task (loading.Accepted rules refs) bytes =
+    accepted_outcome task (record { rules = rules; references = refs }) bytes
+outcome_under task (loading.Refused refusal) bytes =
+    ends_with (ConfigRefused refusal.line refusal.code)
+outcome_under task (loading.Missing name) bytes = ends_with Undecided
+
+-- the outcome of a command over a configuration, files and a record under an environment; of no
+-- configuration, nothing
+unfoldable pub outcome_of : Env → Task → NamedBytes → Option (List ℕ) → List ℕ → Outcome
+outcome_of env task files None bytes = ends_with Undecided
+outcome_of env task files (Some config) bytes =
+    outcome_under task (loaded env usual_limits files config) bytes
 
 -- this is the outcome of the configuration, the files and the record of a setting, as far as they
 -- are known
@@ -67,7 +113,7 @@ pub record HasOutcome (s : Setting) (outcome : Outcome) : Type 0 where
   pub of_config : HasConfig s.held s.name config
   pub of_files : HasFiles s.held files
   pub of_source : IsRecord s.left bytes
-  pub is : outcome ≡ outcome_of s.env files config bytes
+  pub is : outcome ≡ outcome_of s.env s.task files config bytes
 
 -- What a run does: it writes a prefix of the text of its setting's outcome. Where its status is
 -- 0, 3 or 4 it writes the whole text, and the status is the outcome's.
@@ -84,31 +130,43 @@ pub record HasStatus (s : Setting) (status : ℕ) : Type 0 where
   pub of_setting : HasOutcome s outcome
   pub is : status_of outcome.end ≡ Some status
 
+-- the configuration of a setting is accepted as this program
+pub record Accepts (s : Setting) (files : NamedBytes) (program : Program) : Type 0 where
+  pub config : List ℕ
+  pub of_config : HasConfig s.held s.name (Some config)
+  pub of_files : HasFiles s.held files
+  pub loads : Loads s.env usual_limits files config
+      (loading.Accepted program.rules program.references)
+
 -- The headline. The configuration was accepted, the record was read to its end, each of its events
 -- stood where it may, and exactly the answers to its events in order were written.
 pub record Headline (s : Setting) (old new : Option (List ℕ)) : Type 0 where
-  pub config : List ℕ
   pub files : NamedBytes
   pub bytes : List ℕ
   pub program : Program
-  pub of_config : HasConfig s.held s.name (Some config)
-  pub of_files : HasFiles s.held files
+  pub accepted : Accepts s files program
   pub of_source : IsRecord s.left bytes
-  pub accepted : Loads s.env files config (loading.Accepted program)
   pub read : is_whole (record_items bytes record_limit) ≡ true
-  pub allowed : AreAllowed initial_state (events_of (record_items bytes record_limit))
+  pub allowed : AreAllowed (first_world program.rules program.references)
+      (events_of (record_items bytes record_limit))
   pub written : Appends old new
-      (answers_to program initial_state (events_of (record_items bytes record_limit)))
+      (answers_to (first_world program.rules program.references)
+      (events_of (record_items bytes record_limit)))
+
+-- A check: the configuration was accepted, and its line was written.
+pub record Checked (s : Setting) (old new : Option (List ℕ)) : Type 0 where
+  pub files : NamedBytes
+  pub program : Program
+  pub accepted : Accepts s files program
+  pub written : Appends old new (check_line program.rules program.references)
 
 -- The source failed: the files hold a configuration that is accepted, and exactly the answers were
 -- written to the events that the bytes taken from the source decide.
 pub record SourceFails (s : Setting) (left' old new : Option (List ℕ)) : Type 0 where
-  pub config : List ℕ
+  pub task : s.task ≡ Replay
   pub files : NamedBytes
   pub program : Program
-  pub of_config : HasConfig s.held s.name (Some config)
-  pub of_files : HasFiles s.held files
-  pub accepted : Loads s.env files config (loading.Accepted program)
+  pub accepted : Accepts s files program
   pub written : WritesDecided program s.left left' old new
 
 -- The last text that was too large for the maker is one that is read as a regular expression when
@@ -118,7 +176,16 @@ pub record RunJudgesLast (s : Setting) (large : Option ExpressionText) : Type 0 
   pub files : NamedBytes
   pub of_config : HasConfig s.held s.name (Some config)
   pub of_files : HasFiles s.held files
-  pub judged : IsSomeAnd large (Judges s.env files config)
+  pub judged : IsSomeAnd large (Judges s.env usual_limits files config)
+
+-- The last text that was too large for the maker is one for which a rule or a command asks, at an
+-- event of the record.
+pub record RunAsksLast (s : Setting) (large : Option ExpressionText) : Type 0 where
+  pub task : s.task ≡ Replay
+  pub files : NamedBytes
+  pub program : Program
+  pub accepted : Accepts s files program
+  pub asks : ReplayAsksLast program s.left large
 
 -- a file is one to which the configuration comes when it is loaded, with no fault before it
 pub record ComesTo (s : Setting) (name : List ℕ) : Type 0 where
@@ -126,7 +193,7 @@ pub record ComesTo (s : Setting) (name : List ℕ) : Type 0 where
   pub files : NamedBytes
   pub of_config : HasConfig s.held s.name (Some config)
   pub of_files : HasFiles s.held files
-  pub reads : ReadsFile s.env files config name
+  pub reads : ReadsFile s.env usual_limits files config name
 
 -- the files that a run reads: the configuration, and those to which that comes
 abbrev pub RunReads : Setting → List ℕ → Type 0

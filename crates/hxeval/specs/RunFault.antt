@@ -11,8 +11,8 @@ use Rattle.hx_record.specs.declared.RecordFault.TheVariants as reader
 use Rattle.hxeval.specs.Outcome.{End, Outcome, Completed, Undecided, last_line}
 use Rattle.hxeval.specs.Outcome as ends
 use Rattle.hxeval.specs.Run.{Setting, HasOutcome}
-use Rattle.hxeval.specs.declared.load_fault.LoadFault.{LoadFault}
-use Rattle.hxeval.specs.declared.load_fault.LoadFault.TheVariants as load
+use Rattle.hx_load.specs.declared.load_fault.LoadFault.{LoadFault}
+use Rattle.hx_load.specs.declared.load_fault.LoadFault.TheVariants as load
 use Rattle.hxeval.specs.declared.run_fault.RunFault.{RunFault}
 use Rattle.hxeval.specs.declared.run_fault.RunFault.TheVariants.{ConfigRefused, RecordRefused, Files, Source, Sink, TooLarge, NoMemory}
 
@@ -59,7 +59,6 @@ result_end (Err fault) = fault_end fault
 abbrev pub IsReplayFault : RunFault → Type 0
 IsReplayFault (ConfigRefused line code) = ⊥
 IsReplayFault Files = ⊥
-IsReplayFault TooLarge = ⊥
 IsReplayFault _ = ⊤
 
 -- these are the answers of an outcome up to an end: all of them where it ends so, and a prefix of

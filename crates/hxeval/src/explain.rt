@@ -10,7 +10,7 @@ ghost use Rattle.hxeval.specs.Explanation.{all_of, explanation, refusal_text, co
 ghost use Rattle.hxeval.specs.Explanation.{record_refused, meaning_of, status_text, cut_or_end, location_of};
 ghost use Rattle.hxeval.specs.Explanation.{code_in, given_name, unread_text};
 
-use crate::run::config_name;
+use crate::command::command_of;
 use hx_outside::{Sink, SinkFault, write_all};
 use hx_text::cut_at;
 
@@ -18,7 +18,7 @@ use hx_text::cut_at;
 type Row = (&'static [u8], &'static [u8], &'static [u8]);
 
 /// The codes of a configuration that is refused.
-const CONFIG_CODES: [Row; 21] = [
+const CONFIG_CODES: [Row; 23] = [
     (b"1", b"OpenQuote", b"the line ends inside a quote"),
     (
         b"2",
@@ -65,7 +65,7 @@ const CONFIG_CODES: [Row; 21] = [
     (
         b"12",
         b"BadName",
-        b"the name of an ACL, of a header or of a variable isn't of its form",
+        b"the name of an ACL, a variable, a header, a frontend or a backend isn't of its form",
     ),
     (
         b"13",
@@ -76,6 +76,11 @@ const CONFIG_CODES: [Row; 21] = [
         b"14",
         b"BadCondition",
         b"the condition is empty, isn't closed, or has no ACL where one must stand",
+    ),
+    (
+        b"15",
+        b"BadFormat",
+        b"a % in a format is followed by neither % nor [",
     ),
     (
         b"16",
@@ -92,11 +97,20 @@ const CONFIG_CODES: [Row; 21] = [
         b"BadValue",
         b"a value of a map of this line isn't of the type that is looked up in it",
     ),
-    (b"19", b"Misplaced", b"this statement may not stand here"),
+    (
+        b"19",
+        b"Misplaced",
+        b"frontend isn't the first statement, or default_backend stands here a second time",
+    ),
     (
         b"20",
         b"FileTooLong",
         b"a file of this line has more than 1000000 entries",
+    ),
+    (
+        b"21",
+        b"UnknownTable",
+        b"a rule changes this file, and no -f and no map names it",
     ),
     (
         b"22",
@@ -116,7 +130,7 @@ const RECORD_CODES: [Row; 7] = [
     (
         b"1",
         b"BadLine",
-        b"unknown or unsupported event, words missing or too many, a word that is no address, \
+        b"unknown event, words missing or too many, a word that is no address, \
           or another byte than a line feed after a request",
     ),
     (
@@ -156,9 +170,12 @@ const STATUS_TEXTS: [(u8, &[u8]); 4] = [
     (
         2,
         b"usage: hxeval run CONFIG\n\
+          \x20      hxeval check CONFIG\n\
           \n\
-          Replays the record on standard input through the rules of the file CONFIG, and\n\
-          writes one line for each request: whether a rule denies it or it passes.\n\
+          run replays the record on standard input through the rules of the file CONFIG, and\n\
+          writes for each request its verdict, its head where the rules change it, and where\n\
+          it is redirected to. check only judges CONFIG, and writes ok, the number of its rules\n\
+          and that of its files and lists of patterns.\n\
           \n\
           Exit status: 0 done, 2 wrong words, 3 configuration refused, 4 record refused,\n\
           5 a file or the record can't be read, 6 an answer can't be written, 7 out of memory,\n\
@@ -219,8 +236,18 @@ pub fn explain<K: Sink>(
         last_line.now large.now
         ≡ record_refused (decimal offset) (decimal code) }
 {
-    let name = config_name(words).unwrap_or(b"the configuration");
+    let name = given_name(words);
     write_parts(err, &explanation(status, name, unread, last_line, large))
+}
+
+/// The name of the configuration that a command line gives, or words for one.
+fn given_name(words: &[Vec<u8>]) -> &[u8]
+    ensures { result.now ≡ given_name (texts_of words.now) }
+{
+    match command_of(words) {
+        Some(command) => command.name,
+        None => b"the configuration",
+    }
 }
 
 /// Writes the parts of a text, one after the other.
@@ -393,9 +420,12 @@ mod tests {
     #[test]
     fn each_status_is_explained(rt: HostRuntime) -> Result<(), Fail> {
         let usage = b"usage: hxeval run CONFIG\n\
+            \x20      hxeval check CONFIG\n\
             \n\
-            Replays the record on standard input through the rules of the file CONFIG, and\n\
-            writes one line for each request: whether a rule denies it or it passes.\n\
+            run replays the record on standard input through the rules of the file CONFIG, and\n\
+            writes for each request its verdict, its head where the rules change it, and where\n\
+            it is redirected to. check only judges CONFIG, and writes ok, the number of its rules\n\
+            and that of its files and lists of patterns.\n\
             \n\
             Exit status: 0 done, 2 wrong words, 3 configuration refused, 4 record refused,\n\
             5 a file or the record can't be read, 6 an answer can't be written, 7 out of memory,\n\
@@ -442,26 +472,31 @@ mod tests {
             number of arguments, or one that it can't take (10 BadArgument)\n";
         let bad_type = b"hxeval: deny.cfg:21: a converter or a match method can't take the type \
             of what stands before it (11 BadType)\n";
-        let bad_name = b"hxeval: deny.cfg:22: the name of an ACL, of a header or of a variable \
-            isn't of its form (12 BadName)\n";
+        let bad_name = b"hxeval: deny.cfg:22: the name of an ACL, a variable, a header, a frontend \
+            or a backend isn't of its form (12 BadName)\n";
         let unknown_acl = b"hxeval: deny.cfg:23: a condition names an ACL that is neither \
             declared above nor predefined (13 UnknownAcl)\n";
         let bad_condition = b"hxeval: deny.cfg:24: the condition is empty, isn't closed, or has \
             no ACL where one must stand (14 BadCondition)\n";
+        let bad_format = b"hxeval: deny.cfg:25: a % in a format is followed by neither % nor [ \
+            (15 BadFormat)\n";
         let bad_pattern = b"hxeval: deny.cfg:26: a pattern, or a regular expression, is \
             malformed, isn't UTF-8, or is nested too deep (16 BadPattern)\n";
         let file_kind = b"hxeval: deny.cfg:27: this file is used as a list of patterns on one \
             line and as a map on another (17 FileKind)\n";
         let bad_value = b"hxeval: deny.cfg:28: a value of a map of this line isn't of the type \
             that is looked up in it (18 BadValue)\n";
-        let misplaced = b"hxeval: deny.cfg:29: this statement may not stand here (19 Misplaced)\n";
+        let misplaced = b"hxeval: deny.cfg:29: frontend isn't the first statement, or \
+            default_backend stands here a second time (19 Misplaced)\n";
         let file_too_long = b"hxeval: deny.cfg:30: a file of this line has more than 1000000 \
             entries (20 FileTooLong)\n";
+        let unknown_table = b"hxeval: deny.cfg:31: a rule changes this file, and no -f and no map \
+            names it (21 UnknownTable)\n";
         let id_taken =
             b"hxeval: deny.cfg:32: -u gives a number that another reference has (22 IdTaken)\n";
         let too_many_refs = b"hxeval: deny.cfg:33: the configuration has more than 65536 files \
             and lists of patterns (23 TooManyRefs)\n";
-        let unknown = b"hxeval: deny.cfg:25: unknown code (15 Unknown)\n";
+        let unknown = b"hxeval: deny.cfg:34: unknown code (24 Unknown)\n";
         assert!(rt; is_config_explained(&rt, b"config 11 1\n", open_quote)?);
         assert!(rt; is_config_explained(&rt, b"config 12 2\n", bad_escape)?);
         assert!(rt; is_config_explained(&rt, b"config 13 3\n", bad_variable)?);
@@ -476,14 +511,16 @@ mod tests {
         assert!(rt; is_config_explained(&rt, b"config 22 12\n", bad_name)?);
         assert!(rt; is_config_explained(&rt, b"config 23 13\n", unknown_acl)?);
         assert!(rt; is_config_explained(&rt, b"config 24 14\n", bad_condition)?);
+        assert!(rt; is_config_explained(&rt, b"config 25 15\n", bad_format)?);
         assert!(rt; is_config_explained(&rt, b"config 26 16\n", bad_pattern)?);
         assert!(rt; is_config_explained(&rt, b"config 27 17\n", file_kind)?);
         assert!(rt; is_config_explained(&rt, b"config 28 18\n", bad_value)?);
         assert!(rt; is_config_explained(&rt, b"config 29 19\n", misplaced)?);
         assert!(rt; is_config_explained(&rt, b"config 30 20\n", file_too_long)?);
+        assert!(rt; is_config_explained(&rt, b"config 31 21\n", unknown_table)?);
         assert!(rt; is_config_explained(&rt, b"config 32 22\n", id_taken)?);
         assert!(rt; is_config_explained(&rt, b"config 33 23\n", too_many_refs)?);
-        assert!(rt; is_config_explained(&rt, b"config 25 15\n", unknown)?);
+        assert!(rt; is_config_explained(&rt, b"config 34 24\n", unknown)?);
         Ok(())
     }
 
@@ -494,8 +531,7 @@ mod tests {
 
     #[test]
     fn each_code_of_a_record_is_explained(rt: HostRuntime) -> Result<(), Fail> {
-        let line =
-            b"hxeval: record, byte 38: unknown or unsupported event, words missing or too many, \
+        let line = b"hxeval: record, byte 38: unknown event, words missing or too many, \
             a word that is no address, or another byte than a line feed after a request \
             (1 BadLine)\n";
         let number =

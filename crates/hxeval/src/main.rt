@@ -9,27 +9,24 @@
 //! ```
 #![tactic(auto)]
 
+#[cfg(test)]
+mod action_runs;
 mod answer;
-mod connections;
+mod command;
+#[cfg(test)]
+mod command_runs;
+#[cfg(test)]
+mod example_runs;
 mod explain;
-mod filling;
 mod last_line;
 mod last_unread;
 pub mod laws;
-mod line_fault;
-mod lines;
-mod load;
-mod load_fault;
 mod machine;
-mod program;
 mod replay;
-mod replay_state;
 mod run;
 mod run_fault;
 #[cfg(test)]
 mod runs;
-mod statements;
-mod tables;
 #[cfg(test)]
 mod tests;
 

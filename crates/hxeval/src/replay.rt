@@ -1,75 +1,101 @@
-ghost use Rattle.std.specs.Prelude.{◌≡◌, ◌≤◌, ◌<◌, ◌+◌, ◌^◌, false, [], length, IfErr, OnOk, OnErr, IsErrOf};
+ghost use Rattle.std.specs.Prelude.{◌≡◌, ◌≤◌, ◌<◌, ◌+◌, false, [], length, None, IfErr, OnOk, OnErr, IsErrOf, IsSomeAnd};
 ghost use Rattle.std.specs.Io.KnownBytes.{Appends, IsAtEnd, Keeps};
+ghost use Rattle.hx_core.specs.Steps.{EventAsksFor, StepCountsLarge};
+ghost use Rattle.hx_core.specs.World.{FitRules};
 ghost use Rattle.hx_outside.specs.Count.{Rose};
 ghost use Rattle.hx_outside.specs.Prefixes.{AppendsPrefix};
 ghost use Rattle.hx_record.specs.Reading.{Fills};
 ghost use Rattle.hx_record.specs.State.{remaining_work};
-ghost use Rattle.hxeval.specs.Replay.{WritesDecided};
+ghost use Rattle.hxeval.specs.Replay.{ReplayAsksLast, WritesDecided};
 ghost use Rattle.hxeval.specs.RunFault.{IsReplayFault};
-ghost use Rattle.hxeval.specs.Gathering.{Replays, Passes, AnswersEvent, IsFailure};
+ghost use Rattle.hxeval.specs.Gathering.{Replays, Passes, AnswersEvent, GathersAnswer, IsFailure};
 
 use crate::answer::Answers;
-use crate::program::Program;
-use crate::replay_state::{ReplayState, StepFault};
 use crate::run_fault::RunFault;
-use hx_outside::{Sink, SinkFault, Source, write_all};
-use hx_record::{Next, Placed, Reader};
+use hx_core::{Engine, StepFault};
+use hx_outside::{ReMaker, Sink, SinkFault, Source, write_all};
+use hx_record::{Event, Next, Placed, Reader};
+use hx_refs::Refs;
+use hx_rules::Program;
 use std::alloc::Global;
 
 /// The most bytes that a record may have.
 const RECORD_LIMIT: u64 = 4_294_967_296;
 
-/// So many bytes of answers are written, also where more of them could be gathered. One answer more
-/// has at most 32 bytes, with a number of 20 digits and a status of 5, so that no more than 64 KiB
-/// are written at once.
+/// So many bytes of answers are written, also where more of them could be gathered.
 const FULL: usize = 65_504;
+
+/// The code of a request or an end of a connection that isn't open.
+const UNKNOWN_CONN: u32 = 6;
+
+/// The code of the opening of a connection that is open.
+const CONN_OPEN: u32 = 7;
 
 /// Answers the events of a record in order. Answers are gathered while the bytes that were read
 /// decide the next event, and are written before more of the record is read.
 ///
 /// `RecordRefused` exactly where the record is refused, after the answers to the events before.
-/// `Source` and `Sink` only where the count of faults of that one rose, and `NoMemory` where memory
-/// runs out: what was written is then a prefix of the answers, and after `Source` exactly the
-/// answers to the events that the bytes taken decide. No other fault comes.
-pub fn replay<S: Source, K: Sink>(
+/// `Source` and `Sink` only where the count of faults of that one rose, `TooLarge` only where the
+/// maker's count of texts that were too large rose, for a text for which a rule or a command asks,
+/// and `NoMemory` where memory runs out: what was written is then a prefix of the answers, and
+/// after `Source` exactly the answers to the events that the bytes taken decide. No other fault
+/// comes.
+///
+/// The references have the heads and the lists that the rules name.
+pub fn replay<S: Source, K: Sink, M: ReMaker>(
     alloc: Global,
-    program: &Program,
+    rules: Program,
+    refs: Refs,
     record_in: &mut S,
     out: &mut K,
+    maker: &mut M,
 ) -> Result<(), RunFault>
-    ensures replays { Replays program.now (S.left record_in.old)
-        (K.written out.old) (K.written out.new) [] result }
+    requires { FitRules refs rules }
+    ensures replays { Replays (record { rules = rules; references = refs })
+        (S.left record_in.old) (K.written out.old) (K.written out.new) [] result }
     ensures decided { IsErrOf result RunFault.Source
-        → WritesDecided program.now (S.left record_in.old) (S.left record_in.new)
-        (K.written out.old) (K.written out.new) }
+        → WritesDecided (record { rules = rules; references = refs }) (S.left record_in.old)
+        (S.left record_in.new) (K.written out.old) (K.written out.new) }
     ensures at_end { OnOk result (IsAtEnd (S.left record_in.new)) }
     ensures kind { IfErr result IsReplayFault }
     ensures source { IsErrOf result RunFault.Source
         → Rose (S.faults record_in.old) (S.faults record_in.new) }
     ensures sink { IsErrOf result RunFault.Sink → Rose (K.faults out.old) (K.faults out.new) }
     ensures later { K.faults out.old ≤ K.faults out.new }
+    ensures too_large { IsErrOf result RunFault.TooLarge
+        → Rose (M.too_large maker.old) (M.too_large maker.new)
+        × ReplayAsksLast (record { rules = rules; references = refs }) (S.left record_in.old)
+        (M.large maker.new) }
+    // After a text that was too large, the answers before it may fail to be written.
+    ensures uncounted { ¬ (IsErrOf result RunFault.TooLarge) → ¬ (IsErrOf result RunFault.Sink)
+        → ¬ (IsErrOf result RunFault.NoMemory)
+        → (M.too_large maker.new ≡ M.too_large maker.old)
+        × (M.large maker.new ≡ M.large maker.old) }
 {
     let mut answers = Answers::new(alloc);
-    let ended = gather(alloc, program, record_in, out, &mut answers);
+    let ended = gather(alloc, rules, refs, record_in, out, &mut answers, maker);
     write_answers(out, &mut answers)?;
     ended
 }
 
 /// Goes through the record to its end or the first fault. The last answers are left in `answers`,
 /// which has none at the start: they are not written yet.
-fn gather<S: Source, K: Sink>(
+fn gather<S: Source, K: Sink, M: ReMaker>(
     alloc: Global,
-    program: &Program,
+    rules: Program,
+    refs: Refs,
     record_in: &mut S,
     out: &mut K,
     answers: &mut Answers,
+    maker: &mut M,
 ) -> Result<(), RunFault>
-    requires { answers.old ≡ [] }
-    ensures replays { Replays program.now (S.left record_in.old)
-        (K.written out.old) (K.written out.new) answers.new result }
+    requires none { answers.old ≡ [] }
+    requires fit { FitRules refs rules }
+    ensures replays { Replays (record { rules = rules; references = refs })
+        (S.left record_in.old) (K.written out.old) (K.written out.new) answers.new result }
     ensures decided { IsErrOf result RunFault.Source
-        → WritesDecided program.now (S.left record_in.old) (S.left record_in.new)
-        (K.written out.old) (K.written out.new) }
+        → WritesDecided (record { rules = rules; references = refs }) (S.left record_in.old)
+        (S.left record_in.new) (K.written out.old) (K.written out.new) }
     ensures empty { IsErrOf result RunFault.Source → answers.new ≡ [] }
     ensures at_end { OnOk result (IsAtEnd (S.left record_in.new)) }
     ensures kind { IfErr result IsReplayFault }
@@ -77,12 +103,21 @@ fn gather<S: Source, K: Sink>(
         → Rose (S.faults record_in.old) (S.faults record_in.new) }
     ensures sink { IsErrOf result RunFault.Sink → Rose (K.faults out.old) (K.faults out.new) }
     ensures later { K.faults out.old ≤ K.faults out.new }
+    ensures too_large { IsErrOf result RunFault.TooLarge
+        → Rose (M.too_large maker.old) (M.too_large maker.new)
+        × ReplayAsksLast (record { rules = rules; references = refs }) (S.left record_in.old)
+        (M.large maker.new) }
+    ensures uncounted { ¬ (IsErrOf result RunFault.TooLarge)
+        → (M.too_large maker.new ≡ M.too_large maker.old)
+        × (M.large maker.new ≡ M.large maker.old) }
 {
-    let mut state = ReplayState::new(alloc);
+    let mut engine = Engine::new(alloc, rules, refs);
     let mut reader = Reader::new(alloc, RECORD_LIMIT);
     'events: loop {
         match reader.next_decided()? {
-            Next::Event(placed) => answer_event(alloc, program, &mut state, placed, out, answers)?,
+            Next::Event(placed) => {
+                answer_event(&mut engine, placed, out, answers, maker)?;
+            }
             Next::Undecided => read_more(&mut reader, record_in, out, answers)?,
             Next::End => return Ok(()),
         }
@@ -90,31 +125,67 @@ fn gather<S: Source, K: Sink>(
 }
 
 /// Steps over one event, and writes the answers where there are many.
-fn answer_event<K: Sink>(
-    alloc: Global,
-    program: &Program,
-    state: &mut ReplayState,
+fn answer_event<K: Sink, M: ReMaker>(
+    engine: &mut Engine,
     placed: Placed,
     out: &mut K,
     answers: &mut Answers,
+    maker: &mut M,
 ) -> Result<(), RunFault>
-    requires { state.old.requests + 1 < 2 ^ 64 }
-    ensures answers { AnswersEvent program.now state.old state.new placed
+    requires { engine.old.stopped ≡ None }
+    ensures answers { AnswersEvent engine.old.world engine.new.world placed
         (K.written out.old) (K.written out.new) answers.old answers.new result }
+    ensures running { OnOk result (engine.new.stopped ≡ None) }
     ensures kind { IfErr result IsReplayFault }
     ensures source { ¬ (IsErrOf result RunFault.Source) }
     ensures sink { IsErrOf result RunFault.Sink → Rose (K.faults out.old) (K.faults out.new) }
     ensures later { K.faults out.old ≤ K.faults out.new }
+    ensures too_large { IsErrOf result RunFault.TooLarge
+        → Rose (M.too_large maker.old) (M.too_large maker.new)
+        × IsSomeAnd (M.large maker.new) (EventAsksFor engine.old.world placed.event) }
+    ensures uncounted { ¬ (IsErrOf result RunFault.TooLarge)
+        → (M.too_large maker.new ≡ M.too_large maker.old)
+        × (M.large maker.new ≡ M.large maker.old) }
 {
     let Placed { offset, event } = placed;
-    match state.step(alloc, program, event, answers) {
+    match gather_answer(engine, &event, answers, maker) {
         Ok(()) => {
             write_many(out, answers)?;
             Ok(())
         }
-        Err(StepFault::Refused { code }) => Err(RunFault::RecordRefused { offset, code }),
+        Err(StepFault::UnknownConn) => Err(RunFault::RecordRefused {
+            offset,
+            code: UNKNOWN_CONN,
+        }),
+        Err(StepFault::ConnOpen) => Err(RunFault::RecordRefused {
+            offset,
+            code: CONN_OPEN,
+        }),
+        Err(StepFault::TooLarge) => Err(RunFault::TooLarge),
         Err(StepFault::NoMemory) => Err(RunFault::NoMemory),
     }
+}
+
+/// Steps over one event, and gathers its answer; after a fault there are the answers of before.
+fn gather_answer<M: ReMaker>(
+    engine: &mut Engine,
+    event: &Event,
+    answers: &mut Answers,
+    maker: &mut M,
+) -> Result<(), StepFault>
+    requires { engine.old.stopped ≡ None }
+    ensures gathers { GathersAnswer engine.old.world engine.new.world event.now
+        answers.old answers.new result }
+    ensures running { OnOk result (engine.new.stopped ≡ None) }
+    ensures large { StepCountsLarge result (EventAsksFor engine.old.world event.now)
+        (record { too_large = M.too_large maker.old; large = M.large maker.old })
+        (record { too_large = M.too_large maker.new; large = M.large maker.new }) }
+{
+    let answer = engine.step(event, maker)?;
+    let gathered = answers.push(answer.bytes());
+    engine.reuse(answer);
+    gathered?;
+    Ok(())
 }
 
 /// Writes the answers, and reads more of the record. Where it can't, reader and source are as

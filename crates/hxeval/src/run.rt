@@ -1,35 +1,43 @@
-ghost use Rattle.std.specs.Prelude.{◌≡◌, ◌≢◌, ◌≤◌, ◌↔◌, ◌⊎◌, List, ℕ, Ok, Err, None, Some, Contains, [], ◌∷◌, OnOk, IsErrOf, IsSomeAnd};
-ghost use Rattle.std.specs.Option.{option_copied};
+ghost use Rattle.std.specs.Prelude.{◌≡◌, ◌≢◌, ◌≤◌, ◌↔◌, ◌⊎◌, ℕ, Ok, Err, None, Some, Contains, [], ◌∷◌, OnOk, IfOk, IsErrOf, IsSomeAnd};
 ghost use Rattle.std.specs.Io.KnownBytes.{Appends, IsAtEnd};
 ghost use Rattle.hx_outside.specs.Count.{Rose};
-ghost use Rattle.hxeval.specs.Run.{config_name, texts_of, setting, Ran, HasStatus, Headline};
-ghost use Rattle.hxeval.specs.Run.{RunJudgesLast, RunReads, SourceFails};
+ghost use Rattle.hx_outside.specs.Prefixes.{AppendsPrefix};
+ghost use Rattle.hxeval.specs.Command.{asked_of};
+ghost use Rattle.hxeval.specs.Run.{Asked, check_line, command_of, texts_of, setting, Checked, Ran, HasStatus, Headline};
+ghost use Rattle.hxeval.specs.Run.{RunAsksLast, RunJudgesLast, RunReads, SourceFails};
 ghost use Rattle.hxeval.specs.RunFault.{Attempted, Finishes};
+ghost use Rattle.hxeval.specs.declared.command.Task.{Task};
 
-use crate::load::load;
+use crate::command::{Command, Task, command_of};
 use crate::replay::replay;
 use crate::run_fault::RunFault;
+use hx_load::load;
 use hx_outside::{Files, ReMaker, Sink, SinkFault, Source, write_all};
-use std::alloc::Global;
+use hx_refs::{Limits, Refs};
+use hx_rules::Program;
+use itoa::Buffer;
+use std::alloc::{AllocError, Global};
 
 /// Runs the command that `words` are, the words of a command line without the program's name, under
 /// the environment `env`, and answers the exit status.
 ///
 /// `run CONFIG` reads the file CONFIG as a configuration, and answers the events of the record in
-/// order. All answers that the bytes read so far decide are written before more is read. Files that
-/// the configuration names are read through `files` too, and regular expressions are made by
-/// `maker`.
+/// order: requests, and lines of the management socket. All answers that the bytes read so far
+/// decide are written before more is read.
+/// `check CONFIG` judges the configuration alone, and where it is accepted writes `ok RULES REFS`:
+/// how many rules and how many references it has. Files that the configuration names are read
+/// through `files` too, and regular expressions are made by `maker`.
 ///
 /// | Status | Comes |
 /// |---|---|
-/// | 0 | the record was answered to its end |
+/// | 0 | the record was answered to its end, or the configuration is accepted |
 /// | 2 | the words are no command; nothing is touched |
 /// | 3 | the configuration is refused: `config LINE CODE` is written, alone |
 /// | 4 | the record is refused: the answers before, and then `record OFFSET CODE` are written |
 /// | 5 | the configuration, a file that it names, or the source can't be read |
 /// | 6 | the sink failed |
 /// | 7 | memory ran out |
-/// | 8 | a regular expression of the configuration or its files is too large for the maker |
+/// | 8 | a regular expression is too large for the maker |
 pub fn run<F: Files, S: Source, K: Sink, M: ReMaker>(
     alloc: Global,
     words: &[Vec<u8>],
@@ -40,110 +48,157 @@ pub fn run<F: Files, S: Source, K: Sink, M: ReMaker>(
     maker: &mut M,
 ) -> u8
     ensures status { Contains (0 ∷ 2 ∷ 3 ∷ 4 ∷ 5 ∷ 6 ∷ 7 ∷ 8 ∷ []) result }
-    ensures usage { (result ≡ 2) ↔ (config_name (texts_of words.now) ≡ None) }
+    ensures usage { (result ≡ 2) ↔ (command_of (texts_of words.now) ≡ None) }
     ensures untouched { result ≡ 2
         → (files.new ≡ files.old) × (record_in.new ≡ record_in.old) × (out.new ≡ out.old)
         × (maker.new ≡ maker.old) }
 
-    ensures headline { (name : List ℕ) → config_name (texts_of words.now) ≡ Some name → result ≡ 0
-        → Headline (setting env.now (F.held files.old) name (S.left record_in.old))
+    ensures headline { (command : Asked) → command_of (texts_of words.now) ≡ Some command
+        → command.task ≡ Task.Replay → result ≡ 0
+        → Headline (setting env.now (F.held files.old) command (S.left record_in.old))
         (K.written out.old) (K.written out.new) }
-    ensures ran { (name : List ℕ) → config_name (texts_of words.now) ≡ Some name
-        → Ran (setting env.now (F.held files.old) name (S.left record_in.old))
+    ensures checked { (command : Asked) → command_of (texts_of words.now) ≡ Some command
+        → command.task ≡ Task.Check → result ≡ 0
+        → Checked (setting env.now (F.held files.old) command (S.left record_in.old))
+        (K.written out.old) (K.written out.new) }
+    ensures ran { (command : Asked) → command_of (texts_of words.now) ≡ Some command
+        → Ran (setting env.now (F.held files.old) command (S.left record_in.old))
         (K.written out.old) (K.written out.new) result }
-    ensures at_end { result ≡ 0 → IsAtEnd (S.left record_in.new) }
+    ensures at_end { (command : Asked) → command_of (texts_of words.now) ≡ Some command
+        → command.task ≡ Task.Replay → result ≡ 0 → IsAtEnd (S.left record_in.new) }
     ensures config_refused { result ≡ 3 → record_in.new ≡ record_in.old }
+    ensures unread { (command : Asked) → command_of (texts_of words.now) ≡ Some command
+        → command.task ≡ Task.Check → record_in.new ≡ record_in.old }
 
-    ensures outside { (name : List ℕ) → config_name (texts_of words.now) ≡ Some name → result ≡ 5
+    ensures outside { (command : Asked) → command_of (texts_of words.now) ≡ Some command
+        → result ≡ 5
         → (Rose (F.faults files.old) (F.faults files.new)
         × IsSomeAnd (F.last files.new)
-        (RunReads (setting env.now (F.held files.old) name (S.left record_in.old)))
+        (RunReads (setting env.now (F.held files.old) command (S.left record_in.old)))
         × Appends (K.written out.old) (K.written out.new) [])
         ⊎ (Rose (S.faults record_in.old) (S.faults record_in.new)
-        × SourceFails (setting env.now (F.held files.old) name (S.left record_in.old))
+        × SourceFails (setting env.now (F.held files.old) command (S.left record_in.old))
         (S.left record_in.new) (K.written out.old) (K.written out.new)) }
     ensures sink { result ≡ 6 → Rose (K.faults out.old) (K.faults out.new) }
-    ensures too_large { (name : List ℕ) → config_name (texts_of words.now) ≡ Some name
+    // A text of the configuration is too large before anything is written; one that a rule or a
+    // command adds may be so after some answers, of which `ran` says that they are a prefix.
+    ensures too_large { (command : Asked) → command_of (texts_of words.now) ≡ Some command
         → result ≡ 8 → Rose (M.too_large maker.old) (M.too_large maker.new)
-        × RunJudgesLast (setting env.now (F.held files.old) name (S.left record_in.old))
-        (M.large maker.new) × Appends (K.written out.old) (K.written out.new) [] }
+        × ((RunJudgesLast (setting env.now (F.held files.old) command (S.left record_in.old))
+        (M.large maker.new) × Appends (K.written out.old) (K.written out.new) [])
+        ⊎ RunAsksLast (setting env.now (F.held files.old) command (S.left record_in.old))
+        (M.large maker.new)) }
     // Where nothing outside failed, the status is the one that the configuration and the record
     // have, unless memory ran out.
-    ensures complete { (name : List ℕ) → config_name (texts_of words.now) ≡ Some name
+    ensures complete { (command : Asked) → command_of (texts_of words.now) ≡ Some command
         → ¬ (Rose (F.faults files.old) (F.faults files.new))
         → ¬ (Rose (S.faults record_in.old) (S.faults record_in.new))
         → ¬ (Rose (K.faults out.old) (K.faults out.new))
         → ¬ (Rose (M.too_large maker.old) (M.too_large maker.new))
         → (result ≡ 7)
-        ⊎ HasStatus (setting env.now (F.held files.old) name (S.left record_in.old)) result }
+        ⊎ HasStatus (setting env.now (F.held files.old) command (S.left record_in.old)) result }
 
     ensures held { F.held files.new ≡ F.held files.old }
     // No file was read in vain but the configuration and those to which it comes.
-    ensures named { (name : List ℕ) → config_name (texts_of words.now) ≡ Some name
+    ensures named { (command : Asked) → command_of (texts_of words.now) ≡ Some command
         → (F.last files.new ≡ F.last files.old)
         ⊎ IsSomeAnd (F.last files.new)
-        (RunReads (setting env.now (F.held files.old) name (S.left record_in.old))) }
+        (RunReads (setting env.now (F.held files.old) command (S.left record_in.old))) }
 {
-    let Some(name) = config_name(words) else {
+    let Some(command) = command_of(words) else {
         return 2;
     };
-    match attempt(alloc, env, files, name, record_in, out, maker) {
+    match attempt(alloc, env, files, command, record_in, out, maker) {
         Ok(()) => 0,
         Err(fault) => finish(alloc, fault, out),
     }
 }
 
-/// The name of the configuration, where the words are `run CONFIG`.
-pub fn config_name(words: &[Vec<u8>]) -> Option<&[u8]>
-    ensures { option_copied result ≡ config_name (texts_of words.now) }
-{
-    match words {
-        [command, name] if command.as_slice() == b"run".as_slice() => Some(name.as_slice()),
-        _ => None,
-    }
-}
-
-/// Loads the configuration of this name and replays the record, up to the first fault.
+/// Loads the configuration of a command, and replays the record up to the first fault, or writes
+/// that the configuration is accepted.
 fn attempt<F: Files, S: Source, K: Sink, M: ReMaker>(
     alloc: Global,
     env: &[(Vec<u8>, Vec<u8>)],
     files: &mut F,
-    name: &[u8],
+    command: Command<'_>,
     record_in: &mut S,
     out: &mut K,
     maker: &mut M,
 ) -> Result<(), RunFault>
     ensures attempted { Attempted
-        (setting env.now (F.held files.old) name.now (S.left record_in.old))
+        (setting env.now (F.held files.old) (asked_of command.entry) (S.left record_in.old))
         (K.written out.old) (K.written out.new) result }
-    ensures at_end { OnOk result (IsAtEnd (S.left record_in.new)) }
+    ensures at_end { command.entry.task ≡ Task.Replay
+        → OnOk result (IsAtEnd (S.left record_in.new)) }
     ensures config_refused { (line code : ℕ) → result ≡ Err (RunFault.ConfigRefused line code)
         → record_in.new ≡ record_in.old }
+    ensures unread { command.entry.task ≡ Task.Check → record_in.new ≡ record_in.old }
     ensures files_failed { IsErrOf result RunFault.Files
         → Rose (F.faults files.old) (F.faults files.new)
-        × IsSomeAnd (F.last files.new)
-        (RunReads (setting env.now (F.held files.old) name.now (S.left record_in.old)))
+        × IsSomeAnd (F.last files.new) (RunReads
+        (setting env.now (F.held files.old) (asked_of command.entry) (S.left record_in.old)))
         × (out.new ≡ out.old) }
     ensures source_failed { IsErrOf result RunFault.Source
         → Rose (S.faults record_in.old) (S.faults record_in.new)
-        × SourceFails (setting env.now (F.held files.old) name.now (S.left record_in.old))
+        × SourceFails
+        (setting env.now (F.held files.old) (asked_of command.entry) (S.left record_in.old))
         (S.left record_in.new) (K.written out.old) (K.written out.new) }
     ensures sink_failed { IsErrOf result RunFault.Sink
         → Rose (K.faults out.old) (K.faults out.new) }
     ensures too_large { IsErrOf result RunFault.TooLarge
         → Rose (M.too_large maker.old) (M.too_large maker.new)
-        × RunJudgesLast (setting env.now (F.held files.old) name.now (S.left record_in.old))
-        (M.large maker.new) × (out.new ≡ out.old) }
+        × ((RunJudgesLast
+        (setting env.now (F.held files.old) (asked_of command.entry) (S.left record_in.old))
+        (M.large maker.new) × (out.new ≡ out.old))
+        ⊎ RunAsksLast
+        (setting env.now (F.held files.old) (asked_of command.entry) (S.left record_in.old))
+        (M.large maker.new)) }
     ensures later { K.faults out.old ≤ K.faults out.new }
     ensures held { F.held files.new ≡ F.held files.old }
     ensures named { (F.last files.new ≡ F.last files.old)
-        ⊎ IsSomeAnd (F.last files.new)
-        (RunReads (setting env.now (F.held files.old) name.now (S.left record_in.old))) }
+        ⊎ IsSomeAnd (F.last files.new) (RunReads
+        (setting env.now (F.held files.old) (asked_of command.entry) (S.left record_in.old))) }
 {
-    let config = files.read(alloc, name)?;
-    let program = load(alloc, env, config.as_slice(), files, maker)?;
-    replay(alloc, &program, record_in, out)?;
-    Ok(())
+    let config = files.read(alloc, command.name)?;
+    let (rules, refs) = load(alloc, config.as_slice(), env, files, maker, Limits::usual())?;
+    match command.task {
+        Task::Replay => replay(alloc, rules, refs, record_in, out, maker),
+        Task::Check => Ok(write_check(alloc, &rules, &refs, out)?),
+    }
+}
+
+/// Writes that a configuration is accepted, and how many rules and references it has.
+fn write_check<K: Sink>(
+    alloc: Global,
+    rules: &Program,
+    refs: &Refs,
+    out: &mut K,
+) -> Result<(), SinkFault>
+    ensures ok { OnOk result (Appends (K.written out.old) (K.written out.new)
+        (check_line rules.now refs.now)) }
+    ensures prefix { AppendsPrefix (K.written out.old) (K.written out.new)
+        (check_line rules.now refs.now) }
+    ensures failed { IsErrOf result SinkFault.Failed → Rose (K.faults out.old) (K.faults out.new) }
+    ensures later { K.faults out.old ≤ K.faults out.new }
+{
+    let Ok(line) = check_line(alloc, rules, refs) else {
+        return Err(SinkFault::NoMemory);
+    };
+    write_all(out, line.as_slice())
+}
+
+/// The line of a configuration that is accepted.
+fn check_line(alloc: Global, rules: &Program, refs: &Refs) -> Result<Vec<u8>, AllocError>
+    ensures { IfOk result (λ line. line.items ≡ check_line rules.now refs.now) }
+{
+    let mut digits = Buffer::new();
+    let mut line = Vec::new(alloc);
+    line.extend_from_slice(b"ok ")?;
+    line.extend_from_slice(digits.format(rules.rules()).as_bytes())?;
+    line.extend_from_slice(b" ")?;
+    line.extend_from_slice(digits.format(refs.len()).as_bytes())?;
+    line.extend_from_slice(b"\n")?;
+    Ok(line)
 }
 
 /// Writes the line of a refusal, and answers the status.

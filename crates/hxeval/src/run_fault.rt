@@ -3,7 +3,7 @@ ghost use Rattle.std.specs.String.{string_bytes};
 ghost use Rattle.hxeval.specs.Outcome.{last_line};
 ghost use Rattle.hxeval.specs.RunFault.{fault_end, fault_status};
 
-use crate::load_fault::LoadFault;
+use hx_load::LoadFault;
 use hx_outside::{FileFault, SinkFault};
 use hx_record::RecordFault;
 use std::alloc::{AllocError, Global};

@@ -5,7 +5,8 @@
 //! with these bytes, `more` adds bytes as they are. `name` asks for another configuration, and
 //! `file` adds a file of this name with these bytes. `open`, `read`, `write` and `large` number a
 //! file, a read and a write that fail, and an expression that is too large. `run` has the status
-//! and the text. `~` stands for a line feed, `^` for CR and a line feed.
+//! and the text of `run NAME`, and `check` those of `check NAME`. `~` stands for a line feed, `^`
+//! for CR and a line feed.
 
 /// The runs, one after the other.
 pub const RUNS: &[u8] = b"config http-request deny if { src,map_ip(nets) -m str inner }
@@ -180,7 +181,7 @@ large 1
 run 8
 config http-request allow
 head GET /a HTTP/1.1^^
-run 3 config 1 9~
+run 0 1 pass -~
 config http-request tarpit
 head GET /a HTTP/1.1^^
 run 3 config 1 9~
@@ -231,7 +232,7 @@ head GET /a HTTP/1.1^^
 run 3 config 1 3~
 config http-request set-header Y \"$A\"
 head GET /a HTTP/1.1^^
-run 3 config 1 9~
+run 0 1 pass -~| GET /a HTTP/1.1~| Y: x~
 config \r^
 head GET /a HTTP/1.1^^
 run 3 config 1 9~
@@ -287,7 +288,7 @@ more close 1~req 1 0~~
 run 4 record 46 6~
 config
 more cli 1 show map
-run 4 record 38 1~
+run 0 @1 # id (file)~@1 ok~
 config
 record
 more hello
@@ -329,4 +330,82 @@ config
 record
 more conn 1 ::1 65536 1.1.1.1 1~
 run 4 record 0 2~
+config http-request set-header X %[src]
+head GET /a HTTP/1.1^Host: a^x: 1^^
+head GET /a HTTP/1.0^X: 192.0.2.7^^
+run 0 1 pass -~| GET /a HTTP/1.1~| Host: a~| X: 192.0.2.7~2 pass -~
+config http-request del-header X~http-request set-method PUT~http-request set-query b=%[method]
+head GET /a HTTP/1.0^X: 1^x: 2^^
+run 0 1 pass -~| PUT /a?b=PUT HTTP/1.0~
+config http-request set-header X 1~http-request deny
+head GET /a HTTP/1.1^^
+run 0 1 deny 403~
+config http-request set-path a
+head GET /a HTTP/1.1^^
+head GET /a^
+run 0 1 error 500~2 bad 400~
+config http-request strict-mode off~http-request set-path a~http-request set-uri /b
+head GET /a HTTP/1.1^^
+run 0 1 pass -~| GET /b HTTP/1.1~
+config http-request allow~http-request deny~redirect scheme https code 301
+head GET /a?b=1 HTTP/1.1^Host: a.example^^
+run 0 1 redirect 301~| location: https://a.example/a?b=1~
+config http-request redirect prefix /shop drop-query if { path /a }~http-request deny
+head GET /a?b=1 HTTP/1.1^^
+head GET /b HTTP/1.1^^
+run 0 1 redirect 302~| location: /shop/a~2 deny 403~
+config use_backend b%[path,field(2,/)] if { path -m beg /a }~default_backend rest
+head GET /a1 HTTP/1.1^^
+head GET /b HTTP/1.1^^
+run 0 1 pass ba1~2 pass rest~
+config use_backend b if { path /a }~use_backend c
+head GET /a HTTP/1.1^^
+head GET /b HTTP/1.1^^
+run 0 1 pass b~2 pass c~
+config acl seen path -f list~http-request deny if seen~http-request add-acl(list) %[path]
+file list /x~
+head GET /a HTTP/1.1^^
+head GET /b HTTP/1.1^^
+head GET /a HTTP/1.1^^
+head GET /x HTTP/1.1^^
+run 0 1 pass -~2 pass -~3 deny 403~4 deny 403~
+config http-request set-header Y 1 if { path,map(m) -m str v }~http-request set-map(m) %[path] v
+file m /a w~
+head GET /a HTTP/1.1^^
+head GET /a HTTP/1.1^^
+head GET /b HTTP/1.1^^
+head GET /b HTTP/1.1^^
+run 0 1 pass -~2 pass -~| GET /a HTTP/1.1~| Y: 1~3 pass -~4 pass -~| GET /b HTTP/1.1~| Y: 1~
+config acl a path -m reg -f list~http-request add-acl(list) %[path]
+file list x~
+head GET /a HTTP/1.1^^
+head GET /b HTTP/1.1^^
+large 3
+run 8 1 pass -~
+config http-request deny~http-request set-header Y 1%
+run 3 config 2 15~
+config http-request deny~http-request add-acl(list) %[path]
+run 3 config 2 21~
+config default_backend a~default_backend b
+run 3 config 2 19~
+config acl a path -f list~http-request deny if { src ::1 }~redirect location /~use_backend b if !a
+file list /x~
+read 1
+check 0 ok 3 2~
+config frontend a~mode http
+more hello
+check 0 ok 0 0~
+config http-request tarpit
+check 3 config 1 9~
+config acl a path -f gone
+check 5
+config acl a path -m reg a
+large 1
+check 8
+config http-request deny
+write 1
+check 6
+config http-request deny
+write 2
+check 6 ok\x20
 ";

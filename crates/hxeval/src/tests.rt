@@ -1,15 +1,19 @@
+use crate::action_runs::ACTION_RUNS;
+use crate::command_runs::COMMAND_RUNS;
+use crate::example_runs::EXAMPLE_RUNS;
 use crate::run::run;
 use crate::runs::RUNS;
 use hx_outside::{FailMaker, MemFiles, MemSink, MemSource, PlainMaker, read_to_end};
 use hx_text::{cut_at, read_number};
 use std::alloc::Global;
+use std::process::Abort;
 use std::test::Fail;
 
 /// The line that opens connection 1.
 const CONN: &[u8] = b"conn 1 192.0.2.7 40000 203.0.113.1 80\n";
 
-/// A run of `run NAME` over a configuration named `c` and other files, with the variable A of value
-/// `x`, and the numbers of the calls that fail.
+/// A run of `run NAME` or `check NAME` over a configuration named `c` and other files, with the
+/// variable A of value `x`, and the numbers of the calls that fail.
 #[derive(Drop)]
 struct Run {
     name: Vec<u8>,
@@ -47,6 +51,9 @@ impl Run {
             self.record.extend_from_slice(bytes.as_slice())?;
         } else if word == b"head".as_slice() {
             append_request(alloc, &mut self.record, bytes.as_slice())?;
+        } else if word == b"crowd".as_slice() {
+            let head = crowded_head(alloc, number_of(text))?;
+            append_request(alloc, &mut self.record, head.as_slice())?;
         } else if word == b"file".as_slice() {
             let (name, text) = word_and_text(bytes.as_slice());
             self.files.push((name.to_vec(alloc)?, text.to_vec(alloc)?))?;
@@ -64,9 +71,9 @@ impl Run {
         Ok(true)
     }
 
-    /// Its status and what it writes.
-    fn outcome(&self, alloc: Global) -> Result<(u8, Vec<u8>), Fail> {
-        let words = vec![in alloc; b"run".to_vec(alloc)?, self.name.as_slice().to_vec(alloc)?]?;
+    /// The status of the command with this first word, and what it writes.
+    fn outcome(&self, alloc: Global, task: &[u8]) -> Result<(u8, Vec<u8>), Fail> {
+        let words = vec![in alloc; task.to_vec(alloc)?, self.name.as_slice().to_vec(alloc)?]?;
         let env = vec![in alloc; (b"A".to_vec(alloc)?, b"x".to_vec(alloc)?)]?;
         let config = self.config.as_slice().to_vec(alloc)?;
         let mut files = vec![in alloc; (b"c".to_vec(alloc)?, config)]?;
@@ -120,6 +127,16 @@ fn append_request(alloc: Global, record: &mut Vec<u8>, head: &[u8]) -> Result<()
     Ok(())
 }
 
+/// The head of a request with so many header lines `A: 1`.
+fn crowded_head(alloc: Global, lines: u64) -> Result<Vec<u8>, Fail> {
+    let mut head = b"GET / HTTP/1.1\r\n".to_vec(alloc)?;
+    for _ in 0..lines {
+        head.extend_from_slice(b"A: 1\r\n")?;
+    }
+    head.extend_from_slice(b"\r\n")?;
+    Ok(head)
+}
+
 /// The first word of a line, and what stands after the space that follows it.
 fn word_and_text(line: &[u8]) -> (&[u8], &[u8]) {
     match cut_at(b' ', line) {
@@ -128,18 +145,17 @@ fn word_and_text(line: &[u8]) -> (&[u8], &[u8]) {
     }
 }
 
-#[test]
-fn runs_end_and_answer_as_their_lines_say(rt: HostRuntime) -> Result<(), Fail> {
-    let alloc = rt.alloc();
+/// Compares the runs that the lines describe with what they say, and counts them.
+fn compared(rt: &impl Abort, alloc: Global, lines: &[u8]) -> Result<u32, Fail> {
     let mut made = Run::new(alloc, Vec::new(alloc), Vec::new(alloc))?;
     let mut count = 0u32;
-    for line in RUNS.split(|b| *b == b'\n') {
+    for line in lines.split(|b| *b == b'\n') {
         let (word, text) = word_and_text(line);
         if word == b"config".as_slice() {
             made = Run::new(alloc, decoded(alloc, text)?, CONN.to_vec(alloc)?)?;
-        } else if word == b"run".as_slice() {
+        } else if word == b"run".as_slice() || word == b"check".as_slice() {
             let (status, answers) = word_and_text(text);
-            let (ended, written) = made.outcome(alloc)?;
+            let (ended, written) = made.outcome(alloc, word)?;
             assert_eq!(rt; u64::from(ended), number_of(status), "at run {count}");
             assert_eq!(rt; written, decoded(alloc, answers)?, "at run {count}");
             count = count.saturating_add(1);
@@ -147,7 +163,15 @@ fn runs_end_and_answer_as_their_lines_say(rt: HostRuntime) -> Result<(), Fail> {
             assert!(rt; made.take(alloc, word, text)?, "at run {count}");
         }
     }
-    assert_eq!(rt; count, 104);
+    Ok(count)
+}
+
+#[test]
+fn runs_end_and_answer_as_their_lines_say(rt: HostRuntime) -> Result<(), Fail> {
+    assert_eq!(rt; compared(&rt, rt.alloc(), RUNS)?, 126);
+    assert_eq!(rt; compared(&rt, rt.alloc(), ACTION_RUNS)?, 59);
+    assert_eq!(rt; compared(&rt, rt.alloc(), EXAMPLE_RUNS)?, 3);
+    assert_eq!(rt; compared(&rt, rt.alloc(), COMMAND_RUNS)?, 29);
     Ok(())
 }
 
@@ -323,5 +347,153 @@ fn many_acls_and_long_conditions_are_answered_whole(rt: HostRuntime) -> Result<(
     let (status, written) = ran_in_pieces(alloc, config, record, 4_096)?;
     assert_eq!(rt; status, 0);
     assert_eq!(rt; written.as_slice(), b"1 pass -\n2 deny 403\n".as_slice());
+    Ok(())
+}
+
+#[test]
+fn many_rules_and_long_formats_are_answered_whole(rt: HostRuntime) -> Result<(), Fail> {
+    let alloc = rt.alloc();
+    let mut config = Vec::new(alloc);
+    for number in 0..10_000u32 {
+        let rule = format!(in alloc; "http-request set-header N {number}\n")?;
+        config.extend_from_slice(rule.as_bytes())?;
+    }
+    // 1,000 parts: 500 expressions, and a byte after each
+    config.extend_from_slice(b"http-request set-header P ")?;
+    let mut parts = Vec::new(alloc);
+    for _ in 0..500u32 {
+        config.extend_from_slice(b"%[dst_port].")?;
+        parts.extend_from_slice(b"80.")?;
+    }
+    let record = two_requests(alloc, "/a", "/b")?;
+    let (status, written) = ran_in_pieces(alloc, config, record, 4_096)?;
+    let mut text = Vec::new(alloc);
+    for (number, path) in [(1u32, "/a"), (2, "/b")] {
+        let answer = format!(in alloc; "{number} pass -\n| GET {path} HTTP/1.1\n| N: 9999\n| P: ")?;
+        text.extend_from_slice(answer.as_bytes())?;
+        text.extend_from_slice(parts.as_slice())?;
+        text.extend_from_slice(b"\n")?;
+    }
+    assert_eq!(rt; status, 0);
+    assert_eq!(rt; written, text);
+    Ok(())
+}
+
+#[test]
+fn long_header_lines_are_rewritten_whole(rt: HostRuntime) -> Result<(), Fail> {
+    let alloc = rt.alloc();
+    let config = b"http-request set-path /b\n\
+        http-request replace-header A ^(x+)$ \\1y\n\
+        http-request replace-value A ^x(.*)$ <\\1\n\
+        http-request set-query q\n"
+        .to_vec(alloc)?;
+    let value = vec![in alloc; b'x'; 8_192]?;
+    let mut head = b"GET /a HTTP/1.1\r\n".to_vec(alloc)?;
+    let mut text = b"1 pass -\n| GET /b?q HTTP/1.1\n".to_vec(alloc)?;
+    for _ in 0..101u32 {
+        head.extend_from_slice(b"A: ")?;
+        head.extend_from_slice(value.as_slice())?;
+        head.extend_from_slice(b"\r\n")?;
+        text.extend_from_slice(b"| A: <")?;
+        text.extend_from_slice(&value.as_slice()[1..])?;
+        text.extend_from_slice(b"y\n")?;
+    }
+    head.extend_from_slice(b"\r\n")?;
+    let mut record = CONN.to_vec(alloc)?;
+    append_request(alloc, &mut record, head.as_slice())?;
+    let (status, written) = ran_in_pieces(alloc, config, record, 65_536)?;
+    assert_eq!(rt; status, 0);
+    assert_eq!(rt; written, text);
+    Ok(())
+}
+
+/// Appends a text for each number from `first` to `last`, with the number between two others.
+fn append_numbered(
+    alloc: Global,
+    bytes: &mut Vec<u8>,
+    first: u32,
+    last: u32,
+    before: &str,
+    after: &str,
+) -> Result<(), Fail> {
+    for number in first..=last {
+        bytes.extend_from_slice(format!(in alloc; "{before}{number}{after}")?.as_bytes())?;
+    }
+    Ok(())
+}
+
+/// Appends what session 1 is told of so many entries of version 0, of which each key is the number.
+fn append_entries(alloc: Global, text: &mut Vec<u8>, last: u32) -> Result<(), Fail> {
+    for number in 1..=last {
+        let line = format!(in alloc; "@1 0x{number:016x} /{number}\n")?;
+        text.extend_from_slice(line.as_bytes())?;
+    }
+    Ok(())
+}
+
+/// A record in which 1,000 payloads are open at once, each with one entry, and then one has
+/// 100,000; and what it is answered.
+fn long_payloads(alloc: Global) -> Result<(Vec<u8>, Vec<u8>), Fail> {
+    let mut record = CONN.to_vec(alloc)?;
+    append_numbered(alloc, &mut record, 1, 1_000, "cli ", " add acl list <<\n")?;
+    for id in 1..1_001u32 {
+        record.extend_from_slice(format!(in alloc; "cli {id} /{id}\n")?.as_bytes())?;
+    }
+    append_numbered(alloc, &mut record, 1, 1_000, "cli ", "\n")?;
+    record.extend_from_slice(b"cli 1 add acl list <<\n")?;
+    append_numbered(alloc, &mut record, 1_001, 101_000, "cli 1 /", "\n")?;
+    record.extend_from_slice(b"cli 1\ncli 1 show acl list\n")?;
+    let mut text = Vec::new(alloc);
+    append_numbered(alloc, &mut text, 1, 1_000, "@", " ok\n")?;
+    text.extend_from_slice(b"@1 ok\n")?;
+    append_entries(alloc, &mut text, 101_000)?;
+    text.extend_from_slice(b"@1 ok\n")?;
+    Ok((record, text))
+}
+
+/// Appends to a record and its answers 10,000 versions that are prepared, of which the last becomes
+/// the current one between two requests.
+fn append_versions(alloc: Global, record: &mut Vec<u8>, text: &mut Vec<u8>) -> Result<(), Fail> {
+    for _ in 0..10_000u32 {
+        record.extend_from_slice(b"cli 1 prepare acl list\n")?;
+    }
+    record.extend_from_slice(b"cli 1 add acl @10000 list /v\ncli 1 show acl\n")?;
+    append_request(alloc, record, b"GET /101000 HTTP/1.1\r\n\r\n")?;
+    record.extend_from_slice(b"cli 1 commit acl @10000 list\n")?;
+    append_request(alloc, record, b"GET /101000 HTTP/1.1\r\n\r\n")?;
+    append_request(alloc, record, b"GET /v HTTP/1.1\r\n\r\n")?;
+    record.extend_from_slice(b"cli 1 show acl\n")?;
+    append_numbered(
+        alloc,
+        text,
+        1,
+        10_000,
+        "@1 New version created: ",
+        "\n@1 ok\n",
+    )?;
+    text.extend_from_slice(
+        b"@1 ok\n@1 # id (file)\n\
+        @1 0 (list) curr_ver=0 next_ver=10000 entry_cnt=101001\n@1 ok\n\
+        1 deny 403\n@1 ok\n2 pass -\n3 deny 403\n@1 # id (file)\n\
+        @1 0 (list) curr_ver=10000 next_ver=10000 entry_cnt=1\n@1 ok\n",
+    )?;
+    Ok(())
+}
+
+#[test]
+fn long_payloads_and_many_sessions_and_versions_are_answered_whole(
+    rt: HostRuntime,
+) -> Result<(), Fail> {
+    let alloc = rt.alloc();
+    let config = b"http-request deny if { path -f list }".to_vec(alloc)?;
+    let files = vec![in alloc;
+        (b"c".to_vec(alloc)?, config),
+        (b"list".to_vec(alloc)?, Vec::new(alloc)),
+    ]?;
+    let (mut record, mut text) = long_payloads(alloc)?;
+    append_versions(alloc, &mut record, &mut text)?;
+    let (status, written) = ran_over(alloc, files, record, 65_536)?;
+    assert_eq!(rt; status, 0);
+    assert_eq!(rt; written, text);
     Ok(())
 }

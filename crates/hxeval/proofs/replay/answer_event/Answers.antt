@@ -1,15 +1,20 @@
 use Rattle.std.proofs.lemmas.Result.{err_from_is_err_and}
-use Rattle.hxeval.proofs.ReplayLemmas.{event_lost, event_unanswered}
+use Rattle.hxeval.proofs.ReplayLemmas.{event_lost, event_too_large, event_unanswered}
 use Rattle.hxeval.proofs.replay.answer_event.Goals as goal
 
 pub returns-in_err-write_many-in-Ok-clause-answers : goal.returns-in_err-write_many-in-Ok-clause-answers
 returns-in_err-write_many-in-Ok-clause-answers g c =
     let p = err_from_is_err_and c.from_residual.result c.from_residual.ensures.1 in
-    rw (p.1, p.2) (event_lost c.args.program.now c.args.state.now c.step.new.self c.args.placed
-    (g.K.Sink.written c.args.out.now) (g.K.Sink.written c.write_many.new.out) c.args.answers.now c.step.new.answers c.write_many.new.answers
-    c.in_err-write_many-in-Ok.field-0.0 c.in-Ok.ensures c.in_err-write_many-in-Ok.ensures.prefix c.in_err-write_many-in-Ok.ensures.err)
+    rw (p.1, p.2) (event_lost c.args.engine.now.world c.gather_answer.new.engine.world c.args.placed
+    (g.K.Sink.written c.args.out.now) (g.K.Sink.written c.write_many.new.out) c.args.answers.now c.gather_answer.new.answers c.write_many.new.answers
+    c.in_err-write_many-in-Ok.field-0.0 c.in-Ok.ensures.gathers c.in_err-write_many-in-Ok.ensures.prefix c.in_err-write_many-in-Ok.ensures.err)
 
-pub returns-in-Err-NoMemory-clause-answers : goal.returns-in-Err-NoMemory-clause-answers
-returns-in-Err-NoMemory-clause-answers g c =
-    event_unanswered c.args.program.now c.args.state.now c.step.new.self c.args.placed (g.K.Sink.written c.args.out.now) c.args.answers.now c.step.new.answers
-    (rw c.in-Err-NoMemory.field-0-is at c.in-Err-NoMemory.ensures)
+pub returns-clause-answers : goal.returns-clause-answers
+returns-clause-answers g c =
+    event_unanswered c.args.engine.now.world c.gather_answer.new.engine.world c.args.placed (g.K.Sink.written c.args.out.now) c.args.answers.now c.gather_answer.new.answers
+    (rw c.in-Err-NoMemory.field-0-is at c.in-Err-NoMemory.ensures.gathers)
+
+pub returns-in-Err-TooLarge-clause-answers : goal.returns-in-Err-TooLarge-clause-answers
+returns-in-Err-TooLarge-clause-answers g c =
+    event_too_large c.args.engine.now.world c.gather_answer.new.engine.world c.args.placed (g.K.Sink.written c.args.out.now) c.args.answers.now c.gather_answer.new.answers
+    (rw c.in-Err-TooLarge.field-0-is at c.in-Err-TooLarge.ensures.gathers)

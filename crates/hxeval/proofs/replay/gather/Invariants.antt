@@ -1,4 +1,4 @@
-use Rattle.std.proofs.Common.{◌≡◌, ◌≤◌, true}
+use Rattle.std.proofs.Common.{◌≡◌, ◌≤◌, true, None}
 use Rattle.std.specs.Io.KnownBytes.{IsAtEnd}
 use Rattle.hx_record.specs.State.{remaining_work}
 use Rattle.hxeval.specs.Replay.{record_limit}
@@ -7,13 +7,15 @@ use Rattle.hxeval.proofs.replay.gather.Given as goal
 
 abbrev pub invariant-events : goal.invariant-events
 invariant-events g l = record {
-  progress : Progress AreSame l.program l.state l.reader (g.S.Source.left l.fn.record_in) (g.S.Source.left l.record_in)
-      (g.K.Sink.written l.fn.out) (g.K.Sink.written l.out) l.answers;
+  progress : Progress AreSame (record { rules = l.fn.rules; references = l.fn.refs }) l.engine.world l.reader (g.S.Source.left l.fn.record_in)
+      (g.S.Source.left l.record_in) (g.K.Sink.written l.fn.out) (g.K.Sink.written l.out) l.answers;
   within : l.reader.at ≤ record_limit;
   ended : l.reader.ended ≡ true → IsAtEnd (g.S.Source.left l.record_in);
-  counted : l.state.requests ≤ l.reader.at;
+  running : l.engine.stopped ≡ None;
   source : g.S.Source.faults l.fn.record_in ≤ g.S.Source.faults l.record_in;
   sink : g.K.Sink.faults l.fn.out ≤ g.K.Sink.faults l.out;
+  too_large : g.M.ReMaker.too_large l.maker ≡ g.M.ReMaker.too_large l.fn.maker;
+  large : g.M.ReMaker.large l.maker ≡ g.M.ReMaker.large l.fn.maker;
 }
 
 abbrev pub decreases-events : goal.decreases-events

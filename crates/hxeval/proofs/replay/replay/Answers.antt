@@ -1,16 +1,31 @@
+use Rattle.std.proofs.Common.{Err, ap}
 use Rattle.std.proofs.lemmas.Result.{err_from_is_err_and}
-use Rattle.hxeval.proofs.ReplayLemmas.{replays_written, replays_written_part}
+use Rattle.hxeval.proofs.ReplayLemmas.{handed_back, handed_on, replays_written, replays_written_part, sink_kinds, sink_not_large}
+use Rattle.hxeval.specs.RunFault.{sink_fault}
+use Rattle.hxeval.specs.declared.run_fault.RunFault.TheVariants as run
 use Rattle.hxeval.proofs.replay.replay.Goals as goal
 
 pub returns-in_err-write_answers-clause-replays : goal.returns-in_err-write_answers-clause-replays
 returns-in_err-write_answers-clause-replays g c =
     let p = err_from_is_err_and c.from_residual.result c.from_residual.ensures.1 in
-    rw (p.1, p.2) (replays_written_part c.args.program.now (g.S.Source.left c.args.record_in.now) (g.K.Sink.written c.args.out.now)
+    rw (p.1, p.2) (replays_written_part (record { rules = c.args.rules; references = c.args.refs }) (g.S.Source.left c.args.record_in.now) (g.K.Sink.written c.args.out.now)
     (g.K.Sink.written c.gather-ended.new.out) (g.K.Sink.written c.write_answers.new.out) c.gather-ended.new.answers c.gather-ended.result
     c.gather-ended.ensures.replays c.write_answers.ensures.prefix c.in_err-write_answers.field-0.0)
 
 pub returns-clause-replays : goal.returns-clause-replays
 returns-clause-replays g c =
-    replays_written c.args.program.now (g.S.Source.left c.args.record_in.now) (g.K.Sink.written c.args.out.now)
+    replays_written (record { rules = c.args.rules; references = c.args.refs }) (g.S.Source.left c.args.record_in.now) (g.K.Sink.written c.args.out.now)
     (g.K.Sink.written c.gather-ended.new.out) (g.K.Sink.written c.write_answers.new.out) c.gather-ended.new.answers c.gather-ended.result
     c.gather-ended.ensures.replays c.in_ok-write_answers.ensures.ok
+
+pub returns-in_err-write_answers-clause-too_large : goal.returns-in_err-write_answers-clause-too_large
+returns-in_err-write_answers-clause-too_large g c = λ is.
+    let p = err_from_is_err_and c.from_residual.result c.from_residual.ensures.1 in
+    let large = handed_on c.from_residual.result p.0 (sink_fault c.in_err-write_answers.field-0.0) run.TooLarge p.1 p.2 is in
+    absurd (sink_not_large c.in_err-write_answers.field-0.0 large)
+
+pub returns-in_err-write_answers-clause-uncounted : goal.returns-in_err-write_answers-clause-uncounted
+returns-in_err-write_answers-clause-uncounted g c = λ not_large no_sink no_memory.
+    let p = err_from_is_err_and c.from_residual.result c.from_residual.ensures.1 in
+    let back = handed_back c.from_residual.result p.0 (sink_fault c.in_err-write_answers.field-0.0) in
+    absurd (sink_kinds c.in_err-write_answers.field-0.0 (λ is. no_sink (back run.Sink p.1 p.2 (ap Err is))) (λ is. no_memory (back run.NoMemory p.1 p.2 (ap Err is))))
