@@ -1,17 +1,20 @@
 //! Cases of ACLs: reads calls with their arguments, a line each, from standard input, and writes
-//! what each answers, a line each. The calls are of statements, of conditions over a request, and
-//! of the lines of files.
+//! what each answers, a line each. The calls are of statements, of conditions over a request, of
+//! the lines of files, and of the versions and entries of references.
 #![tactic(auto)]
 
 mod conditions;
+mod descriptions;
 mod entries;
 mod references;
 mod statements;
+mod steps;
 mod uses;
 
 use crate::conditions::holds_case;
 use crate::entries::entries_case;
 use crate::statements::statements_case;
+use crate::steps::references_case;
 use hx_cases_base::{Calls, CaseFault, State, answers, connection_case, request_case, vars_case};
 use hx_outside::{StdSink, StdSource, read_to_end, write_all};
 use std::alloc::Global;
@@ -39,6 +42,7 @@ impl Calls for AclCalls {
             b"statements" => statements_case(alloc, out, args),
             b"holds" => holds_case(alloc, &self.state, out, args),
             b"entries" => entries_case(alloc, out, args),
+            b"references" => references_case(alloc, out, args),
             _ => Err(CaseFault::UnknownCall),
         }
     }

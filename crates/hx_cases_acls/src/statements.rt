@@ -1,7 +1,7 @@
 //! Calls of hx_spell: what the lines of a configuration spell.
 
 use crate::references::show_tables;
-use hx_ast::{AclUse, Action, Cond, Decl, Rule, Statement, Term};
+use hx_ast::{AclUse, Action, Cond, Decl, Expr, Format, Part, Rule, Statement, Term};
 use hx_cases_base::{CaseFault, show};
 use hx_spell::{SpellFault, Speller};
 use hx_words::split;
@@ -38,14 +38,20 @@ pub fn spelled(
     }
 }
 
-/// Writes an ACL: its fetch and its converters, its match method, `-i` where its inline patterns
-/// ignore case, its heads, and its inline patterns.
-fn show_decl(out: &mut String, decl: &Decl) -> Result<(), CaseFault> {
-    let fetch = &decl.expr.fetch;
+/// Writes an expression: its fetch and its converters.
+fn show_expr(out: &mut String, expr: &Expr) -> Result<(), CaseFault> {
+    let fetch = &expr.fetch;
     write!(out, "{fetch:?}")?;
-    for conv in decl.expr.convs.as_slice() {
+    for conv in expr.convs.as_slice() {
         write!(out, ",{conv:?}")?;
     }
+    Ok(())
+}
+
+/// Writes an ACL: its expression, its match method, `-i` where its inline patterns ignore case, its
+/// heads, and its inline patterns.
+fn show_decl(out: &mut String, decl: &Decl) -> Result<(), CaseFault> {
+    show_expr(out, &decl.expr)?;
     let by = decl.by;
     let case = if decl.ci { "-i" } else { "" };
     write!(out, " {by:?}{case}")?;
@@ -95,23 +101,49 @@ fn show_cond(out: &mut String, cond: &Cond) -> Result<(), CaseFault> {
     Ok(())
 }
 
-/// Writes a rule: its line, what it does, and when.
-fn show_rule(out: &mut String, rule: &Rule) -> Result<(), CaseFault> {
-    let line = rule.line;
-    write!(out, "{line} deny")?;
-    let Action::Deny(status) = &rule.action;
-    if let Some(status) = status {
-        write!(out, " {status}")?;
-    }
-    if rule.unless {
+/// Writes when a rule is taken.
+fn show_when(out: &mut String, unless: bool, cond: &Option<Cond>) -> Result<(), CaseFault> {
+    if unless {
         out.push_str(" unless")?;
-    } else if rule.cond.is_some() {
+    } else if cond.is_some() {
         out.push_str(" if")?;
     }
-    match &rule.cond {
+    match cond {
         Some(cond) => show_cond(out, cond),
         None => Ok(()),
     }
+}
+
+/// Writes a denial with its status, and any other action as it is kept.
+fn show_action(out: &mut String, action: &Action) -> Result<(), CaseFault> {
+    match action {
+        Action::Deny(None) => Ok(out.push_str("deny")?),
+        Action::Deny(Some(status)) => Ok(write!(out, "deny {status}")?),
+        kept => Ok(write!(out, "{kept:?}")?),
+    }
+}
+
+/// Writes a rule: its line, what it does, and when.
+fn show_rule(out: &mut String, rule: &Rule) -> Result<(), CaseFault> {
+    let line = rule.line;
+    write!(out, "{line} ")?;
+    show_action(out, &rule.action)?;
+    show_when(out, rule.unless, &rule.cond)
+}
+
+/// Writes the parts of a format: its texts in brackets, and its expressions in parentheses.
+fn show_format(out: &mut String, format: &Format) -> Result<(), CaseFault> {
+    for part in format.as_slice() {
+        match part {
+            Part::Text(text) => show(out, text.as_slice())?,
+            Part::Value(expr) => {
+                out.push('(')?;
+                show_expr(out, expr)?;
+                out.push(')')?;
+            }
+        }
+    }
+    Ok(())
 }
 
 /// Writes a statement, and a bar.
@@ -125,8 +157,40 @@ fn show_statement(out: &mut String, statement: &Statement) -> Result<(), CaseFau
             show_decl(out, decl)?;
         }
         Statement::Rule(rule) => show_rule(out, rule)?,
+        Statement::Redirect(rule) => {
+            out.push_str("then ")?;
+            show_rule(out, rule)?;
+        }
+        Statement::Backend {
+            line,
+            format,
+            unless,
+            cond,
+        } => {
+            write!(out, "{line} backend ")?;
+            show_format(out, format)?;
+            show_when(out, *unless, cond)?;
+        }
+        Statement::Fallback { line, name } => {
+            write!(out, "{line} fallback ")?;
+            show(out, name.as_slice())?;
+        }
     }
     Ok(out.push('|')?)
+}
+
+/// Writes the statement that a line spells, or the code of its fault.
+fn show_line(
+    alloc: Global,
+    out: &mut String,
+    speller: &mut Speller,
+    number: u64,
+    line: &[u8],
+) -> Result<(), CaseFault> {
+    match spelled(alloc, out, speller, number, line)? {
+        Some(statement) => show_statement(out, &statement),
+        None => Ok(()),
+    }
 }
 
 /// `statements LINE ..`: the statement that each line of a configuration spells, or the code of its
@@ -134,10 +198,7 @@ fn show_statement(out: &mut String, statement: &Statement) -> Result<(), CaseFau
 pub fn statements_case(alloc: Global, out: &mut String, args: &[Vec<u8>]) -> Result<(), CaseFault> {
     let mut speller = new_speller(alloc)?;
     for (i, line) in args.iter().enumerate() {
-        let number = i as u64 + 1;
-        if let Some(statement) = spelled(alloc, out, &mut speller, number, line.as_slice())? {
-            show_statement(out, &statement)?;
-        }
+        show_line(alloc, out, &mut speller, i as u64 + 1, line.as_slice())?;
     }
     out.push('>')?;
     show_tables(out, &speller.tables())

@@ -17,7 +17,7 @@ use hx_text::By;
 use std::alloc::Global;
 
 /// Whether there can be a use by this method, with this case.
-fn can_be_use(by: By, ci: bool) -> bool
+pub fn can_be_use(by: By, ci: bool) -> bool
     ensures found { result ≡ true → by ≢ By.Found }
     ensures bool { result ≡ true → by ≢ By.Bool }
     ensures case { result ≡ true → KeepsToCase by ci }

@@ -35,13 +35,18 @@ fn spelled(alloc: Global, out: &mut String, line: &[u8]) -> Result<Option<Statem
     }
 }
 
+/// Writes a statement as it is kept.
+fn show_statement(out: &mut String, statement: &Statement) -> Result<(), CaseFault> {
+    Ok(write!(out, "{statement:?}")?)
+}
+
 /// `statement LINE`: the statement that the line spells, or the code of its fault.
 pub fn statement_case(alloc: Global, out: &mut String, args: &[Vec<u8>]) -> Result<(), CaseFault> {
     let [line] = args else {
         return Err(CaseFault::BadArguments);
     };
     match spelled(alloc, out, line.as_slice())? {
-        Some(statement) => Ok(write!(out, "{statement:?}")?),
+        Some(statement) => show_statement(out, &statement),
         None => Ok(()),
     }
 }
@@ -155,6 +160,21 @@ pub fn show_expression<T: Tables>(
     }
 }
 
+/// Writes the value of the expression of the ACL that a statement declares in its condition.
+fn show_condition(
+    alloc: Global,
+    out: &mut String,
+    statement: &Statement,
+    state: &State,
+    all: bool,
+) -> Result<(), CaseFault> {
+    let acl = first_acl(statement).ok_or(CaseFault::BadArguments)?;
+    if !has_no_map(acl.expr.convs.as_slice()) {
+        return Err(CaseFault::BadArguments);
+    }
+    show_expression(alloc, out, &acl.expr, state, &EmptyTables, all)
+}
+
 /// Writes the value of an expression that is spelled as in a line, where it stands before `-m str`;
 /// or the fault of spelling or compiling it.
 fn show_spelled(
@@ -164,14 +184,10 @@ fn show_spelled(
     state: &State,
     all: bool,
 ) -> Result<(), CaseFault> {
-    let Some(statement) = denying(alloc, out, expression)? else {
-        return Ok(());
-    };
-    let acl = first_acl(&statement).ok_or(CaseFault::BadArguments)?;
-    if !has_no_map(acl.expr.convs.as_slice()) {
-        return Err(CaseFault::BadArguments);
+    match denying(alloc, out, expression)? {
+        Some(statement) => show_condition(alloc, out, &statement, state, all),
+        None => Ok(()),
     }
-    show_expression(alloc, out, &acl.expr, state, &EmptyTables, all)
 }
 
 /// `value EXPRESSION`: the values of all occurrences of the expression, in the request, the
@@ -215,6 +231,33 @@ pub fn conv_case(
     show_spelled(alloc, out, expression.as_slice(), state, false)
 }
 
+/// Compiles the expression of the ACL that a statement declares in its condition.
+fn compile_condition(
+    alloc: Global,
+    out: &mut String,
+    statement: &Statement,
+    maker: &mut FailMaker,
+) -> Result<bool, CaseFault> {
+    let acl = first_acl(statement).ok_or(CaseFault::BadArguments)?;
+    if compiled(alloc, out, &acl.expr, maker)?.is_some() {
+        out.push_str("ok|")?;
+    }
+    Ok(true)
+}
+
+/// Compiles an expression that is spelled as in a line; whether it is spelled.
+fn compile_spelled(
+    alloc: Global,
+    out: &mut String,
+    expression: &[u8],
+    maker: &mut FailMaker,
+) -> Result<bool, CaseFault> {
+    match denying(alloc, out, expression)? {
+        Some(statement) => compile_condition(alloc, out, &statement, maker),
+        None => Ok(false),
+    }
+}
+
 /// `compile FAILS EXPRESSION ..`: whether each expression is compiled, by a maker of regular
 /// expressions that fails at chosen calls.
 pub fn compile_case(alloc: Global, out: &mut String, args: &[Vec<u8>]) -> Result<(), CaseFault> {
@@ -223,12 +266,8 @@ pub fn compile_case(alloc: Global, out: &mut String, args: &[Vec<u8>]) -> Result
     };
     let mut maker = FailMaker::new(numbers(alloc, fails.as_slice())?);
     for expression in expressions {
-        let Some(statement) = denying(alloc, out, expression.as_slice())? else {
+        if !compile_spelled(alloc, out, expression.as_slice(), &mut maker)? {
             return Ok(());
-        };
-        let acl = first_acl(&statement).ok_or(CaseFault::BadArguments)?;
-        if compiled(alloc, out, &acl.expr, &mut maker)?.is_some() {
-            out.push_str("ok|")?;
         }
     }
     Ok(())
