@@ -9,7 +9,11 @@ NamedBytes = List (List ℕ × List ℕ)
 abbrev pub pairs_of : {A : Type 0} → List (Vec ℕ A × Vec ℕ A) → NamedBytes
 pairs_of pairs = map (λ pair. (pair.0.items, pair.1.items)) pairs
 
--- the bytes under a name, which are those of the first pair of that name, and none without one
+-- what stands in the first row of this name, and none without one
+abbrev pub entry_at : {A : Type 0} → List (List ℕ × A) → List ℕ → Option A
+entry_at [] name = None
+entry_at (row ∷ rows) name = if bytes_eq row.0 name then Some row.1 else entry_at rows name
+
+-- the bytes under a name
 abbrev pub value_at : NamedBytes → List ℕ → Option (List ℕ)
-value_at [] name = None
-value_at (pair ∷ pairs) name = if bytes_eq pair.0 name then Some pair.1 else value_at pairs name
+value_at pairs name = entry_at pairs name

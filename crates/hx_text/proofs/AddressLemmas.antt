@@ -1,8 +1,9 @@
 -- What the readers of addresses answer, in the words of `specs/Address.antt`.
-use Rattle.std.proofs.Common.{◌≡◌, ℕ, suc, ◌<◌, Bool, true, false, eqb, List, [], ◌∷◌, ◌++◌, length, get_or, take, drop, Option, Some, None, All, refl, sym, ap, ◌∙◌, arith, take-append-drop, drop-cons, length-take-le, length-drop, add-one, cond, leb, ◌+◌}
+use Rattle.std.proofs.Common.{◌≡◌, ℕ, suc, ◌<◌, ◌≤◌, Bool, true, false, if◌then◌else◌, ◌==◌, ◌&&◌, eqb, List, [], ◌∷◌, ◌++◌, length, get_or, take, drop, Option, Some, None, All, refl, sym, ap, ◌∙◌, arith, take-append-drop, drop-cons, length-take-le, length-drop, add-one, cond, leb, ◌+◌}
 use Rattle.std.proofs.lemmas.Str.Parse.{digit_at}
 use Rattle.std.specs.Option.{option_and_then}
-use Rattle.std.specs.List.{join_with_byte}
+use Rattle.std.specs.Int.{w32, from_be_bytes}
+use Rattle.std.specs.List.{cons_option, filter_map, join_with_byte}
 use Rattle.std.proofs.lemmas.Bool.{false_from_ne_true, ne_eqb}
 use Rattle.std.proofs.lemmas.List.{get_or-take, get_or-drop, take_more}
 use Rattle.std.proofs.lemmas.List.Elements.{All-head, All-tail, All-from_get_or}
@@ -136,6 +137,59 @@ pub kept_some : (b : Bool) (o : Option ℕ) (n : ℕ) → cond b o None ≡ Some
 kept_some true o n e = e
 kept_some false o n e = cc
 
+-- four octets, one after the other
+abbrev pub octet_by_octet : List (List ℕ) → Option ℕ
+octet_by_octet (p ∷ q ∷ r ∷ s ∷ []) =
+    option_and_then (λ a. option_and_then (λ b. option_and_then (λ c. option_and_then
+    (λ d. Some (from_be_bytes w32 (a ∷ b ∷ c ∷ d ∷ []))) (octet_of s)) (octet_of r))
+    (octet_of q)) (octet_of p)
+octet_by_octet _ = None
+
+one_more : (o : Option ℕ) (octets : List ℕ) → length (cons_option o octets) ≤ 1 + length octets
+one_more None octets = omega arith
+one_more (Some a) octets = omega arith
+
+less_than_four : (octets : List ℕ) → length octets ≤ 3
+    → (if length octets == 4 then Some (from_be_bytes w32 octets) else None) ≡ None
+less_than_four octets few = let other : (length octets == 4) ≡ false = grind arith in
+    ap (λ b. if b then Some (from_be_bytes w32 octets) else None) other
+
+four_values : (o p q r : Option ℕ) → let octets =
+    cons_option o (cons_option p (cons_option q (cons_option r []))) in
+    (if length octets == 4 then Some (from_be_bytes w32 octets) else None) ≡ option_and_then
+    (λ a. option_and_then (λ b. option_and_then (λ c. option_and_then
+    (λ d. Some (from_be_bytes w32 (a ∷ b ∷ c ∷ d ∷ []))) r) q) p) o
+four_values None p q r =
+    less_than_four (cons_option p (cons_option q (cons_option r [])))
+    (omega (
+      arith,
+      one_more p (cons_option q (cons_option r [])),
+      one_more q (cons_option r []),
+      one_more r [],
+    ))
+four_values (Some a) None q r =
+    less_than_four (a ∷ cons_option q (cons_option r []))
+    (omega (arith, one_more q (cons_option r []), one_more r []))
+four_values (Some a) (Some b) None r =
+    less_than_four (a ∷ b ∷ cons_option r []) (omega (arith, one_more r []))
+four_values (Some a) (Some b) (Some c) None = refl
+four_values (Some a) (Some b) (Some c) (Some d) = refl
+
+more_than_four : (n : ℕ) → (suc (suc (suc (suc (suc n)))) == 4) ≡ false
+more_than_four n = grind arith
+
+pub four_octets_are : (parts : List (List ℕ)) → four_octets parts ≡ octet_by_octet parts
+four_octets_are [] = refl
+four_octets_are (p ∷ []) = refl
+four_octets_are (p ∷ q ∷ []) = refl
+four_octets_are (p ∷ q ∷ r ∷ []) = refl
+four_octets_are (p ∷ q ∷ r ∷ s ∷ []) =
+    four_values (octet_of p) (octet_of q) (octet_of r) (octet_of s)
+four_octets_are (p ∷ q ∷ r ∷ s ∷ t ∷ more) = let parts = p ∷ q ∷ r ∷ s ∷ t ∷ more in
+    ap (λ b. if b && length (filter_map octet_of parts) == 4
+    then Some (from_be_bytes w32 (filter_map octet_of parts)) else None)
+    (more_than_four (length more))
+
 -- a text of digits has no byte below them
 pub no_byte : (byte : ℕ) → byte < 48 → (text : List ℕ) → IsDigits text → All (IsOther byte) text
 no_byte byte low text digits =
@@ -167,7 +221,7 @@ octet_one_piece piece n e =
 
 -- a last piece that is no octet leaves no address
 no_last : (p q r : List ℕ) (parts : List (List ℕ)) (s : List ℕ) → join_with_byte 46 parts ≡ s
-    → octet_of s ≡ None → four_octets (p ∷ q ∷ r ∷ parts) ≡ None
+    → octet_of s ≡ None → octet_by_octet (p ∷ q ∷ r ∷ parts) ≡ None
 no_last p q r [] s joined none = refl
 no_last p q r (t ∷ []) s joined none =
     let last : octet_of t ≡ None = ap octet_of joined ∙ none in
@@ -176,9 +230,9 @@ no_last p q r (t ∷ []) s joined none =
 no_last p q r (t ∷ u ∷ more) s joined none = refl
 
 last_piece : (p q r s : List ℕ) (o : Option ℕ) → octet_of s ≡ o
-    → four_octets (p ∷ q ∷ r ∷ s ∷ []) ≡ four_octets (p ∷ q ∷ r ∷ pieces 46 s)
+    → octet_by_octet (p ∷ q ∷ r ∷ s ∷ []) ≡ octet_by_octet (p ∷ q ∷ r ∷ pieces 46 s)
 last_piece p q r s (Some n) e =
-    ap (λ ps. four_octets (p ∷ q ∷ r ∷ ps)) (sym (octet_one_piece s n e))
+    ap (λ ps. octet_by_octet (p ∷ q ∷ r ∷ ps)) (sym (octet_one_piece s n e))
 last_piece p q r s None e =
     no_last p q r (s ∷ []) s refl e
     ∙ sym (no_last p q r (pieces 46 s) s (join_with_byte-slice_split 46 s) e)
@@ -188,7 +242,9 @@ pub dotted_four : (text p rest q last r s : List ℕ) → pieces 46 text ≡ p �
     → four_octets (p ∷ q ∷ r ∷ s ∷ []) ≡ dotted_of text
 unfolding dotted_of
 dotted_four text p rest q last r s first second third =
-    rw (first, second, third) (last_piece p q r s (octet_of s) refl)
+    rw (first, second, third) (four_octets_are (p ∷ q ∷ r ∷ s ∷ [])
+    ∙ last_piece p q r s (octet_of s) refl
+    ∙ sym (four_octets_are (p ∷ q ∷ r ∷ pieces 46 s)))
 
 -- by how many dots the text has
 pub ruleset dotted_cases = (dotted_one, dotted_two, dotted_three, dotted_four)

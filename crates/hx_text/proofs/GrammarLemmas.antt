@@ -1,8 +1,8 @@
 -- What `ip_of` gives is what the grammar says, and it is none only where the grammar has no
 -- address.
-use Rattle.std.proofs.Common.{◌≡◌, ℕ, ◌+◌, ◌*◌, ◌^◌, take, Bool, true, false, eqb, List, [], ◌∷◌, ◌++◌, length, Option, Some, None, All, refl, sym, ap, ◌∙◌, subst, arith, append_assoc, append-nil, inl, inr, leb, get_or}
-use Rattle.std.specs.Option.{option_and_then, option_map}
-use Rattle.std.specs.List.{join_with_byte}
+use Rattle.std.proofs.Common.{◌≡◌, ℕ, ◌+◌, ◌*◌, ◌^◌, take, Bool, true, false, if◌then◌else◌, eqb, List, [], ◌∷◌, ◌++◌, length, Option, Some, None, All, refl, sym, ap, ◌∙◌, subst, arith, append_assoc, append-nil, inl, inr, leb, get_or}
+use Rattle.std.specs.Option.{option_and_then, option_map, option_or}
+use Rattle.std.specs.List.{fold, join_with_byte}
 use Rattle.std.proofs.lemmas.Bool.{eqb-true, ne_eqb}
 use Rattle.std.proofs.lemmas.Str.Parse.{digit_at}
 use Rattle.std.proofs.lemmas.Option.{none-some, same_Some}
@@ -19,10 +19,10 @@ use Rattle.std.proofs.NetLemmas.Ipv6.{read_ipv6_sound}
 use Rattle.std.proofs.NetLemmas.Options.{and_then_some, map_some, cond_some, same_parts}
 use Rattle.hx_text.specs.declared.address.Ip.{Ip}
 use Rattle.hx_text.specs.declared.address.Ip.TheVariants.{V4, V6}
-use Rattle.hx_text.specs.Address.{octet_of, four_octets, dotted_of, groups_number_after, groups_number, plain_groups_of, address_ending_in, dotted_end_of, colon_hex_of, EndsInIpv4, IsIpText, ip_of}
-use Rattle.hx_text.specs.Cut.{pieces, last_cut_of_cons, last_cut_of}
+use Rattle.hx_text.specs.Address.{octet_of, dotted_of, groups_number, plain_groups_of, address_ending_in, dotted_end_of, colon_hex_of, EndsInIpv4, IsIpText, ip_of}
+use Rattle.hx_text.specs.Cut.{pieces, last_cut_of}
 use Rattle.hx_text.proofs.NumberLemmas.{own, up_to_has_digits}
-use Rattle.hx_text.proofs.AddressLemmas.{last_cut_of_none, IsOther, dotted_one, kept_some, last_cut_of-append}
+use Rattle.hx_text.proofs.AddressLemmas.{octet_by_octet, four_octets_are, last_cut_of_none, IsOther, dotted_one, kept_some, last_cut_of-append}
 use Rattle.hx_text.proofs.DottedEndLemmas.{ends_in_dotted}
 use Rattle.hx_text.proofs.RoundTripLemmas.{dotted_of-dotted_text}
 use Rattle.hx_text.proofs.ColonHexLemmas.{plain_none, colon_hex_none, plain_spelled, colon_hex_spelled, colon_hex_plain, colon_hex_by_end}
@@ -52,7 +52,9 @@ record IsCut (byte : ℕ) (text prefix end : List ℕ) : Type 0 where
 module _ (byte b : ℕ) (text prefix end : List ℕ)
     (deeper : (f e : List ℕ) → last_cut_of byte text ≡ Some (f, e) → IsCut byte text f e) where
   last_cut_step : (cut : Option (List ℕ × List ℕ)) (has_value : Bool) → last_cut_of byte text ≡ cut
-      → eqb b byte ≡ has_value → last_cut_of_cons b has_value text cut ≡ Some (prefix, end)
+      → eqb b byte ≡ has_value
+      → option_or {T = List ℕ × List ℕ} (option_map (λ p. (b ∷ p.0, p.1)) cut)
+      (if has_value then Some (b ∷ [], text) else None) ≡ Some (prefix, end)
       → IsCut byte (b ∷ text) prefix end
   last_cut_step (Some p) has_value is_cut is e =
       let later = deeper p.0 p.1 is_cut in
@@ -123,7 +125,7 @@ octet_no_colon piece n e =
     (λ k h. let d = digit_at piece k (own.to piece digits) h in ne_eqb (get_or piece k 0) 58
     (omega arith))
 
-four_no_colon : (parts : List (List ℕ)) (four : ℕ) → four_octets parts ≡ Some four
+four_no_colon : (parts : List (List ℕ)) (four : ℕ) → octet_by_octet parts ≡ Some four
     → All (IsOther 58) (join_with_byte 46 parts)
 four_no_colon (p ∷ q ∷ r ∷ s ∷ []) four e =
     and_then_some _ (octet_of p) four e λ a is_a e₁.
@@ -144,7 +146,7 @@ dotted_no_colon : (text : List ℕ) (four : ℕ) → dotted_of text ≡ Some fou
 unfolding dotted_of
 dotted_no_colon text four e =
     subst (All (IsOther 58)) (join_with_byte-slice_split 46 text)
-    (four_no_colon (pieces 46 text) four e)
+    (four_no_colon (pieces 46 text) four (sym (four_octets_are (pieces 46 text)) ∙ e))
 
 end_cut : (text : List ℕ) (a : ℕ) (h : EndsInIpv4 text a)
     → last_cut_of 58 text ≡ Some (h.before ++ 58 ∷ [], h.end)
@@ -180,6 +182,10 @@ dotted_read text octets h =
     ap dotted_of h.spelled
     ∙ dotted_of-dotted_text h.a h.b h.c h.d h.fit.0 h.fit.1 h.fit.2 h.fit.3
     ∙ ap (λ o. Some (from_be_bytes w32 o)) (sym h.value)
+
+-- the number whose digits to the base 2^16 are these, the highest first, after those of n
+abbrev groups_number_after : ℕ → List ℕ → ℕ
+groups_number_after n groups = fold (λ m g. m * 2 ^ 16 + g) n groups
 
 groups_number_after-append : (n : ℕ) (xs ys : List ℕ)
     → groups_number_after n (xs ++ ys) ≡ groups_number_after (groups_number_after n xs) ys

@@ -7,3 +7,4 @@ pub mod TextLemmas
 pub mod NetworkLemmas
 pub mod GrammarLemmas
 pub mod DottedEndLemmas
+pub mod MethodLemmas

@@ -1,11 +1,12 @@
 -- Internet addresses as numbers, and the texts that write them.
-use Rattle.std.specs.Prelude.{◌≡◌, ◌⊎◌, ℕ, ◌+◌, ◌*◌, ◌^◌, List, [], ◌∷◌, ◌++◌, length, take, Option, Some, None, option_map, option_and_then, codes, nat_le, if◌then◌else◌}
+use Rattle.std.specs.Prelude.{◌≡◌, ◌⊎◌, ◌==◌, ◌&&◌, ℕ, ◌+◌, ◌*◌, ◌^◌, List, ◌++◌, length, take, Option, Some, None, option_map, option_and_then, codes, nat_le, if◌then◌else◌}
+use Rattle.std.specs.List.{filter_map, fold}
 use Rattle.std.specs.Option.{option_or}
 use Rattle.std.specs.Int.{w32, from_be_bytes, to_be_bytes}
 use Rattle.std.specs.Net.Grammar.{IsColonHex}
 use Rattle.std.specs.Net.Reader.{read_ipv6, whole_value}
 use Rattle.std.specs.Net.Text.{ipv4_text, ipv6_text}
-use Rattle.hx_base.specs.Bytes.{full_stop, colon}
+use Rattle.hx_base.specs.Bytes.{ascii}
 use Rattle.hx_text.specs.Cut.{pieces, last_cut_of}
 use Rattle.hx_text.specs.Number.{number_up_to}
 use Rattle.hx_text.specs.Printing.{groups_of}
@@ -22,28 +23,20 @@ o >>= f = option_and_then f o
 unfoldable pub octet_of : List ℕ → Option ℕ
 octet_of piece = if nat_le (length piece) 3 then number_up_to 255 piece else None
 
--- four octets, the highest first, as the number of 32 bits that they make
+-- four pieces that are each an octet, the highest first, as the number of 32 bits that they make
 abbrev pub four_octets : List (List ℕ) → Option ℕ
-four_octets (p ∷ q ∷ r ∷ s ∷ []) = do
-  a ← octet_of p
-  b ← octet_of q
-  c ← octet_of r
-  d ← octet_of s
-  Some (from_be_bytes w32 (a ∷ b ∷ c ∷ d ∷ []))
-four_octets _ = None
+four_octets parts =
+    let octets = filter_map octet_of parts in
+    if length parts == 4 && length octets == 4 then Some (from_be_bytes w32 octets) else None
 
 -- an IPv4 address in dotted decimal: the text cut at its dots is four octets
 unfoldable pub dotted_of : List ℕ → Option ℕ
-dotted_of text = four_octets (pieces full_stop text)
+dotted_of text = four_octets (pieces (ascii ".") text)
 
--- the number whose digits to the base 2^16 are these, the highest first, after those of n
-abbrev pub groups_number_after : ℕ → List ℕ → ℕ
-groups_number_after n [] = n
-groups_number_after n (g ∷ groups) = groups_number_after (n * 2 ^ 16 + g) groups
-
--- an IPv6 address as the number of 128 bits that its eight groups of 16 bits make
+-- an IPv6 address as the number of 128 bits that its eight groups of 16 bits make, the highest
+-- first: they are its digits to the base 2^16
 abbrev pub groups_number : List ℕ → ℕ
-groups_number groups = groups_number_after 0 groups
+groups_number groups = fold (λ n g. n * 2 ^ 16 + g) 0 groups
 
 -- the address of the first six of these groups and an IPv4 address (RFC 4291 section 2.2, form 3)
 abbrev pub address_ending_in : ℕ → List ℕ → ℕ
@@ -94,13 +87,12 @@ dotted_end_of parts = do
 unfoldable pub colon_hex_of : List ℕ → Option ℕ
 colon_hex_of text =
     option_or (option_map groups_number (plain_groups_of text))
-    (option_and_then dotted_end_of (last_cut_of colon text))
+    (option_and_then dotted_end_of (last_cut_of (ascii ":") text))
 
 -- the address that a text writes: an IPv6 address, or else an IPv4 address in dotted decimal. No
 -- text writes one of each.
 unfoldable pub ip_of : List ℕ → Option Ip
-ip_of text =
-    option_or (option_map (λ a. V6 a) (colon_hex_of text)) (option_map (λ a. V4 a) (dotted_of text))
+ip_of text = option_or (option_map V6 (colon_hex_of text)) (option_map V4 (dotted_of text))
 
 -- ---- the text of an address
 

@@ -18,7 +18,7 @@ StandsFor ipv6 ipv4 =
 -- the IPv4 address that an IPv6 address stands for, by its upper and its lower bits
 unfoldable pub ipv4_of : ℕ → Option ℕ
 ipv4_of ipv6 =
-    if ipv6 / 2 ^ 32 == 0xffff then Some (ipv6 % 2 ^ 32)
-    else (if ipv6 / 2 ^ 32 == 0 then Some ipv6
-    else (if (ipv6 / 2 ^ 112 == 0x2002) && (ipv6 % 2 ^ 80 == 0) then Some (ipv6 / 2 ^ 80 % 2 ^ 32)
-    else None))
+    if ipv6 / 2 ^ 32 == 0xffff then Some (ipv6 % 2 ^ 32) else
+    (if ipv6 / 2 ^ 32 == 0 then Some ipv6 else
+    (if ipv6 / 2 ^ 112 == 0x2002 && ipv6 % 2 ^ 80 == 0 then Some (ipv6 / 2 ^ 80 % 2 ^ 32) else
+    None))

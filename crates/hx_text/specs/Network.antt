@@ -1,8 +1,9 @@
 -- Networks: addresses with a width or a mask, and the texts that write them.
-use Rattle.std.specs.Prelude.{◌≡◌, ◌≢◌, ℕ, ◌-◌, ◌*◌, ◌/◌, ◌^◌, ◌≤◌, ◌&&◌, List, length, slice_index, bit_and, Option, Some, None, option_map, ◌==◌, nat_lt, if◌then◌else◌}
+use Rattle.std.specs.Prelude.{◌≡◌, ◌≢◌, ℕ, ◌-◌, ◌*◌, ◌/◌, ◌^◌, ◌≤◌, ◌&&◌, List, length, slice_index, bit_and, Option, None, option_map, option_and_then, ◌==◌, nat_lt, if◌then◌else◌}
 use Rattle.std.specs.Char.{digit_char}
 use Rattle.std.specs.Int.{w32, leading_ones}
-use Rattle.hx_base.specs.Bytes.{slash}
+use Rattle.std.specs.Option.{option_or, option_map_or}
+use Rattle.hx_base.specs.Bytes.{ascii}
 use Rattle.hx_text.specs.declared.address.Ip.{Ip}
 use Rattle.hx_text.specs.declared.address.Ip.TheVariants.{V4, V6}
 use Rattle.hx_text.specs.declared.network.Net.{Net}
@@ -38,27 +39,20 @@ abbrev pub host_network : Ip → Net
 host_network (V4 address) = Plain (V4 address) 32
 host_network (V6 address) = Plain (V6 address) 128
 
--- the network of an IPv4 address and a bit count, or else a mask, if what follows the slash is one
-abbrev pub ipv4_network : ℕ → Option ℕ → Option ℕ → Option Net
-ipv4_network address (Some n) mask = Some (Plain (V4 (prefix_bits 32 n address)) n)
-ipv4_network address None mask = option_map (λ m. masked_network address m) mask
-
--- the network of an address and the text that follows the slash
-abbrev pub network_of_parts : Option Ip → List ℕ → Option Net
-network_of_parts None text = None
-network_of_parts (Some (V4 address)) text =
-    ipv4_network address (width_of 32 text) (dotted_of text)
-network_of_parts (Some (V6 address)) text =
+-- the network of the text that follows the slash and an address: the text is a bit count, or else,
+-- after an IPv4 address, a mask
+abbrev pub network_with : List ℕ → Ip → Option Net
+network_with text (V4 address) =
+    option_or (option_map (λ n. Plain (V4 (prefix_bits 32 n address)) n) (width_of 32 text))
+    (option_map (masked_network address) (dotted_of text))
+network_with text (V6 address) =
     option_map (λ n. Plain (V6 (prefix_bits 128 n address)) n) (width_of 128 text)
 
--- the network of a text that is cut at its first slash, if it has one
-abbrev pub network_of_cut : List ℕ → Option (List ℕ × List ℕ) → Option Net
-network_of_cut text None = option_map host_network (ip_of text)
-network_of_cut text (Some parts) = network_of_parts (ip_of parts.0) parts.1
-
--- the network that a text writes
+-- the network that a text writes, cut at its first slash, if it has one
 unfoldable pub net_of : List ℕ → Option Net
-net_of text = network_of_cut text (cut_of slash text)
+net_of text =
+    option_map_or (λ parts. option_and_then (network_with parts.1) (ip_of parts.0))
+    (cut_of (ascii "/") text) (option_map host_network (ip_of text))
 
 -- What a network keeps: no bit outside its width or its mask is set, and a mask has a zero before a
 -- one.

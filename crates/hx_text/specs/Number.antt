@@ -2,7 +2,7 @@
 use Rattle.std.specs.Prelude.{ℕ, ◌-◌, ◌^◌, ℤ, pos, neg_ℤ, List, [], ◌∷◌, length, Option, Some, None, option_map, option_and_then, ◌&&◌, ◌==◌, nat_lt, nat_le, if◌then◌else◌}
 use Rattle.std.specs.Str.{all_ascii_digits}
 use Rattle.std.specs.Str.Parse.{digits_value}
-use Rattle.hx_base.specs.Bytes.{hyphen}
+use Rattle.hx_base.specs.Bytes.{ascii}
 
 -- the number that a text of decimal digits writes: one digit or more, and nothing else. Zeros may
 -- lead.
@@ -20,5 +20,5 @@ number_up_to most text =
 unfoldable pub int_of : List ℕ → Option ℤ
 int_of [] = None
 int_of (first ∷ rest) =
-    if first == hyphen then option_map (λ n. neg_ℤ (pos n)) (number_up_to (2 ^ 63) rest)
+    if first == ascii "-" then option_map (λ n. neg_ℤ (pos n)) (number_up_to (2 ^ 63) rest)
     else option_map pos (number_up_to (2 ^ 63 - 1) (first ∷ rest))

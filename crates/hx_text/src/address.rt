@@ -1,5 +1,5 @@
 ghost use Rattle.std.specs.Prelude.{ℕ, Some, ◌≡◌, [], ◌∷◌, ◌++◌, codes, option_map, option_and_then, IfSome};
-ghost use Rattle.hx_base.specs.Bytes.{colon};
+ghost use Rattle.hx_base.specs.Bytes.{ascii};
 ghost use Rattle.hx_text.specs.Address.{octet_of, four_octets, dotted_of, groups_number, plain_groups_of, address_ending_in, dotted_end_of, colon_hex_of, IsIpText, ip_of};
 ghost use Rattle.hx_text.specs.Cut.{last_cut_of};
 
@@ -29,6 +29,7 @@ fn read_octet(piece: &[u8]) -> Option<u8>
     }
 }
 
+#[tactic(auto, using(crate::proofs::AddressLemmas::four_octets_are))]
 fn read_four(p: &[u8], q: &[u8], r: &[u8], s: &[u8]) -> Option<u32>
     ensures { result ≡ four_octets (p.now ∷ q.now ∷ r.now ∷ s.now ∷ []) }
 {
@@ -104,7 +105,7 @@ fn read_before_ipv4(before: &[u8], ipv4: u32) -> Option<u128>
 }
 
 fn read_with_ipv4(text: &[u8]) -> Option<u128>
-    ensures { result ≡ option_and_then dotted_end_of (last_cut_of colon text.now) }
+    ensures { result ≡ option_and_then dotted_end_of (last_cut_of (ascii ":") text.now) }
 {
     match cut_after_last(b':', text) {
         Some((before, end)) => match read_dotted(end) {

@@ -1,6 +1,6 @@
 ghost use Rattle.std.specs.Prelude.{◌≡◌, [], ◌∷◌, IfSome, IfNone, option_map};
 ghost use Rattle.std.specs.Io.BufRead.{strip_last};
-ghost use Rattle.hx_base.specs.Bytes.{carriage_return};
+ghost use Rattle.hx_base.specs.Bytes.{ascii};
 ghost use Rattle.hx_text.specs.Cut.{pieces, cut_of, last_cut_of};
 
 use memchr::{memchr, memrchr};
@@ -37,7 +37,7 @@ pub(crate) fn cut_after_last(byte: u8, text: &[u8]) -> Option<(&[u8], &[u8])>
 
 /// The line without the one carriage return that may end it.
 pub fn without_cr(line: &[u8]) -> &[u8]
-    ensures { result.now ≡ strip_last carriage_return line.now }
+    ensures { result.now ≡ strip_last (ascii "\r") line.now }
 {
     match line {
         [rest @ .., b'\r'] => rest,

@@ -18,6 +18,7 @@ mod fault;
 mod kinds;
 pub mod laws;
 mod mapping;
+mod methods;
 mod names;
 mod network;
 mod numbers;

@@ -1,6 +1,5 @@
-ghost use Rattle.std.specs.Prelude.{◌≡◌, ◌≤◌, IfSome, Some};
-ghost use Rattle.hx_text.specs.Network.{prefix_bits, mask_of, width_of, masked_network, ipv4_network, network_of_parts, host_network, net_of, IsNet};
-ghost use Rattle.hx_text.specs.Address.{dotted_of};
+ghost use Rattle.std.specs.Prelude.{◌≡◌, ◌≤◌, IfSome};
+ghost use Rattle.hx_text.specs.Network.{prefix_bits, mask_of, width_of, masked_network, network_with, host_network, net_of, IsNet};
 
 use crate::address::{Ip, read_dotted, read_ip};
 use crate::cut::cut_at;
@@ -80,7 +79,7 @@ fn read_width(text: &[u8], most: u32) -> Option<u32>
 
 #[tactic(auto, using(crate::proofs::NetworkLemmas::prefix_twice))]
 fn read_after_v4(address: u32, text: &[u8]) -> Option<Net>
-    ensures value { result ≡ ipv4_network address (width_of 32 text.now) (dotted_of text.now) }
+    ensures value { result ≡ network_with text.now (Ip.V4 address) }
     ensures kept { IfSome result IsNet }
 {
     match read_width(text, 32) {
@@ -97,7 +96,7 @@ fn read_after_v4(address: u32, text: &[u8]) -> Option<Net>
 
 #[tactic(auto, using(crate::proofs::NetworkLemmas::prefix_twice))]
 fn read_after_v6(address: u128, text: &[u8]) -> Option<Net>
-    ensures value { result ≡ network_of_parts (Some (Ip.V6 address)) text.now }
+    ensures value { result ≡ network_with text.now (Ip.V6 address) }
     ensures kept { IfSome result IsNet }
 {
     match read_width(text, 128) {
