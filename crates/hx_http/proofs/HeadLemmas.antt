@@ -1,5 +1,5 @@
 -- The function gives the one head that the relation allows.
-use Rattle.std.proofs.Common.{◌≡◌, ℕ, true, List, [], ◌∷◌, ◌++◌, length, take, drop, refl, sym, ap, ◌∙◌, subst, arith}
+use Rattle.std.proofs.Common.{◌≡◌, ℕ, nat_le, Bool, true, ◌&&◌, if◌then◌else◌, List, [], ◌∷◌, ◌++◌, length, take, drop, refl, sym, ap, ◌∙◌, subst, arith}
 use Rattle.std.proofs.lemmas.Bool.{and_parts, and_from, cond_both, false≢true, lt-ltb, ltb-true, le-leb, leb-true, leb-false}
 use Rattle.std.proofs.lemmas.List.{take_at, take-append-drop}
 use Rattle.std.proofs.lemmas.List.Elements.{All-head, All-tail, All-cons, All-nil}
@@ -7,11 +7,12 @@ use Rattle.std.proofs.lemmas.List.Sums.{AllPass-from_list_all, list_all-from_All
 use Rattle.std.proofs.lemmas.Slice.Eq.{bytes_eq-Decides}
 use Rattle.std.proofs.lemmas.Str.{IsUtf8-from_is_utf8, is_utf8-from_IsUtf8}
 use Rattle.std.specs.List.{All, list_all}
+use Rattle.std.specs.Str.{bytes_eq}
 use Rattle.httparse.specs.Grammar.{Field, IsField, IsToken, is_token, is_token_byte, is_uri_byte, is_value_byte, RequestHead, IsRequestHead, ReadsRequest, print_request}
 use Rattle.httparse.proofs.GrammarLemmas.{request_unique}
 use Rattle.hx_http.specs.Parts.{parts}
 use Rattle.hx_http.specs.Lines.{possible_head}
-use Rattle.hx_http.specs.Head.{Head, message, many, none, header_limit, IsHead, is_field, is_request_head, begins_with_head, head_by_parts, head_of, GivesHeads, GivesOnlyHeads}
+use Rattle.hx_http.specs.Head.{Head, message, many, none, header_limit, IsHead, is_request_head, head_of, GivesHeads, GivesOnlyHeads}
 use Rattle.hx_http.proofs.ReadBackLemmas.{read_back}
 
 -- ---- the tests say what the grammar says
@@ -24,6 +25,10 @@ token_is : (bytes : List ℕ) → is_token bytes ≡ true → IsToken bytes
 token_is bytes passes =
     let both = and_parts _ _ passes in
     (ltb-true 0 (length bytes) both.0, AllPass-from_list_all is_token_byte bytes both.1)
+
+-- the test of one header line
+abbrev is_field : Field → Bool
+is_field f = is_token f.name && list_all is_value_byte f.raw
 
 fields_pass : (fs : List Field) → All IsField fs → list_all is_field fs ≡ true
 fields_pass [] ok = refl
@@ -66,6 +71,18 @@ head_is_one h passes =
       minor = leb-true h.minor 1 with_minor.1;
       fields = fields_are h.fields with_fields.1;
     }
+
+-- the two parts of the definition, by the head that could begin the bytes
+abbrev begins_with_head : List ℕ → RequestHead → Bool
+begins_with_head bytes h =
+    is_request_head h && bytes_eq (take (length (print_request h)) bytes) (print_request h)
+
+abbrev head_by_parts : List ℕ → RequestHead → Head
+head_by_parts bytes h =
+    if begins_with_head bytes h
+    then (if nat_le (length h.fields) header_limit
+    then message (parts h) (length (print_request h)) else many)
+    else none
 
 begins_where_reads : (bytes : List ℕ) (h : RequestHead) (rest : List ℕ) → ReadsRequest bytes h rest
     → begins_with_head bytes h ≡ true

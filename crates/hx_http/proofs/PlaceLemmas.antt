@@ -3,7 +3,7 @@ use Rattle.std.proofs.Common.{◌≡◌, ℕ, ◌-◌, ◌≤◌, ◌==◌, ◌|
 use Rattle.std.proofs.lemmas.Bool.{eqb-false, lt-ltb}
 use Rattle.std.proofs.lemmas.List.{append-nil, append_cancel_right, drop_all, drop_at, take-append-le, take_all}
 use Rattle.std.specs.Str.{bytes_eq}
-use Rattle.hx_base.specs.Bytes.{question_mark}
+use Rattle.hx_base.specs.Bytes.{ascii}
 use Rattle.hx_http.specs.Edits.{target_with_path, target_with_query}
 use Rattle.hx_http.specs.Target.{before_query, path_of, query_of, query_text}
 use Rattle.hx_http.proofs.TargetLemmas.{path_parts, query_whole}
@@ -80,7 +80,7 @@ by_new_query target query some =
 -- the target with another query, by the number at which its own ends
 pub with_query_at : (target query : List ℕ)
     → (is_some (query_of target) || nat_lt 0 (length query)) ≡ true
-    → take (length (before_query target)) target ++ question_mark ∷ [] ++ query
+    → take (length (before_query target)) target ++ ascii "?" ∷ [] ++ query
     ++ drop (length target) target
     ≡ target_with_query query target
 with_query_at target query some =

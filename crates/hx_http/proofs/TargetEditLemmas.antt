@@ -1,15 +1,17 @@
 -- The path and the query that a target has after an edit.
-use Rattle.std.proofs.Common.{◌≡◌, ℕ, ◌-◌, ◌<◌, ◌||◌, nat_eq, Bool, true, false, List, ◌∷◌, ◌++◌, Option, Some, None, codes, length, drop, sym, ap, ◌∙◌, refl, arith, append_assoc, length-append}
-use Rattle.std.specs.Prelude.{is_some, nat_lt, IsSome, IsTrue}
-use Rattle.std.specs.List.{starts_with}
+use Rattle.std.proofs.Common.{◌≡◌, ℕ, ◌-◌, ◌<◌, ◌&&◌, ◌||◌, nat_eq, Bool, true, false, List, ◌∷◌, ◌++◌, Option, Some, None, codes, length, drop, sym, ap, ◌∙◌, refl, arith, append_assoc, length-append}
+use Rattle.std.specs.Prelude.{is_some, nat_lt, if◌then◌else◌, IsSome}
+use Rattle.std.specs.Char.{is_ascii_graphic}
+use Rattle.std.specs.List.{list_all, starts_with}
 use Rattle.std.specs.Str.{bytes_eq}
 use Rattle.std.specs.Cmp.Lexicographic.{bytes_decides}
 use Rattle.std.proofs.lemmas.Bool.{and_parts, cond-true, cond-false, ne_eqb}
 use Rattle.std.proofs.lemmas.List.{append_cancel_right, take_at}
 use Rattle.std.proofs.lemmas.Option.{none-some}
-use Rattle.hx_base.specs.Bytes.{question_mark, slash}
+use Rattle.hx_base.specs.Bytes.{ascii}
 use Rattle.hx_text.specs.Cut.{cut_of}
-use Rattle.hx_http.specs.Edits.{before_path, is_path, takes_path, target_with_path, target_with_query}
+use Rattle.hx_http.specs.declared.fault.EditFault.TheVariants.{BadBytes, NoPath}
+use Rattle.hx_http.specs.Edits.{before_path, path_fault, target_with_path, target_with_query}
 use Rattle.hx_http.specs.Target.{before_query, path_before_query, path_of, query_of, query_text, HasPath}
 use Rattle.hx_http.proofs.PlaceLemmas.{by_new_query, by_old_query}
 use Rattle.hx_http.proofs.TargetLemmas.{another_path, path_only, path_parts, query_first, query_only, query_whole, starts_slash}
@@ -48,15 +50,15 @@ new_path_at target path prefix old query h =
     rw (plain, is.0, before, is.1) (append_assoc prefix path (query_text query))
 
 -- what stands before the query of a path begins with `/` too
-slash_stays : (rest : List ℕ) (cut : Option (List ℕ × List ℕ)) → cut_of question_mark rest ≡ cut
-    → starts_with nat_eq (before_query (slash ∷ rest)) (codes "/") ≡ true
+slash_stays : (rest : List ℕ) (cut : Option (List ℕ × List ℕ)) → cut_of (ascii "?") rest ≡ cut
+    → starts_with nat_eq (before_query (ascii "/" ∷ rest)) (codes "/") ≡ true
 slash_stays rest None is = rw is refl
 slash_stays rest (Some p) is = rw is refl
 
 before_query_starts : (path : List ℕ) → starts_with nat_eq path (codes "/") ≡ true
     → starts_with nat_eq (before_query path) (codes "/") ≡ true
 before_query_starts path starts =
-    rw (starts_slash path starts) (slash_stays (drop 1 path) (cut_of question_mark (drop 1 path)) refl)
+    rw (starts_slash path starts) (slash_stays (drop 1 path) (cut_of (ascii "?") (drop 1 path)) refl)
 
 -- a path is the path of itself, up to its first `?`
 path_of_path : (path : List ℕ) → starts_with nat_eq path (codes "/") ≡ true
@@ -102,11 +104,21 @@ new_path_by target path false (Some old) star is takes starts =
     let placed = path_parts target old is in
     new_path_in_place target path placed.0 old (query_of target) placed.1 starts
 
-pub path_of_new : (target path : List ℕ) → IsTrue (is_path path) → IsTrue (takes_path target)
+-- what isn't refused passes both tests
+both_pass : (good takes : Bool)
+    → (if good then (if takes then None else Some NoPath) else Some BadBytes) ≡ None
+    → (good ≡ true) × (takes ≡ true)
+both_pass true true none = (refl, refl)
+both_pass true false none = absurd (none-some NoPath (sym none))
+both_pass false takes none = absurd (none-some BadBytes (sym none))
+
+pub path_of_new : (target path : List ℕ) → path_fault path target ≡ None
     → path_of (target_with_path path target) ≡ Some (before_query path)
-path_of_new target path good takes =
-    new_path_by target path (bytes_eq target (codes "*")) (path_of target) refl refl takes
-    (and_parts _ _ good).0
+path_of_new target path none =
+    let pass = both_pass (starts_with nat_eq path (codes "/") && list_all is_ascii_graphic path)
+    (bytes_eq target (codes "*") || is_some (path_of target)) none in
+    new_path_by target path (bytes_eq target (codes "*")) (path_of target) refl refl pass.1
+    (and_parts _ _ pass.0).0
 
 -- ---- the query
 

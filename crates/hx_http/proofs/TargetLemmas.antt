@@ -9,7 +9,7 @@ use Rattle.std.proofs.lemmas.Bool.Decides.{Decides-eqb}
 use Rattle.std.proofs.lemmas.Slice.Eq.{starts_is}
 use Rattle.memchr.specs.Find.{FindsNeedle, OccursAt}
 use Rattle.std.proofs.lemmas.Option.{none-some, same_Some, option_and_then_some}
-use Rattle.hx_base.specs.Bytes.{question_mark, slash}
+use Rattle.hx_base.specs.Bytes.{ascii}
 use Rattle.hx_text.specs.Cut.{cut_of}
 use Rattle.hx_http.specs.Target.{before_query, query_of, query_text, from_slash, after_mark, path_before_query, path_of, HasPath, EndsWithAuthority}
 use Rattle.hx_http.proofs.CutLemmas.{neither, IsCut-cut_of, lacks-cut_of, cut_of-first, cut_of-lacking}
@@ -20,58 +20,58 @@ use Rattle.hx_http.proofs.MarkLemmas.{after_mark_at, IsAfterFirst-after_mark}
 -- a target is cut around its first `?`
 record IsCutAtQuery (target before : List ℕ) (query : Option (List ℕ)) : Type 0 where
   whole : target ≡ before ++ query_text query
-  first : list_any (λ b. b == question_mark) before ≡ false
+  first : list_any (λ b. b == ascii "?") before ≡ false
 
 cut_at_query_by : (target : List ℕ) (cut : Option (List ℕ × List ℕ))
-    → cut_of question_mark target ≡ cut
+    → cut_of (ascii "?") target ≡ cut
     → IsCutAtQuery target (before_query target) (query_of target)
 cut_at_query_by target None is =
-    rw is (record { whole = sym (append-nil target); first = lacks-cut_of question_mark target is })
+    rw is (record { whole = sym (append-nil target); first = lacks-cut_of (ascii "?") target is })
 cut_at_query_by target (Some p) is =
-    let cut = IsCut-cut_of question_mark target p.0 p.1 is in
+    let cut = IsCut-cut_of (ascii "?") target p.0 p.1 is in
     rw is (record { whole = cut.whole; first = cut.first })
 
 cut_at_query : (target : List ℕ) → IsCutAtQuery target (before_query target) (query_of target)
-cut_at_query target = cut_at_query_by target (cut_of question_mark target) refl
+cut_at_query target = cut_at_query_by target (cut_of (ascii "?") target) refl
 
 pub query_whole : (target : List ℕ) → target ≡ before_query target ++ query_text (query_of target)
 query_whole target = (cut_at_query target).whole
 
 pub query_first : (target : List ℕ)
-    → list_any (λ b. b == question_mark) (before_query target) ≡ false
+    → list_any (λ b. b == ascii "?") (before_query target) ≡ false
 query_first target = (cut_at_query target).first
 
 -- the cut is the only one
 pub query_only : (before : List ℕ) (query : Option (List ℕ))
-    → list_any (λ b. b == question_mark) before ≡ false
+    → list_any (λ b. b == ascii "?") before ≡ false
     → (before_query (before ++ query_text query) ≡ before)
     × (query_of (before ++ query_text query) ≡ query)
 query_only before None first =
-    let none = ap (cut_of question_mark) (append-nil before) ∙ cut_of-lacking question_mark before first in
+    let none = ap (cut_of (ascii "?")) (append-nil before) ∙ cut_of-lacking (ascii "?") before first in
     (rw none (append-nil before), rw none refl)
 query_only before (Some query) first =
-    let some = cut_of-first question_mark before query first in
+    let some = cut_of-first (ascii "?") before query first in
     (rw some refl, rw some refl)
 
 -- ---- the path
 
 pub starts_slash : (path : List ℕ) → starts_with nat_eq path (codes "/") ≡ true
-    → path ≡ slash ∷ drop 1 path
+    → path ≡ ascii "/" ∷ drop 1 path
 starts_slash path starts = (starts_is Decides-eqb path (codes "/") _ refl).0 starts
 
 -- what stands before the first `/`, and the path from there on
 record HasAuthority (text path : List ℕ) : Type 0 where
   authority : List ℕ
   whole : text ≡ authority ++ path
-  no_slash : list_any (λ b. b == slash) authority ≡ false
+  no_slash : list_any (λ b. b == ascii "/") authority ≡ false
   slash_first : starts_with nat_eq path (codes "/") ≡ true
 
-has_authority : (text path : List ℕ) (cut : Option (List ℕ × List ℕ)) → cut_of slash text ≡ cut
-    → option_map (λ p. slash ∷ p.1) cut ≡ Some path → HasAuthority text path
+has_authority : (text path : List ℕ) (cut : Option (List ℕ × List ℕ)) → cut_of (ascii "/") text ≡ cut
+    → option_map (λ p. ascii "/" ∷ p.1) cut ≡ Some path → HasAuthority text path
 has_authority text path None at is = absurd (none-some path is)
 has_authority text path (Some p) at is =
-    let cut = IsCut-cut_of slash text p.0 p.1 at in
-    let same = same_Some (slash ∷ p.1) path is in
+    let cut = IsCut-cut_of (ascii "/") text p.0 p.1 at in
+    let same = same_Some (ascii "/" ∷ p.1) path is in
     record {
       authority = p.0;
       whole = cut.whole ∙ ap (λ (xs : List ℕ). p.0 ++ xs) same;
@@ -95,7 +95,7 @@ placed_in_uri text path no_slash is =
     option_and_then_some from_slash (after_mark (codes "://") text) path is
     (λ rest found from.
     let after = IsAfterFirst-after_mark (codes "://") text rest found in
-    let part = has_authority rest path (cut_of slash rest) refl from in
+    let part = has_authority rest path (cut_of (ascii "/") rest) refl from in
     let prefix = after.before ++ (codes "://" ++ part.authority) in
     let whole : text ≡ prefix ++ path
     = after.whole ∙ ap (λ (xs : List ℕ). after.before ++ (codes "://" ++ xs)) part.whole
@@ -139,19 +139,19 @@ path_parts target path is =
       record {
         whole = cut.whole ∙ ap (λ (xs : List ℕ). xs ++ query_text (query_of target)) placed.whole
             ∙ append_assoc placed.prefix path (query_text (query_of target));
-        no_mark = subst (λ (xs : List ℕ). list_any (λ b. b == question_mark) xs ≡ false) placed.whole cut.first;
+        no_mark = subst (λ (xs : List ℕ). list_any (λ b. b == ascii "?") xs ≡ false) placed.whole cut.first;
         slash_first = placed.slash_first;
         before = placed.before;
       },
     )
 
 -- from the prefix and the path to the function
-from_slash_at : (authority path : List ℕ) → list_any (λ b. b == slash) authority ≡ false
+from_slash_at : (authority path : List ℕ) → list_any (λ b. b == ascii "/") authority ≡ false
     → starts_with nat_eq path (codes "/") ≡ true → from_slash (authority ++ path) ≡ Some path
 from_slash_at authority path no_slash starts =
     let slash_first = starts_slash path starts in
     ap (λ (xs : List ℕ). from_slash (authority ++ xs)) slash_first
-    ∙ ap (option_map (λ (p : List ℕ × List ℕ). slash ∷ p.1)) (cut_of-first slash authority
+    ∙ ap (option_map (λ (p : List ℕ × List ℕ). ascii "/" ∷ p.1)) (cut_of-first (ascii "/") authority
     (drop 1 path) no_slash)
     ∙ ap Some (sym slash_first)
 
@@ -237,10 +237,10 @@ before_stays prefix old path (inr h) = inr (authority_stays prefix old path h)
 
 pub another_path : (target path prefix old : List ℕ) (query : Option (List ℕ))
     → HasPath target prefix old query
-    → starts_with nat_eq path (codes "/") ≡ true → list_any (λ b. b == question_mark) path ≡ false
+    → starts_with nat_eq path (codes "/") ≡ true → list_any (λ b. b == ascii "?") path ≡ false
     → HasPath (prefix ++ (path ++ query_text query)) prefix path query
 another_path target path prefix old query h starts none =
-    let test = λ (b : ℕ). b == question_mark in
+    let test = λ (b : ℕ). b == ascii "?" in
     let parts = neither (list_any test prefix) (list_any test old)
     (sym (list_any-append test prefix old) ∙ h.no_mark) in
     record {

@@ -7,7 +7,7 @@ use Rattle.std.specs.List.{list_all, list_any, starts_with}
 use Rattle.std.specs.Option.{option_map_or}
 use Rattle.std.specs.Str.{bytes_eq, str_eq_ignore_ascii_case}
 use Rattle.httparse.specs.Grammar.{is_token}
-use Rattle.hx_base.specs.Bytes.{is_bad_value_byte, question_mark}
+use Rattle.hx_base.specs.Bytes.{ascii, is_bad_value_byte}
 use Rattle.hx_http.specs.declared.fault.EditFault.{EditFault}
 use Rattle.hx_http.specs.declared.fault.EditFault.TheVariants.{BadBytes, TooMany, NoPath, NoMemory}
 use Rattle.hx_http.specs.Head.{header_limit}
@@ -49,8 +49,7 @@ value_fault value = if list_any is_bad_value_byte value then Some BadBytes else 
 abbrev pub line_fault : List ℕ → Parts → Option EditFault
 line_fault value after =
     if list_any is_bad_value_byte value then Some BadBytes
-    else if nat_lt header_limit (length after.headers) then Some TooMany
-    else None
+    else if nat_lt header_limit (length after.headers) then Some TooMany else None
 
 -- why `add-header` is refused
 abbrev pub add_header_fault : List ℕ → List ℕ → Parts → Option EditFault
@@ -97,25 +96,20 @@ target_with_path path target =
 abbrev pub with_path : List ℕ → Parts → Parts
 with_path path head = with_target (target_with_path path head.target) head
 
--- whether the text begins with `/`, and has no byte outside 0x21 to 0x7E
-abbrev pub is_path : List ℕ → Bool
-is_path path = starts_with nat_eq path (codes "/") && list_all is_ascii_graphic path
-
--- whether a path can stand in the target: it is `*`, or has one
-abbrev pub takes_path : List ℕ → Bool
-takes_path target = bytes_eq target (codes "*") || is_some (path_of target)
-
--- why a path is refused in a target: for its bytes, or else since the target has no path
+-- why a path is refused in a target: it doesn't begin with `/` or has a byte outside 0x21 to 0x7E,
+-- or else the target isn't `*` and has no path
 abbrev pub path_fault : List ℕ → List ℕ → Option EditFault
 path_fault path target =
-    if is_path path then (if takes_path target then None else Some NoPath) else Some BadBytes
+    if starts_with nat_eq path (codes "/") && list_all is_ascii_graphic path
+    then (if bytes_eq target (codes "*") || is_some (path_of target) then None else Some NoPath)
+    else Some BadBytes
 
 -- The target with another query after its first `?`. Where it has none, one is added to its end and
 -- then the query, but nothing where the query is empty. A `?` is never taken away.
 abbrev pub target_with_query : List ℕ → List ℕ → List ℕ
 target_with_query query target =
     if is_some (query_of target) || nat_lt 0 (length query)
-    then before_query target ++ question_mark ∷ query else target
+    then before_query target ++ ascii "?" ∷ query else target
 
 -- `set-query`: the head with another query in its target
 abbrev pub with_query : List ℕ → Parts → Parts

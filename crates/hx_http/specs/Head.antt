@@ -2,7 +2,7 @@
 use Rattle.std.specs.Prelude.{◌≡◌, ℕ, ◌<◌, ◌≤◌, Bool, ◌&&◌, List, length, take, drop, nat_lt, nat_le, if◌then◌else◌}
 use Rattle.std.specs.List.{list_all}
 use Rattle.std.specs.Str.{bytes_eq, is_utf8}
-use Rattle.httparse.specs.Grammar.{RequestHead, Field, ReadsRequest, HasNoRequest, print_request, is_token, is_uri_byte, is_value_byte}
+use Rattle.httparse.specs.Grammar.{RequestHead, ReadsRequest, HasNoRequest, print_request, is_token, is_uri_byte, is_value_byte}
 use Rattle.hx_http.specs.Parts.{Parts, parts}
 use Rattle.hx_http.specs.Lines.{possible_head}
 
@@ -34,36 +34,25 @@ IsHead bytes none = HasNoRequest bytes
 abbrev pub HasHead : List ℕ → Type 0
 HasHead bytes = (h : RequestHead) × (rest : List ℕ) × ReadsRequest bytes h rest
 
--- Whether the name is a token, and the value has no control byte but the tab (RFC 9112, section 5).
-abbrev pub is_field : Field → Bool
-is_field f = is_token f.name && list_all is_value_byte f.raw
-
 -- Whether each part is of its kind: the method a token, the target text without blanks and control
--- bytes, the version known, and each header line well formed.
+-- bytes, the version known, and of each header line the name a token and the value without control
+-- bytes but the tab (RFC 9112, section 5).
 abbrev pub is_request_head : RequestHead → Bool
 is_request_head h =
     is_token h.method
     && (nat_lt 0 (length h.target) && list_all is_uri_byte h.target && is_utf8 h.target)
-    && nat_le h.minor 1
-    && list_all is_field h.fields
+    && nat_le h.minor 1 && list_all (λ f. is_token f.name && list_all is_value_byte f.raw) h.fields
 
--- Whether the parts are of their kinds, and the bytes begin with the head when it is printed.
-abbrev pub begins_with_head : List ℕ → RequestHead → Bool
-begins_with_head bytes h =
-    is_request_head h && bytes_eq (take (length (print_request h)) bytes) (print_request h)
-
--- What the bytes begin with, where no other parts can be those of a head.
-abbrev pub head_by_parts : List ℕ → RequestHead → Head
-head_by_parts bytes h =
-    if begins_with_head bytes h then (
-    if nat_le (length h.fields) header_limit then message (parts h) (length (print_request h))
-    else many
-    ) else none
-
--- The function: what the bytes begin with. `IsHead bytes (head_of bytes)` holds, and `IsHead bytes
--- head` holds for no other head.
+-- The function: what the bytes begin with. Only one head could begin them, which they do where its
+-- parts are of their kinds, and they begin as it is printed. `IsHead bytes (head_of bytes)` holds,
+-- and `IsHead bytes head` holds for no other head.
 unfoldable pub head_of : List ℕ → Head
-head_of bytes = head_by_parts bytes (possible_head bytes)
+head_of bytes =
+    let h = possible_head bytes in
+    let text = print_request h in
+    if is_request_head h && bytes_eq (take (length text) bytes) text
+    then (if nat_le (length h.fields) header_limit then message (parts h) (length text) else many)
+    else none
 
 -- The two laws by which a function gives the answers of the relation: what it gives is a head of
 -- the bytes, and nothing else is.

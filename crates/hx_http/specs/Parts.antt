@@ -14,9 +14,6 @@ pub record Parts : Type 0 where
 -- The parts of a head of the grammar (RFC 9112, sections 3 and 5). A value has no spaces and tabs
 -- at its ends, as section 5.1 leaves them out.
 abbrev pub parts : RequestHead → Parts
-parts h = record {
-  method = h.method;
-  target = h.target;
-  minor = h.minor;
-  headers = map name_and_value h.fields;
-}
+parts h =
+    let headers = map name_and_value h.fields in
+    record { method = h.method; target = h.target; minor = h.minor; headers = headers }

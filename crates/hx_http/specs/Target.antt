@@ -4,22 +4,22 @@ use Rattle.std.specs.Prelude.{◌≡◌, ◌⊎◌, ℕ, true, false, List, [], 
 use Rattle.std.specs.Option.{option_map_or}
 use Rattle.std.specs.List.{starts_with, list_any}
 use Rattle.memchr.specs.Find.{FindsNeedle}
-use Rattle.hx_base.specs.Bytes.{question_mark, slash}
+use Rattle.hx_base.specs.Bytes.{ascii}
 use Rattle.hx_text.specs.Cut.{cut_of}
 
 -- ---- as functions
 
 -- What stands before the first `?`, which is all of the target where it has none.
 abbrev pub before_query : List ℕ → List ℕ
-before_query target = option_map_or (λ cut. cut.0) (cut_of question_mark target) target
+before_query target = option_map_or (λ cut. cut.0) (cut_of (ascii "?") target) target
 
 -- The query: what follows the first `?`, absent without one (RFC 3986, section 3.4).
 abbrev pub query_of : List ℕ → Option (List ℕ)
-query_of target = option_map (λ cut. cut.1) (cut_of question_mark target)
+query_of target = option_map (λ cut. cut.1) (cut_of (ascii "?") target)
 
 -- The bytes from the first `/` on, absent without one.
 abbrev pub from_slash : List ℕ → Option (List ℕ)
-from_slash text = option_map (λ cut. slash ∷ cut.1) (cut_of slash text)
+from_slash text = option_map (λ cut. ascii "/" ∷ cut.1) (cut_of (ascii "/") text)
 
 -- What follows the first occurrence of the mark, absent where it occurs nowhere.
 abbrev pub after_mark : List ℕ → List ℕ → Option (List ℕ)
@@ -44,8 +44,7 @@ path_of target = path_before_query (before_query target)
 
 -- `?` and the query, or nothing where there is no query.
 abbrev pub query_text : Option (List ℕ) → List ℕ
-query_text None = []
-query_text (Some query) = question_mark ∷ query
+query_text query = option_map_or (λ text. ascii "?" ∷ text) query []
 
 -- What stands before the path of an absolute URI: a scheme, `://`, which occurs nowhere before, and
 -- an authority, in which no `/` stands.
@@ -54,12 +53,12 @@ pub record EndsWithAuthority (prefix path : List ℕ) : Type 0 where
   pub authority : List ℕ
   pub whole : prefix ≡ scheme ++ (codes "://" ++ authority)
   pub first : FindsNeedle (prefix ++ path) (codes "://") 0 (Some (length scheme))
-  pub no_slash : list_any (λ b. b == slash) authority ≡ false
+  pub no_slash : list_any (λ b. b == ascii "/") authority ≡ false
   pub no_origin_form : starts_with nat_eq (prefix ++ path) (codes "/") ≡ false
 
 -- The parts of a target that has a path: what stands before the path, the path, and its query.
 pub record HasPath (target prefix path : List ℕ) (query : Option (List ℕ)) : Type 0 where
   pub whole : target ≡ prefix ++ (path ++ query_text query)
-  pub no_mark : list_any (λ b. b == question_mark) (prefix ++ path) ≡ false
+  pub no_mark : list_any (λ b. b == ascii "?") (prefix ++ path) ≡ false
   pub slash_first : starts_with nat_eq path (codes "/") ≡ true
   pub before : (prefix ≡ []) ⊎ EndsWithAuthority prefix path

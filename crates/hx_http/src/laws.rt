@@ -1,9 +1,9 @@
 //! Laws of the definitions that the contracts of this crate cite, each the contract of a function
 //! that does nothing.
-ghost use Rattle.std.specs.Prelude.{◌≡◌, ℕ, ◌<◌, List, ◌++◌, length, Option, Some, IsSome, IsTrue, ◌==◌, true, false, nat_eq, codes};
+ghost use Rattle.std.specs.Prelude.{◌≡◌, ℕ, ◌<◌, List, ◌++◌, length, Option, None, Some, IsSome, ◌==◌, true, false, nat_eq, codes};
 ghost use Rattle.std.specs.List.{list_any, starts_with};
-ghost use Rattle.hx_base.specs.Bytes.{question_mark};
-ghost use Rattle.hx_http.specs.Edits.{is_path, takes_path, target_with_path, target_with_query};
+ghost use Rattle.hx_base.specs.Bytes.{ascii};
+ghost use Rattle.hx_http.specs.Edits.{path_fault, target_with_path, target_with_query};
 ghost use Rattle.hx_http.specs.Head.{head_of, GivesHeads, GivesOnlyHeads};
 ghost use Rattle.hx_http.specs.Target.{before_query, query_of, query_text, path_of, HasPath};
 
@@ -17,7 +17,7 @@ pub fn one_head()
 /// A target is what stands before its first `?` and, where there is one, that `?` and the query.
 pub fn query_of_a_target(target: &[u8])
     ensures whole { target.now ≡ before_query target.now ++ query_text (query_of target.now) }
-    ensures first { list_any (λ b. b == question_mark) (before_query target.now) ≡ false }
+    ensures first { list_any (λ b. b == ascii "?") (before_query target.now) ≡ false }
 {}
 
 /// A target with a path is what stands before the path, the path and, where it has one, `?` and the
@@ -34,18 +34,18 @@ pub fn path_of_a_target(target: &[u8])
 pub fn another_path_in_a_target(target: &[u8], path: &[u8])
     ensures { (prefix old : List ℕ) (query : Option (List ℕ)) → HasPath target.now prefix old query
         → starts_with nat_eq path.now (codes "/") ≡ true
-        → list_any (λ b. b == question_mark) path.now ≡ false
+        → list_any (λ b. b == ascii "?") path.now ≡ false
         → HasPath (prefix ++ (path.now ++ query_text query)) prefix path.now query }
 {}
 
 /// Another path in a target that has one: what stands before the old path, the new path, and `?`
-/// and the query where there are these. The path that the target then has is the new one up to its
-/// first `?`, and the same is so where the target was `*`.
+/// and the query where there are these. Where the path isn't refused, as in a target `*` too, the
+/// path that the target then has is the new one up to its first `?`.
 pub fn target_with_another_path(target: &[u8], path: &[u8])
     ensures parts { (prefix old : List ℕ) (query : Option (List ℕ))
         → HasPath target.now prefix old query
         → target_with_path path.now target.now ≡ prefix ++ (path.now ++ query_text query) }
-    ensures path { IsTrue (is_path path.now) → IsTrue (takes_path target.now)
+    ensures path { path_fault path.now target.now ≡ None
         → path_of (target_with_path path.now target.now) ≡ Some (before_query path.now) }
 {}
 

@@ -1,6 +1,7 @@
-ghost use Rattle.std.specs.Prelude.{◌≡◌, ◌≤◌, ℕ, List, ◌++◌, length, take, drop, is_some, IfSome};
+ghost use Rattle.std.specs.Prelude.{◌≡◌, ◌≤◌, ◌||◌, ℕ, List, ◌++◌, length, take, drop, codes, is_some, IfSome};
 ghost use Rattle.std.specs.Option.{option_copied};
-ghost use Rattle.hx_http.specs.Edits.{takes_path, target_with_path};
+ghost use Rattle.std.specs.Str.{bytes_eq};
+ghost use Rattle.hx_http.specs.Edits.{target_with_path};
 ghost use Rattle.hx_http.specs.Target.{before_query, query_of, from_slash, path_before_query, path_of};
 
 use hx_text::cut_at;
@@ -43,7 +44,8 @@ pub(crate) fn before_query(target: &[u8]) -> &[u8]
 /// Where another path may stand in a target: it begins after that many bytes, and what follows it
 /// begins after that many. None where the target has no path and isn't `*`.
 pub(crate) fn path_place(target: &[u8]) -> Option<(usize, usize)>
-    ensures some { is_some result ≡ takes_path target.now }
+    ensures some { is_some result
+        ≡ (bytes_eq target.now (codes "*") || is_some (path_of target.now)) }
     ensures order { IfSome result (λ place. place.0 ≤ place.1) }
     ensures within { IfSome result (λ place. place.1 ≤ length target.now) }
     ensures path { IfSome result (λ place. (path : List ℕ) → target_with_path path target.now

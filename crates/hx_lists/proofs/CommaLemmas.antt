@@ -3,9 +3,10 @@ use Rattle.std.proofs.Common.{◌≡◌, ◌≢◌, ℕ, true, false, ◌||◌, 
 use Rattle.std.specs.Bool.{⊤}
 use Rattle.std.specs.List.{AllByRecursion, join_with_byte, list_any, onto_first}
 use Rattle.std.proofs.lemmas.Bool.{cases_Bool, false≢true}
-use Rattle.hx_lists.specs.HeaderValues.{Quoting, Outside, Quoted, Escaped, quoting_after, bytes_with_quoting, is_outside, is_cut, pieces_from, hdr_pieces}
+use Rattle.hx_lists.specs.HeaderValues.{Quoting, Outside, Quoted, Escaped, quoting_after, bytes_with_quoting, is_cut, hdr_pieces}
+use Rattle.hx_lists.specs.HeaderScan.{pieces_from}
 use Rattle.hx_lists.specs.HeaderValues.{pieces_with_prefix}
-use Rattle.hx_lists.specs.Laws.{AllButLast, has_cut, ends_outside, IsCutAtCommas}
+use Rattle.hx_lists.specs.Laws.{AllButLast, has_cut, is_outside, ends_outside, IsCutAtCommas}
 use Rattle.hx_lists.proofs.PieceLemmas.{pieces_from-kept, pieces_at-zero}
 use Rattle.hx_lists.proofs.SplitLemmas.{neither, onto_first-pieces_with_prefix}
 

@@ -4,9 +4,9 @@ use Rattle.std.specs.List.{slice_split, onto_first}
 use Rattle.std.proofs.lemmas.Bool.{cases_Bool, cases_lt, ne_eqb}
 use Rattle.std.proofs.lemmas.List.{drop_more, drop_all, take_all, take_more}
 use Rattle.std.proofs.lemmas.List.Splits.{slice_split-cons_yes, slice_split-cons_no}
-use Rattle.hx_lists.specs.HeaderValues.{Quoting, Outside, Quoted, Escaped, quoting_after, bytes_with_quoting, is_cut, pieces_from, hdr_pieces}
+use Rattle.hx_lists.specs.HeaderValues.{Quoting, Outside, Quoted, Escaped, quoting_after, bytes_with_quoting, is_cut, hdr_pieces}
+use Rattle.hx_lists.specs.HeaderScan.{pieces_from, pieces_at}
 use Rattle.hx_lists.specs.HeaderValues.{pieces_with_prefix}
-use Rattle.hx_lists.specs.HeaderScan.{pieces_at}
 
 map-onto_first : {A B : Type 0} (f : A → B) (x : A) (parts : List (List A))
     → map (map f) (onto_first x parts) ≡ onto_first (f x) (map (map f) parts)

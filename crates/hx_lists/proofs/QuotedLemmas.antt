@@ -2,7 +2,8 @@
 use Rattle.std.proofs.Common.{◌≡◌, ◌≢◌, ℕ, List, [], ◌∷◌, ◌++◌, refl, sym, ap, ◌∙◌, append_assoc, append-nil}
 use Rattle.std.specs.List.{onto_first}
 use Rattle.std.proofs.lemmas.Bool.{ne_eqb}
-use Rattle.hx_lists.specs.HeaderValues.{Outside, Quoted, Escaped, pieces_from, hdr_pieces}
+use Rattle.hx_lists.specs.HeaderValues.{Outside, Quoted, Escaped, hdr_pieces}
+use Rattle.hx_lists.specs.HeaderScan.{pieces_from}
 use Rattle.hx_lists.specs.HeaderValues.{pieces_with_prefix}
 use Rattle.hx_lists.specs.Laws.{IsQuotedText, Nothing, Plain, Pair}
 use Rattle.hx_lists.proofs.PieceLemmas.{pieces_from-kept, pieces_at-zero}

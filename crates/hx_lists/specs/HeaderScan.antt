@@ -1,6 +1,12 @@
 -- A view of the code, for private contracts: the search for the end of a header line's first piece.
-use Rattle.std.specs.Prelude.{ℕ, List, take, drop}
-use Rattle.hx_lists.specs.HeaderValues.{Quoting, pieces_from, pieces_with_prefix}
+use Rattle.std.specs.Prelude.{ℕ, List, map, take, drop}
+use Rattle.std.specs.List.{slice_split}
+use Rattle.hx_lists.specs.HeaderValues.{Quoting, bytes_with_quoting, is_cut, pieces_with_prefix}
+
+-- the pieces of a text that begins at `quoting`, as `hdr_pieces` has them of a line
+abbrev pub pieces_from : Quoting → List ℕ → List (List ℕ)
+pieces_from quoting bytes =
+    map (map (λ byte. byte.1)) (slice_split is_cut (bytes_with_quoting quoting bytes))
 
 -- the pieces of a line whose bytes before `position` all belong to the first, where those from
 -- there on begin at `quoting`

@@ -1,8 +1,8 @@
 -- What pins the cuts: each is the one list of pieces that has these facts.
 use Rattle.std.specs.Prelude.{◌≡◌, ◌≢◌, ℕ, ◌+◌, Bool, true, false, List, [], ◌∷◌, ◌++◌, fold, length, ⊤}
 use Rattle.std.specs.List.{AllByRecursion, join_with_byte, list_any, prefix_len, suffix_len}
-use Rattle.hx_base.specs.Bytes.{is_blank, backslash, comma, double_quote}
-use Rattle.hx_lists.specs.HeaderValues.{Outside, quoting_after, bytes_with_quoting, is_outside, is_cut}
+use Rattle.hx_base.specs.Bytes.{ascii, is_blank}
+use Rattle.hx_lists.specs.HeaderValues.{Quoting, Outside, quoting_after, bytes_with_quoting, is_cut}
 
 -- P holds of each element but the last
 abbrev pub AllButLast : {X : Type 0} → (X → Type 0) → List X → Type 0
@@ -14,6 +14,11 @@ AllButLast P (x ∷ y ∷ ys) = P x × AllButLast P (y ∷ ys)
 abbrev pub has_cut : List ℕ → Bool
 has_cut text = list_any is_cut (bytes_with_quoting Outside text)
 
+-- the byte stands outside quoted strings
+abbrev pub is_outside : Quoting → Bool
+is_outside Outside = true
+is_outside _ = false
+
 -- each quoted string of the text ends within it
 abbrev pub ends_outside : List ℕ → Bool
 ends_outside text = is_outside (fold quoting_after Outside text)
@@ -22,16 +27,16 @@ ends_outside text = is_outside (fold quoting_after Outside text)
 -- backslash, and pairs of a backslash and any byte.
 pub data IsQuotedText : List ℕ → Type 0 where
   Nothing : IsQuotedText []
-  Plain : (b : ℕ) (rest : List ℕ) → b ≢ double_quote → b ≢ backslash → IsQuotedText rest
+  Plain : (b : ℕ) (rest : List ℕ) → b ≢ ascii "\"" → b ≢ ascii "\\" → IsQuotedText rest
       → IsQuotedText (b ∷ rest)
-  Pair : (b : ℕ) (rest : List ℕ) → IsQuotedText rest → IsQuotedText (backslash ∷ b ∷ rest)
+  Pair : (b : ℕ) (rest : List ℕ) → IsQuotedText rest → IsQuotedText (ascii "\\" ∷ b ∷ rest)
 
 -- The pieces of a line, cut at each comma outside quoted strings and nowhere else: joined by commas
 -- they are the line, no piece has such a comma, and no quoted string goes on after a piece that
 -- another follows.
 pub record IsCutAtCommas (pieces : List (List ℕ)) (line : List ℕ) : Type 0 where
   pub some : pieces ≢ []
-  pub joined : join_with_byte comma pieces ≡ line
+  pub joined : join_with_byte (ascii ",") pieces ≡ line
   pub uncut : AllByRecursion (λ piece. has_cut piece ≡ false) pieces
   pub closed : AllButLast (λ piece. ends_outside piece ≡ true) pieces
 

@@ -2,45 +2,36 @@
 -- 6265 section 4.2.1) and the parameters of a target (the same section of the manual).
 use Rattle.std.specs.Prelude.{ℕ, Bool, ◌||◌, ◌==◌, List, map, filter, Option}
 use Rattle.std.specs.List.{list_any, slice_split, before_first, after_first}
-use Rattle.hx_base.specs.Bytes.{equals_sign, is_given, question_mark, semicolon}
+use Rattle.hx_base.specs.Bytes.{ascii, is_given}
 use Rattle.hx_lists.specs.Blanks.{trim_blanks}
 
 -- a name and its value
 abbrev pub NamedValue : Type 0
 NamedValue = List ℕ × List ℕ
 
--- the piece has `=`, and so names a value
-abbrev pub is_named : List ℕ → Bool
-is_named piece = list_any (λ b. b == equals_sign) piece
-
 -- what stands before the first `=` of a piece, and what follows it
 abbrev pub named_value : List ℕ → NamedValue
 named_value piece =
-    (before_first (λ b. b == equals_sign) piece, after_first (λ b. b == equals_sign) piece)
+    (before_first (λ b. b == ascii "=") piece, after_first (λ b. b == ascii "=") piece)
 
--- a text, cut at each byte that separates: the names and values of those pieces that have them
+-- a text, cut at each byte that separates: the names and values of those pieces that have `=`, and
+-- so name a value
 abbrev pub named_values : (ℕ → Bool) → List ℕ → List NamedValue
-named_values separates text = map named_value (filter is_named (slice_split separates text))
+named_values separates text =
+    map named_value (filter (list_any (λ b. b == ascii "=")) (slice_split separates text))
 
--- a name and its value, each without the blanks at its ends
-abbrev pub trimmed_pair : NamedValue → NamedValue
-trimmed_pair pair = (trim_blanks pair.0, trim_blanks pair.1)
-
--- the cookies of a line, which is cut at each `;`
+-- the cookies of a line, which is cut at each `;`, names and values without blanks at their ends
 abbrev pub cookies : List ℕ → List NamedValue
-cookies line = map trimmed_pair (named_values (λ b. b == semicolon) line)
-
--- b'&'
-abbrev pub ampersand : ℕ
-ampersand = 38
+cookies line =
+    map (λ pair. (trim_blanks pair.0, trim_blanks pair.1)) (named_values (λ b. b == ascii ";") line)
 
 -- `?` or the delimiter: the first in a target stands before its parameters
 abbrev pub begins_params : Option ℕ → ℕ → Bool
-begins_params delim b = b == question_mark || is_given delim b
+begins_params delim b = b == ascii "?" || is_given delim b
 
 -- `&`, `;` or the delimiter: it stands between two parameters
 abbrev pub separates_params : Option ℕ → ℕ → Bool
-separates_params delim b = b == ampersand || b == semicolon || is_given delim b
+separates_params delim b = b == ascii "&" || b == ascii ";" || is_given delim b
 
 -- The parameters of a target: those of what follows the first byte that begins parameters, and none
 -- where there is no such byte. Nothing is decoded.

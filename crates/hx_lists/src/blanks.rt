@@ -36,6 +36,7 @@ pub(crate) fn trim_blanks(bytes: &[u8]) -> &[u8]
 /// The bytes in three parts: the spaces and tabs that they begin with, what stands between, and the
 /// spaces and tabs that they end with (RFC 9110, section 5.6.3). Where they are spaces and tabs
 /// alone, the first part is all of them.
+#[tactic(auto, using(crate::proofs::EndLemmas::last_blanks_are))]
 pub fn cut_blanks(bytes: &[u8]) -> (&[u8], &[u8], &[u8])
     ensures first { result.0.now ≡ first_blanks bytes.now }
     ensures between { result.1.now ≡ trim_blanks bytes.now }

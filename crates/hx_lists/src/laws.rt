@@ -2,10 +2,10 @@
 //! nothing.
 ghost use Rattle.std.specs.Prelude.{◌≡◌, ◌≢◌, ℕ, List, [], ◌∷◌, ◌++◌, true, false, ◌==◌};
 ghost use Rattle.std.specs.List.{list_any, slice_split};
-ghost use Rattle.hx_base.specs.Bytes.{backslash, comma, double_quote, equals_sign, semicolon};
+ghost use Rattle.hx_base.specs.Bytes.{ascii};
 ghost use Rattle.hx_lists.specs.Blanks.{trim_blanks};
 ghost use Rattle.hx_lists.specs.HeaderValues.{hdr_pieces, pieces_with_prefix};
-ghost use Rattle.hx_lists.specs.NamedValues.{is_named, named_value, separates_params};
+ghost use Rattle.hx_lists.specs.NamedValues.{named_value, separates_params};
 ghost use Rattle.hx_lists.specs.Laws.{IsCutAt, IsCutAtCommas, IsQuotedText, IsTrimmed};
 
 /// A header line's pieces, joined by commas, are the line again; a comma outside quoted strings
@@ -21,26 +21,26 @@ pub fn header_pieces(line: &[u8])
 /// belongs to the first piece whole, also where nothing ends it; and so does any other byte.
 pub fn quoted_strings()
     ensures empty { hdr_pieces [] ≡ [] ∷ [] }
-    ensures comma { (rest : List ℕ) → hdr_pieces (comma ∷ rest) ≡ [] ∷ hdr_pieces rest }
+    ensures comma { (rest : List ℕ) → hdr_pieces (ascii "," ∷ rest) ≡ [] ∷ hdr_pieces rest }
     ensures quoted { (text rest : List ℕ) → IsQuotedText text
-        → hdr_pieces (double_quote ∷ (text ++ double_quote ∷ rest))
-        ≡ pieces_with_prefix (double_quote ∷ (text ++ double_quote ∷ [])) (hdr_pieces rest) }
+        → hdr_pieces (ascii "\"" ∷ (text ++ ascii "\"" ∷ rest))
+        ≡ pieces_with_prefix (ascii "\"" ∷ (text ++ ascii "\"" ∷ [])) (hdr_pieces rest) }
     ensures unended { (text : List ℕ) → IsQuotedText text
-        → hdr_pieces (double_quote ∷ text) ≡ (double_quote ∷ text) ∷ [] }
+        → hdr_pieces (ascii "\"" ∷ text) ≡ (ascii "\"" ∷ text) ∷ [] }
     ensures half_pair { (text : List ℕ) → IsQuotedText text
-        → hdr_pieces (double_quote ∷ (text ++ backslash ∷ []))
-        ≡ (double_quote ∷ (text ++ backslash ∷ [])) ∷ [] }
-    ensures other { (b : ℕ) (rest : List ℕ) → b ≢ double_quote → b ≢ comma
+        → hdr_pieces (ascii "\"" ∷ (text ++ ascii "\\" ∷ []))
+        ≡ (ascii "\"" ∷ (text ++ ascii "\\" ∷ [])) ∷ [] }
+    ensures other { (b : ℕ) (rest : List ℕ) → b ≢ ascii "\"" → b ≢ ascii ","
         → hdr_pieces (b ∷ rest) ≡ pieces_with_prefix (b ∷ []) (hdr_pieces rest) }
 {}
 
 /// The pieces of which the cookies of a line are read make up the line with `;` between them, and
 /// have none. No other list of pieces has these facts.
 pub fn cookie_pieces(line: &[u8])
-    ensures cut { IsCutAt (λ b. b == semicolon)
-        (slice_split (λ b. b == semicolon) line.now) line.now }
-    ensures only { (pieces : List (List ℕ)) → IsCutAt (λ b. b == semicolon) pieces line.now
-        → pieces ≡ slice_split (λ b. b == semicolon) line.now }
+    ensures cut { IsCutAt (λ b. b == ascii ";")
+        (slice_split (λ b. b == ascii ";") line.now) line.now }
+    ensures only { (pieces : List (List ℕ)) → IsCutAt (λ b. b == ascii ";") pieces line.now
+        → pieces ≡ slice_split (λ b. b == ascii ";") line.now }
 {}
 
 /// The pieces of which the parameters in a text are read make up the text with bytes between them
@@ -54,9 +54,9 @@ pub fn param_pieces(text: &[u8], delim: Option<u8>)
 
 /// A piece that has `=` is its name, the first `=` and its value.
 pub fn name_and_value(piece: &[u8])
-    ensures whole { is_named piece.now ≡ true
-        → (named_value piece.now).0 ++ equals_sign ∷ (named_value piece.now).1 ≡ piece.now }
-    ensures first { list_any (λ b. b == equals_sign) (named_value piece.now).0 ≡ false }
+    ensures whole { list_any (λ b. b == ascii "=") piece.now ≡ true
+        → (named_value piece.now).0 ++ ascii "=" ∷ (named_value piece.now).1 ≡ piece.now }
+    ensures first { list_any (λ b. b == ascii "=") (named_value piece.now).0 ≡ false }
 {}
 
 /// What a piece loses at its ends are blanks, and all of them. No other part of it has these facts.

@@ -2,8 +2,9 @@ ghost use Rattle.std.specs.Prelude.{◌≡◌, List, ℕ, map};
 ghost use Rattle.std.specs.List.{after_first};
 ghost use Rattle.std.specs.Iterator.{YieldsFirstBy, item_count};
 ghost use Rattle.memchr.specs.Find.{is_byte3};
-ghost use Rattle.hx_lists.specs.NamedValues.{begins_params, separates_params, trimmed_pair};
+ghost use Rattle.hx_lists.specs.NamedValues.{begins_params, separates_params};
 ghost use Rattle.hx_lists.specs.NamedValues.{cookies, params};
+ghost use Rattle.hx_lists.specs.Blanks.{trim_blanks};
 
 use crate::blanks::trim_blanks;
 use crate::pairs::{Pairs, Separators};
@@ -20,7 +21,8 @@ pub struct Cookies<'a> {
 impl<'a> Model for Cookies<'a> {
     ghost Value = { List (List ℕ × List ℕ) };
 
-    ghost view = { λ cookies. map trimmed_pair cookies.pairs };
+    ghost view = { λ cookies.
+        map (λ pair. (trim_blanks pair.0, trim_blanks pair.1)) cookies.pairs };
 }
 
 impl<'a> Cookies<'a> {

@@ -1,9 +1,10 @@
-ghost use Rattle.std.specs.Prelude.{◌≡◌, ◌<◌, [], ◌∷◌, List, ℕ, IfSome, is_some, length};
-ghost use Rattle.std.specs.List.{slice_split};
+ghost use Rattle.std.specs.Prelude.{◌≡◌, ◌==◌, ◌<◌, [], ◌∷◌, List, ℕ, IfSome, is_some, length};
+ghost use Rattle.std.specs.List.{list_any, slice_split};
 ghost use Rattle.std.specs.Option.{option_copied, option_map_or};
 ghost use Rattle.std.specs.Iterator.{YieldsFirstBy, item_count};
+ghost use Rattle.hx_base.specs.Bytes.{ascii};
 ghost use Rattle.memchr.specs.Find.{is_byte3};
-ghost use Rattle.hx_lists.specs.NamedValues.{is_named, named_value, named_values};
+ghost use Rattle.hx_lists.specs.NamedValues.{named_value, named_values};
 
 use memchr::{memchr, memchr3};
 use std::marker::Model;
@@ -72,7 +73,7 @@ fn first_piece<'a>(text: &'a [u8], separators: Separators) -> (&'a [u8], Option<
 
 /// What stands before the first `=` and what follows it, if there is one.
 fn named_value<'a>(piece: &'a [u8]) -> Option<(&'a [u8], &'a [u8])>
-    ensures named { is_some result ≡ is_named piece.now }
+    ensures named { is_some result ≡ list_any (λ b. b == ascii "=") piece.now }
     ensures parts { IfSome result (λ pair. (pair.0.now, pair.1.now) ≡ named_value piece.now) }
 {
     match memchr(b'=', piece) {

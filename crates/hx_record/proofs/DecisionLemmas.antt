@@ -8,7 +8,7 @@ use Rattle.hx_record.specs.declared.fault.RecordFault.TheVariants as faults
 use Rattle.hx_record.specs.declared.refusal.RecordRefusal.{RecordRefusal}
 use Rattle.hx_record.specs.Beginning.{Ends, Beyond, Open, Beginning, Undecided, TooLong, Finish, Fault, Skip, Found}
 use Rattle.hx_record.specs.RefusalCode.{code_of}
-use Rattle.hx_record.specs.Record.{Items, Unknown, items_of_beginning, continuation_of}
+use Rattle.hx_record.specs.Record.{Items, Unknown, items_of, continuation_of}
 use Rattle.hx_record.specs.State.{State, MayFollow, items_after, decided_items_now, remaining_work}
 use Rattle.hx_record.specs.Reading.{Decides, HasEvent}
 use Rattle.hx_record.specs.Parts.{IsFound, beginning_now, state_past}
@@ -115,7 +115,7 @@ decides_long before s p e = record {
 
 -- ---- what else is known
 
-has_event : (limit : ℕ) (p : Beginning) (at : ℕ) (rest : ℕ → Items) → IsFound p → HasEvent (items_of_beginning limit p at rest)
+has_event : (limit : ℕ) (p : Beginning) (at : ℕ) (rest : ℕ → Items) → IsFound p → HasEvent (items_of limit p at rest)
 has_event limit Undecided at rest found = found
 has_event limit TooLong at rest found = found
 has_event limit Finish at rest found = found

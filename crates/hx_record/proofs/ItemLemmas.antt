@@ -4,7 +4,7 @@ use Rattle.std.proofs.lemmas.Bool.{cases_lt, le-ltb}
 use Rattle.std.proofs.lemmas.List.{drop-take}
 use Rattle.std.proofs.Math.Nat.{add-zero}
 use Rattle.hx_record.specs.Beginning.{Continuation, Beginning, Undecided, TooLong, Finish, Fault, Skip, Found, beginning_of}
-use Rattle.hx_record.specs.Record.{Items, Then, items_of_beginning, items, continuation_of, items_from}
+use Rattle.hx_record.specs.Record.{Items, Then, items_of, items, continuation_of, items_from}
 use Rattle.hx_record.proofs.PieceLemmas.{Takes, takes}
 
 -- a byte that belongs to the piece before is passed over
@@ -20,7 +20,7 @@ items_skip limit tail (b ∷ bs) at (suc skip) h =
     items_one_past limit tail b bs at skip ∙ items_skip limit tail bs (at + 1) skip (omega arith) ∙ ap (λ offset. items limit tail (drop skip bs) offset 0) (omega arith)
 
 -- what follows a piece counts only at the bytes that a piece takes
-follow_same : (limit : ℕ) (tail : Continuation) (n : ℕ) (p : Beginning) (at : ℕ) (f g : ℕ → Items) → Takes tail n p → ((used : ℕ) → 0 < used → used ≤ n → f used ≡ g used) → items_of_beginning limit p at f ≡ items_of_beginning limit p at g
+follow_same : (limit : ℕ) (tail : Continuation) (n : ℕ) (p : Beginning) (at : ℕ) (f g : ℕ → Items) → Takes tail n p → ((used : ℕ) → 0 < used → used ≤ n → f used ≡ g used) → items_of limit p at f ≡ items_of limit p at g
 follow_same limit tail n Undecided at f g h same = refl
 follow_same limit tail n TooLong at f g h same = refl
 follow_same limit tail n Finish at f g h same = refl
@@ -29,7 +29,7 @@ follow_same limit tail n (Skip used) at f g h same = same used h.0 h.1
 follow_same limit tail n (Found used event) at f g h same = ap (λ rest. Then (record { offset = at; event = event }) rest) (same used h.0 h.1)
 
 -- the items are the first one, and then those after it
-pub items_step : (limit : ℕ) (tail : Continuation) (bytes : List ℕ) (at : ℕ) → items limit tail bytes at 0 ≡ items_of_beginning limit (beginning_of tail bytes) at (λ used. items limit tail (drop used bytes) (at + used) 0)
+pub items_step : (limit : ℕ) (tail : Continuation) (bytes : List ℕ) (at : ℕ) → items limit tail bytes at 0 ≡ items_of limit (beginning_of tail bytes) at (λ used. items limit tail (drop used bytes) (at + used) 0)
 unfolding items
 items_step limit tail [] at = follow_same limit tail 0 (beginning_of tail []) at _ _ (takes tail []) (λ used some none. absurd (omega arith))
 items_step limit tail (b ∷ bs) at = follow_same limit tail (length (b ∷ bs)) (beginning_of tail (b ∷ bs)) at _ _ (takes tail (b ∷ bs)) (λ used some fits. past used some fits) where
@@ -55,7 +55,7 @@ take-drop room used bytes within =
     ap (λ n. drop used (take n bytes)) (sym sum) ∙ drop-take used (room - used) bytes
 
 -- the same for the rest of a record under a limit
-pub rest_step : (ends : Bool) (at : ℕ) (bytes : List ℕ) (limit : ℕ) → items_from ends at bytes limit ≡ items_of_beginning limit (beginning_of (continuation_of ends (limit - at) bytes) (take (limit - at) bytes)) at (λ used. items_from ends (at + used) (drop used bytes) limit)
+pub rest_step : (ends : Bool) (at : ℕ) (bytes : List ℕ) (limit : ℕ) → items_from ends at bytes limit ≡ items_of limit (beginning_of (continuation_of ends (limit - at) bytes) (take (limit - at) bytes)) at (λ used. items_from ends (at + used) (drop used bytes) limit)
 unfolding items_from
 rest_step ends at bytes limit =
     let room = limit - at in

@@ -7,7 +7,7 @@ use Rattle.hx_record.specs.declared.events.Event.{Event}
 use Rattle.hx_record.specs.declared.refusal.RecordRefusal.{RecordRefusal}
 use Rattle.hx_record.specs.Beginning.{Open, Undecided, TooLong, Finish, Fault, Skip, Found, beginning_of}
 use Rattle.hx_record.specs.RefusalCode.{code_of}
-use Rattle.hx_record.specs.Record.{Unknown, Done, Bad, Then, items_of_beginning, continuation_of, items_from}
+use Rattle.hx_record.specs.Record.{Unknown, Done, Bad, Then, items_of, continuation_of, items_from}
 use Rattle.hx_record.specs.State.{State, MayFollow, items_after, decided_items_now}
 use Rattle.hx_record.proofs.PieceLemmas.{Takes, takes, piece_decided}
 use Rattle.hx_record.proofs.WindowLemmas.{take_all}
@@ -30,9 +30,9 @@ pending_decides false ends room pending more may known =
     ]
 
 -- the items that are left, by what its pending bytes begin with
-now_step : (s : State) (ends : Bool) (more : List ℕ) → MayFollow s ends more → beginning_now s ≢ Undecided → items_after s ends more ≡ items_of_beginning s.limit (beginning_now s) s.at (λ used. items_from ends (s.at + used) (drop used (s.pending ++ more)) s.limit)
+now_step : (s : State) (ends : Bool) (more : List ℕ) → MayFollow s ends more → beginning_now s ≢ Undecided → items_after s ends more ≡ items_of s.limit (beginning_now s) s.at (λ used. items_from ends (s.at + used) (drop used (s.pending ++ more)) s.limit)
 now_step s ends more may known =
-    rest_step ends s.at (s.pending ++ more) s.limit ∙ ap (λ p. items_of_beginning s.limit p s.at (λ used. items_from ends (s.at + used) (drop used (s.pending ++ more)) s.limit)) (pending_decides s.ended ends (s.limit - s.at) s.pending more may known)
+    rest_step ends s.at (s.pending ++ more) s.limit ∙ ap (λ p. items_of s.limit p s.at (λ used. items_from ends (s.at + used) (drop used (s.pending ++ more)) s.limit)) (pending_decides s.ended ends (s.limit - s.at) s.pending more may known)
 
 -- what a piece takes lies within the pending bytes and the limit
 pub now_takes : (s : State) → Takes (continuation_of s.ended (s.limit - s.at) s.pending) (length (take (s.limit - s.at) s.pending)) (beginning_now s)
@@ -64,7 +64,7 @@ fault_within s skip refusal e inside =
 -- ---- what a call answers, by the piece that it comes to
 
 -- the items that the pending bytes decide
-pub now_decided : (s : State) → decided_items_now s ≡ items_of_beginning s.limit (beginning_now s) s.at (λ used. items_from s.ended (s.at + used) (drop used s.pending) s.limit)
+pub now_decided : (s : State) → decided_items_now s ≡ items_of s.limit (beginning_now s) s.at (λ used. items_from s.ended (s.at + used) (drop used s.pending) s.limit)
 now_decided s =
     ap (λ bytes. items_from s.ended s.at bytes s.limit) (append-nil s.pending) ∙ rest_step s.ended s.at s.pending s.limit
 

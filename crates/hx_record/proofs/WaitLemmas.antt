@@ -10,10 +10,10 @@ use Rattle.hx_record.specs.declared.piece.Piece.{Piece}
 use Rattle.hx_record.specs.declared.piece.Piece.TheVariants as pieces
 use Rattle.hx_record.specs.declared.piece.Wait.{Wait}
 use Rattle.hx_record.specs.declared.piece.Wait.TheVariants as waits
-use Rattle.hx_record.specs.Beginning.{Continuation, Open, Undecided, request_beginning, line_beginning, line_length, meaning_without_cr, beginning_of}
+use Rattle.hx_record.specs.Beginning.{Continuation, Open, Undecided, request_beginning, line_beginning, beginning_of}
 use Rattle.hx_record.specs.Line.{LineMeaning, Nothing, Says, Announces}
 use Rattle.hx_record.specs.LineView.{SaysEvent}
-use Rattle.hx_record.specs.PieceView.{AnnouncesRequest, piece_beginning, IsWait, KnowsWait, WantsRequest}
+use Rattle.hx_record.specs.PieceView.{AnnouncesRequest, line_length, meaning_without_cr, piece_beginning, IsWait, KnowsWait, WantsRequest}
 use Rattle.hx_record.specs.Parts.{IsFound}
 use Rattle.hx_record.proofs.WindowLemmas.{take_all}
 use Rattle.hx_record.proofs.PieceLemmas.{Takes, takes, piece_whole, line_length-append, line_length-grows}

@@ -5,8 +5,8 @@ use Rattle.std.specs.List.{onto_first, join_with_byte}
 use Rattle.std.proofs.lemmas.List.Splits.{join_with_byte-slice_split}
 use Rattle.std.specs.Str.{bytes_eq}
 use Rattle.std.proofs.lemmas.Slice.Eq.{bytes_eq-Decides}
-use Rattle.hx_record.specs.Line.{line_words, line_meaning, words_meaning, req_meaning}
-use Rattle.hx_record.specs.LineView.{words_after, IsSomeWords}
+use Rattle.hx_record.specs.Line.{line_meaning, words_meaning, req_meaning}
+use Rattle.hx_record.specs.LineView.{line_words, words_after, IsSomeWords}
 
 -- a text has a word, if it is only an empty one
 pub words_are_some : (text : List ℕ) → IsSomeWords (line_words text)

@@ -1,10 +1,10 @@
 -- What the bytes of a record begin with: a line that says nothing, an event, the record's end, or
 -- what is refused.
-use Rattle.std.specs.Prelude.{ℕ, ◌+◌, List, [], ◌∷◌, length, take, drop, slice_index, Result, Ok, Err, ◌==◌, nat_lt, if◌then◌else◌}
+use Rattle.std.specs.Prelude.{ℕ, ◌+◌, List, [], length, take, drop, slice_index, Result, Ok, Err, ◌==◌, nat_lt, if◌then◌else◌}
 use Rattle.std.specs.List.{position_or_len}
 use Rattle.std.specs.Io.BufRead.{strip_last}
 use Rattle.memchr.specs.Find.{is_byte}
-use Rattle.hx_base.specs.Bytes.{line_feed, carriage_return}
+use Rattle.hx_base.specs.Bytes.{ascii}
 use Rattle.hx_record.specs.Line.{LineMeaning, Nothing, Says, Announces, line_meaning}
 use Rattle.hx_record.specs.declared.events.Event.{Event}
 use Rattle.hx_record.specs.declared.events.Event.TheVariants.{Req}
@@ -14,17 +14,13 @@ use Rattle.hx_record.specs.declared.refusal.RecordRefusal.TheVariants as refusal
 -- What follows the bytes of a record that are given: the record's end, the byte at the limit, or
 -- nothing that is known.
 pub data Continuation : Type 0 where
-  Ends : Continuation
-  Beyond : Continuation
-  Open : Continuation
+  Ends Beyond Open : Continuation
 
 -- What they begin with: more bytes decide it; the byte at the limit is needed, and is there; the
 -- record's end; what is refused, `skip` bytes on; a line of `used` bytes that says nothing; an
 -- event of `used` bytes.
 pub data Beginning : Type 0 where
-  Undecided : Beginning
-  TooLong : Beginning
-  Finish : Beginning
+  Undecided TooLong Finish : Beginning
   Fault : (skip : ℕ) (refusal : RecordRefusal) → Beginning
   Skip : (used : ℕ) → Beginning
   Found : (used : ℕ) (event : Event) → Beginning
@@ -35,16 +31,15 @@ beginning_at Ends at_end = at_end
 beginning_at Beyond at_end = TooLong
 beginning_at Open at_end = Undecided
 
--- a request of `len` bytes, the first of `rest`, after a line of `used` bytes: an LF or the
--- record's end follows it
+-- a request of `len` bytes, the first of `rest`, after a line of `used` bytes: the record's end or
+-- an LF follows it
 unfoldable pub request_beginning : Continuation → ℕ → ℕ → ℕ → List ℕ → Beginning
 request_beginning next id len used rest =
-    if nat_lt len (length rest) then
-    (if slice_index rest len == line_feed then Found (used + len + 1) (Req id (take len rest))
-    else Fault (used + len) refusals.BadLine)
-    else beginning_at next
-    (if length rest == len then Found (used + len) (Req id (take len rest))
-    else Fault 0 refusals.CutRequest)
+    let request = Req id (take len rest) in
+    if nat_lt (length rest) len then beginning_at next (Fault 0 refusals.CutRequest)
+    else if length rest == len then beginning_at next (Found (used + len) request)
+    else if slice_index rest len == ascii "\n" then Found (used + len + 1) request
+    else Fault (used + len) refusals.BadLine
 
 -- a line of `used` bytes with its ending, by what it means, where `rest` follows it
 abbrev pub line_beginning : Continuation → Result LineMeaning RecordRefusal → ℕ → List ℕ → Beginning
@@ -53,26 +48,13 @@ line_beginning next (Ok Nothing) used rest = Skip used
 line_beginning next (Ok (Says event)) used rest = Found used event
 line_beginning next (Ok (Announces id len)) used rest = request_beginning next id len used rest
 
--- how many bytes stand before the first LF, or in all where there is none
-abbrev pub line_length : List ℕ → ℕ
-line_length bytes = position_or_len (is_byte line_feed) bytes
-
--- what a line means, whose CR at the end is dropped
-abbrev pub meaning_without_cr : List ℕ → Result LineMeaning RecordRefusal
-meaning_without_cr line = line_meaning (strip_last carriage_return line)
-
--- the last line, which no LF ends; where it has no byte, it is none
-abbrev pub last_line_beginning : List ℕ → Beginning
-last_line_beginning [] = Finish
-last_line_beginning (b ∷ bs) =
-    line_beginning Ends (meaning_without_cr (b ∷ bs)) (length (b ∷ bs)) []
-
 -- What the bytes begin with. A line has at most 65,536 bytes before its LF, with the CR that may
--- end it. Lines that say nothing count too.
+-- end it and says nothing. Lines that say nothing count too. The last line may have no LF; where it
+-- has no byte either, it is none.
 unfoldable pub beginning_of : Continuation → List ℕ → Beginning
 beginning_of next bytes =
-    let len = line_length bytes in
+    let len = position_or_len (is_byte (ascii "\n")) bytes in
+    let line = line_meaning (strip_last (ascii "\r") (take len bytes)) in
     if nat_lt 65536 len then Fault 0 refusals.LineTooLong
-    else if nat_lt len (length bytes) then
-    line_beginning next (meaning_without_cr (take len bytes)) (len + 1) (drop (len + 1) bytes)
-    else beginning_at next (last_line_beginning bytes)
+    else if nat_lt len (length bytes) then line_beginning next line (len + 1) (drop (len + 1) bytes)
+    else beginning_at next (if len == 0 then Finish else line_beginning Ends line len [])

@@ -3,10 +3,10 @@ use Rattle.std.specs.Prelude.{ℕ, ◌-◌, ◌^◌, List, [], ◌∷◌, Result
 use Rattle.std.specs.Option.{ok_or}
 use Rattle.std.specs.List.{slice_split, join_with_byte}
 use Rattle.std.specs.Str.{bytes_eq}
-use Rattle.hx_base.specs.Bytes.{space, number_sign}
+use Rattle.memchr.specs.Find.{is_byte}
+use Rattle.hx_base.specs.Bytes.{ascii}
 use Rattle.hx_text.specs.Number.{number_up_to}
 use Rattle.hx_text.specs.Address.{ip_of}
-use Rattle.hx_text.specs.declared.address.Ip.{Ip}
 use Rattle.hx_record.specs.declared.events.Event.{Event}
 use Rattle.hx_record.specs.declared.events.Event.TheVariants.{Conn, Close, Cli}
 use Rattle.hx_record.specs.declared.refusal.RecordRefusal.{RecordRefusal}
@@ -24,26 +24,17 @@ abbrev ◌>>=◌ : {A B : Type 0} → Result A RecordRefusal → (A → Result B
 Err refusal >>= f = Err refusal
 Ok a >>= f = f a
 
--- The words of a line: what its spaces cut it into. Two spaces in a row have an empty word between
--- them.
-abbrev pub line_words : List ℕ → List (List ℕ)
-line_words line = slice_split (λ b. b == space) line
-
 -- a number of at most so much, in one or more decimal digits
 abbrev pub number_of_word : ℕ → List ℕ → Result ℕ RecordRefusal
 number_of_word most word = ok_or (number_up_to most word) BadNumber
-
--- an internet address
-abbrev pub address_of_word : List ℕ → Result Ip RecordRefusal
-address_of_word word = ok_or (ip_of word) BadLine
 
 -- the words after `conn`: a number of 32 bits, an address with its port of 16 bits, and another
 unfoldable pub conn_meaning : List (List ℕ) → Result LineMeaning RecordRefusal
 conn_meaning (id ∷ src ∷ src_port ∷ dst ∷ dst_port ∷ []) = do
   i ← number_of_word (2 ^ 32 - 1) id
-  s ← address_of_word src
+  s ← ok_or (ip_of src) BadLine
   p ← number_of_word (2 ^ 16 - 1) src_port
-  d ← address_of_word dst
+  d ← ok_or (ip_of dst) BadLine
   q ← number_of_word (2 ^ 16 - 1) dst_port
   Ok (Says (Conn i s p d q))
 conn_meaning _ = Err BadLine
@@ -58,17 +49,14 @@ req_meaning _ = Err BadLine
 
 -- the word after `close`: a number of 32 bits
 unfoldable pub close_meaning : List (List ℕ) → Result LineMeaning RecordRefusal
-close_meaning (id ∷ []) = do
-  i ← number_of_word (2 ^ 32 - 1) id
-  Ok (Says (Close i))
+close_meaning (id ∷ []) = number_of_word (2 ^ 32 - 1) id >>= (λ i. Ok (Says (Close i)))
 close_meaning _ = Err BadLine
 
 -- the words after `cli`: a number of 32 bits, and then a text, which is the rest of the line with
 -- all its spaces; it may be missing
 unfoldable pub cli_meaning : List (List ℕ) → Result LineMeaning RecordRefusal
-cli_meaning (session ∷ text) = do
-  s ← number_of_word (2 ^ 32 - 1) session
-  Ok (Says (Cli s (join_with_byte space text)))
+cli_meaning (id ∷ text) =
+    number_of_word (2 ^ 32 - 1) id >>= (λ s. Ok (Says (Cli s (join_with_byte (ascii " ") text))))
 cli_meaning _ = Err BadLine
 
 -- the words of a line, the first of which says what the others are
@@ -78,10 +66,11 @@ words_meaning (name ∷ rest) =
     if bytes_eq name (codes "conn") then conn_meaning rest
     else if bytes_eq name (codes "req") then req_meaning rest
     else if bytes_eq name (codes "close") then close_meaning rest
-    else if bytes_eq name (codes "cli") then cli_meaning rest
-    else Err BadLine
+    else if bytes_eq name (codes "cli") then cli_meaning rest else Err BadLine
 
--- a line: nothing where it is empty or begins with `#`
+-- A line: nothing where it is empty or begins with `#`. Its words are what its spaces cut it into;
+-- two spaces in a row have an empty word between them.
 unfoldable pub line_meaning : List ℕ → Result LineMeaning RecordRefusal
 line_meaning [] = Ok Nothing
-line_meaning (b ∷ bs) = if b == number_sign then Ok Nothing else words_meaning (line_words (b ∷ bs))
+line_meaning (b ∷ bs) =
+    if b == ascii "#" then Ok Nothing else words_meaning (slice_split (is_byte (ascii " ")) (b ∷ bs))

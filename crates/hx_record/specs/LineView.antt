@@ -1,6 +1,8 @@
 -- What the code reads in a line, in the words of the definitions.
-use Rattle.std.specs.Prelude.{◌≡◌, ℕ, List, [], ◌∷◌, Option, Some, None, Result, Ok, Err}
-use Rattle.hx_record.specs.Line.{LineMeaning, Nothing, Says, Announces, line_words}
+use Rattle.std.specs.Prelude.{◌≡◌, ℕ, List, [], ◌∷◌, ◌==◌, Option, Some, None, Result, Ok, Err}
+use Rattle.std.specs.List.{slice_split}
+use Rattle.hx_base.specs.Bytes.{ascii}
+use Rattle.hx_record.specs.Line.{LineMeaning, Nothing, Says, Announces}
 use Rattle.hx_record.specs.declared.refusal.RecordRefusal.{RecordRefusal}
 use Rattle.hx_record.specs.declared.line.Line.{Line}
 use Rattle.hx_record.specs.declared.line.Line.TheVariants as lines
@@ -25,6 +27,10 @@ request_meaning (Err refusal) = Err refusal
 abbrev pub SaysEvent : Result LineMeaning RecordRefusal → Type 0
 SaysEvent (Ok (Says event)) = Unit {0}
 SaysEvent _ = ⊥
+
+-- the words of a line
+abbrev pub line_words : List ℕ → List (List ℕ)
+line_words line = slice_split (λ b. b == ascii " ") line
 
 -- the words of what follows a space, and none where no space is there
 abbrev pub words_after : Option (List ℕ) → List (List ℕ)

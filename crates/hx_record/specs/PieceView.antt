@@ -1,8 +1,12 @@
 -- What the code finds in the pending bytes, in the words of the definitions.
-use Rattle.std.specs.Prelude.{◌≡◌, ℕ, ◌+◌, ◌<◌, ◌≤◌, List, length, take, Result, Ok, ⊤}
-use Rattle.hx_record.specs.Beginning.{Continuation, Beginning, line_length, meaning_without_cr}
+use Rattle.std.specs.Prelude.{◌≡◌, ℕ, ◌+◌, ◌<◌, ◌≤◌, List, [], ◌∷◌, length, take, Result, Ok, ⊤}
+use Rattle.std.specs.List.{position_or_len}
+use Rattle.std.specs.Io.BufRead.{strip_last}
+use Rattle.memchr.specs.Find.{is_byte}
+use Rattle.hx_base.specs.Bytes.{ascii}
+use Rattle.hx_record.specs.Beginning.{Continuation, Beginning, line_beginning}
 use Rattle.hx_record.specs.Beginning as beginnings
-use Rattle.hx_record.specs.Line.{LineMeaning, Announces}
+use Rattle.hx_record.specs.Line.{LineMeaning, Announces, line_meaning}
 use Rattle.hx_record.specs.declared.refusal.RecordRefusal.{RecordRefusal}
 use Rattle.hx_record.specs.declared.piece.Wait.{Wait}
 use Rattle.hx_record.specs.declared.piece.Wait.TheVariants as waits
@@ -23,6 +27,20 @@ piece_beginning pieces.Finish = beginnings.Finish
 piece_beginning (pieces.Fault skip refusal) = beginnings.Fault skip refusal
 piece_beginning (pieces.Skip used) = beginnings.Skip used
 piece_beginning (pieces.Found used event) = beginnings.Found used event
+
+-- how many bytes stand before the first LF, or in all where there is none
+abbrev pub line_length : List ℕ → ℕ
+line_length bytes = position_or_len (is_byte (ascii "\n")) bytes
+
+-- what a line means, whose CR at the end is dropped
+abbrev pub meaning_without_cr : List ℕ → Result LineMeaning RecordRefusal
+meaning_without_cr line = line_meaning (strip_last (ascii "\r") line)
+
+-- what the last line is, which no LF ends, and none where it has no byte
+abbrev pub last_line_beginning : List ℕ → Beginning
+last_line_beginning [] = beginnings.Finish
+last_line_beginning (b ∷ bs) =
+    line_beginning beginnings.Ends (meaning_without_cr (b ∷ bs)) (length (b ∷ bs)) []
 
 -- the first line, of `used` bytes with its LF, announces a request
 pub record AnnouncesRequest (seen : List ℕ) (id len used : ℕ) : Type 0 where

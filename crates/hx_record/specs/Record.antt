@@ -9,29 +9,26 @@ use Rattle.hx_record.specs.RefusalCode.{code_of}
 -- Events in order, and how they end: with the record's end, with a refusal at an offset, or where
 -- more bytes decide how the record goes on.
 pub data Items : Type 0 where
-  Unknown : Items
-  Done : Items
+  Unknown Done : Items
   Bad : (offset code : ℕ) → Items
   Then : (event : Placed) (rest : Items) → Items
 
 -- The items of bytes at the offset `at` that begin so, where the bytes after the first `used` have
 -- the items `rest used`. A record that is too long is refused at the limit.
-abbrev pub items_of_beginning : ℕ → Beginning → ℕ → (ℕ → Items) → Items
-items_of_beginning limit Undecided at rest = Unknown
-items_of_beginning limit TooLong at rest = Bad limit (code_of refusals.TooLong)
-items_of_beginning limit Finish at rest = Done
-items_of_beginning limit (Fault skip refusal) at rest = Bad (at + skip) (code_of refusal)
-items_of_beginning limit (Skip used) at rest = rest used
-items_of_beginning limit (Found used event) at rest =
-    Then (record { offset = at; event = event }) (rest used)
+abbrev pub items_of : ℕ → Beginning → ℕ → (ℕ → Items) → Items
+items_of limit Undecided at rest = Unknown
+items_of limit TooLong at rest = Bad limit (code_of refusals.TooLong)
+items_of limit Finish at rest = Done
+items_of limit (Fault skip refusal) at rest = Bad (at + skip) (code_of refusal)
+items_of limit (Skip used) at rest = rest used
+items_of limit (Found used event) at rest = Then (record { offset = at; event = event }) (rest used)
 
 -- The items of bytes at the offset `at`, the first `skip` of which belong to the item before.
 unfoldable pub items : ℕ → Continuation → List ℕ → ℕ → ℕ → Items
-items limit next [] at skip = items_of_beginning limit (beginning_of next []) at (λ used. Unknown)
+items limit next [] at skip = items_of limit (beginning_of next []) at (λ used. Unknown)
 items limit next (b ∷ bs) at (suc skip) = items limit next bs (at + 1) skip
 items limit next (b ∷ bs) at zero =
-    items_of_beginning limit (beginning_of next (b ∷ bs)) at
-    (λ used. items limit next bs (at + 1) (used - 1))
+    items_of limit (beginning_of next (b ∷ bs)) at (λ used. items limit next bs (at + 1) (used - 1))
 
 -- What follows the bytes that the limit leaves `room` for: the byte at the limit, if it is there,
 -- and else the record's end where `ends`, or it isn't known.
@@ -51,13 +48,9 @@ abbrev pub beginning_under : Bool → ℕ → List ℕ → ℕ → Beginning
 beginning_under ends at bytes limit =
     beginning_of (continuation_of ends (limit - at) bytes) (take (limit - at) bytes)
 
--- the items of the whole rest of a record
-abbrev pub record_items_at : ℕ → List ℕ → ℕ → Items
-record_items_at at bytes limit = items_from true at bytes limit
-
 -- the items of a whole record
 abbrev pub record_items : List ℕ → ℕ → Items
-record_items bytes limit = record_items_at 0 bytes limit
+record_items bytes limit = items_from true 0 bytes limit
 
 -- the items that the first bytes of a record decide, whatever follows them
 abbrev pub decided_items : List ℕ → ℕ → Items

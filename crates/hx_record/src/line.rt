@@ -1,9 +1,10 @@
 ghost use Rattle.std.specs.Prelude.{◌≡◌, [], ◌∷◌, Ok, Err, MatchResult, IfOk, IfSome, OnErr, ◌≤◌, ◌-◌, ◌^◌};
-ghost use Rattle.std.specs.Option.{option_copied};
+ghost use Rattle.std.specs.Option.{ok_or, option_copied};
+ghost use Rattle.hx_text.specs.Address.{ip_of};
 ghost use Rattle.hx_text.specs.Number.{number_up_to};
-ghost use Rattle.hx_record.specs.Line.{Says, line_words, number_of_word, address_of_word, line_meaning, conn_meaning, req_meaning, close_meaning, cli_meaning};
+ghost use Rattle.hx_record.specs.Line.{Says, number_of_word, line_meaning, conn_meaning, req_meaning, close_meaning, cli_meaning};
 ghost use Rattle.hx_record.specs.declared.events.Event.TheVariants.{Cli};
-ghost use Rattle.hx_record.specs.LineView.{result_meaning, request_meaning, words_after, IsSomeWords, SaysEvent};
+ghost use Rattle.hx_record.specs.LineView.{result_meaning, request_meaning, line_words, words_after, IsSomeWords, SaysEvent};
 
 use crate::events::Event;
 use crate::refusal::RecordRefusal;
@@ -64,7 +65,7 @@ fn port(word: &[u8]) -> Result<u16, RecordRefusal>
 }
 
 fn address(word: &[u8]) -> Result<Ip, RecordRefusal>
-    ensures { result ≡ address_of_word word.now }
+    ensures { result ≡ ok_or (ip_of word.now) RecordRefusal.BadLine }
 {
     read_ip(word).ok_or(RecordRefusal::BadLine)
 }

@@ -1,8 +1,8 @@
 ghost use Rattle.std.specs.Prelude.{◌≡◌, ℕ, ◌+◌, ◌^◌, ◌<◌, ◌≤◌, List, length, take, IfOk, OnErr, Ok};
-ghost use Rattle.hx_record.specs.Beginning.{beginning_at, request_beginning, line_beginning, last_line_beginning, meaning_without_cr, line_length, beginning_of, Open};
+ghost use Rattle.hx_record.specs.Beginning.{beginning_at, request_beginning, line_beginning, beginning_of, Open};
 ghost use Rattle.hx_record.specs.Record.{continuation_of};
 ghost use Rattle.hx_record.specs.Line.{Announces, line_meaning};
-ghost use Rattle.hx_record.specs.PieceView.{continuation, piece_beginning, IsWait, KnowsWait, WantsRequest};
+ghost use Rattle.hx_record.specs.PieceView.{continuation, piece_beginning, line_length, meaning_without_cr, last_line_beginning, IsWait, KnowsWait, WantsRequest};
 ghost use Rattle.hx_record.specs.Parts.{IsFound};
 
 use crate::events::Event;

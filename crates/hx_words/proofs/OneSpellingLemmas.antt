@@ -3,7 +3,7 @@ use Rattle.std.proofs.Common.{◌≡◌, ℕ, ◌+◌, ◌-◌, ◌==◌, ◌&&�
 use Rattle.std.proofs.Math.Seq.{take-append_seam, drop-append_seam}
 use Rattle.std.specs.Prelude.{is_none, option_to_list}
 use Rattle.std.specs.List.{slice_split, onto_first, list_any, prefix_len}
-use Rattle.hx_base.specs.Bytes.{is_given, comma, open_parenthesis, close_parenthesis}
+use Rattle.hx_base.specs.Bytes.{ascii, is_given}
 use Rattle.hx_words.specs.declared.fault.ArgFault.TheVariants.{AfterClose}
 use Rattle.hx_words.specs.TextItems.{QuoteState, TextItems, no_items, longer_items, AreTextItems}
 use Rattle.hx_words.specs.TextItems.AreTextItems.{FirstGap, FirstPart, FirstNone}
@@ -31,17 +31,17 @@ AreCalled (b ∷ bs) args items = arguments items ≡ args
 -- how a text that spells arguments is read, where `)` and a rest follow it
 record Reads (state : QuoteState) (args : List (List ℕ)) (text rest : List ℕ) : Type 0 where
   list : TextItems ArgumentsEnd
-  are : AreTextItems argument_item arguments_end state (text ++ close_parenthesis ∷ rest) list
+  are : AreTextItems argument_item arguments_end state (text ++ ascii ")" ∷ rest) list
   ending : list.ending ≡ AtParenthesis rest
   values : split_values list.items ≡ args
   called : AreCalled text args list.items
 
 at-close : (rest : List ℕ)
-    → argument_item Outside close_parenthesis rest ≡ NoItem (AtParenthesis rest)
+    → argument_item Outside (ascii ")") rest ≡ NoItem (AtParenthesis rest)
 unfolding argument_item
 at-close rest = refl
 
-at-comma : (rest : List ℕ) → argument_item Outside comma rest ≡ Gap 0
+at-comma : (rest : List ℕ) → argument_item Outside (ascii ",") rest ≡ Gap 0
 unfolding argument_item
 at-comma rest = refl
 
@@ -59,7 +59,7 @@ reads : (state : QuoteState) (args : List (List ℕ)) (text : List ℕ)
     → SpellsArguments state args text → (rest : List ℕ) → Reads state args text rest
 reads _ _ _ LastArgument rest = record {
   list = no_items (AtParenthesis rest);
-  are = FirstNone Outside close_parenthesis rest (AtParenthesis rest) (at-close rest);
+  are = FirstNone Outside (ascii ")") rest (AtParenthesis rest) (at-close rest);
   ending = refl;
   values = refl;
   called = tt;
@@ -70,18 +70,18 @@ reads _ _ _ (NextArgument args text spelled) rest =
     ap (λ (a : List (List ℕ)). [] ∷ a) later.values in
     record {
       list = longer_items None later.list;
-      are = FirstGap Outside comma [] (text ++ close_parenthesis ∷ rest) later.list
-          (at-comma (text ++ close_parenthesis ∷ rest)) later.are;
+      are = FirstGap Outside (ascii ",") [] (text ++ ascii ")" ∷ rest) later.list
+          (at-comma (text ++ ascii ")" ∷ rest)) later.are;
       ending = later.ending;
       values = values;
       called = values;
     }
 reads _ _ _ (PartOfArgument state after b bs value arg args text is spelled) rest =
     let later = reads after (arg ∷ args) text spelled rest in
-    let tail = text ++ close_parenthesis ∷ rest in
+    let tail = text ++ ascii ")" ∷ rest in
     let list = longer_items (Some value) later.list in
-    let whole : b ∷ (bs ++ tail) ≡ b ∷ (bs ++ text ++ close_parenthesis ∷ rest) =
-    ap (λ (r : List ℕ). b ∷ r) (sym (append_assoc bs text (close_parenthesis ∷ rest))) in
+    let whole : b ∷ (bs ++ tail) ≡ b ∷ (bs ++ text ++ ascii ")" ∷ rest) =
+    ap (λ (r : List ℕ). b ∷ r) (sym (append_assoc bs text (ascii ")" ∷ rest))) in
     let values : split_values (Some value ∷ later.list.items) ≡ (value ++ arg) ∷ args =
     onto-first value arg args (slice_split is_none later.list.items) later.values in
     record {
@@ -96,15 +96,15 @@ reads _ _ _ (PartOfArgument state after b bs value arg args text is spelled) res
 -- what is read after `(`: these arguments, up to `)`
 abbrev ReadsInside : List (List ℕ) → List ℕ → List ℕ → Type 0
 ReadsInside args text rest =
-    let list = argument_items (text ++ close_parenthesis ∷ rest) in
+    let list = argument_items (text ++ ascii ")" ∷ rest) in
     (arguments list.items ≡ args) × (list.ending ≡ AtParenthesis rest)
 
 inside-by : (args : List (List ℕ)) (text rest : List ℕ) (list : TextItems ArgumentsEnd)
-    → AreTextItems argument_item arguments_end Outside (text ++ close_parenthesis ∷ rest) list
+    → AreTextItems argument_item arguments_end Outside (text ++ ascii ")" ∷ rest) list
     → arguments list.items ≡ args → list.ending ≡ AtParenthesis rest → ReadsInside args text rest
 inside-by args text rest list are called ending =
-    let one : list ≡ argument_items (text ++ close_parenthesis ∷ rest) =
-    one_list argument_item arguments_end Outside (text ++ close_parenthesis ∷ rest) list are in (
+    let one : list ≡ argument_items (text ++ ascii ")" ∷ rest) =
+    one_list argument_item arguments_end Outside (text ++ ascii ")" ∷ rest) list are in (
       ap (λ (l : TextItems ArgumentsEnd). arguments l.items) (sym one) ∙ called,
       ap (λ (l : TextItems ArgumentsEnd). l.ending) (sym one) ∙ ending,
     )
@@ -113,7 +113,7 @@ reads-inside : (args : List (List ℕ)) (text rest : List ℕ) → SpellsInside 
     → ReadsInside args text rest
 reads-inside args [] rest is =
     inside-by args [] rest (no_items (AtParenthesis rest))
-    (FirstNone Outside close_parenthesis rest (AtParenthesis rest) (at-close rest)) (sym is) refl
+    (FirstNone Outside (ascii ")") rest (AtParenthesis rest) (at-close rest)) (sym is) refl
 reads-inside args (b ∷ bs) rest spelled =
     let all = reads Outside args (b ∷ bs) spelled rest in
     inside-by args (b ∷ bs) rest all.list all.are all.called all.ending
@@ -163,7 +163,7 @@ after-name stop name rest plain ends =
 -- what stands after a name opens no arguments
 abbrev OpensNone : Option ℕ → List ℕ → Type 0
 OpensNone stop [] = Unit {0}
-OpensNone stop (b ∷ bs) = (b == open_parenthesis && not (is_given stop b)) ≡ false
+OpensNone stop (b ∷ bs) = (b == ascii "(" && not (is_given stop b)) ≡ false
 
 name-alone : (stop : Option ℕ) (name rest : List ℕ) → OpensNone stop rest
     → step_after_name stop name rest
@@ -173,17 +173,17 @@ name-alone stop name (b ∷ bs) none =
     ap (λ (c : Bool). if c then step_with_arguments stop name bs else step_after_call stop
     (record { name = name; args = [] }) (b ∷ bs)) none
 
-opened : (stop : Option ℕ) (name bs : List ℕ) → is_given stop open_parenthesis ≡ false
-    → step_after_name stop name (open_parenthesis ∷ bs) ≡ step_with_arguments stop name bs
+opened : (stop : Option ℕ) (name bs : List ℕ) → is_given stop (ascii "(") ≡ false
+    → step_after_name stop name (ascii "(" ∷ bs) ≡ step_with_arguments stop name bs
 opened stop name bs opens =
     ap (λ (c : Bool). if not c then step_with_arguments stop name bs else step_after_call stop
-    (record { name = name; args = [] }) (open_parenthesis ∷ bs)) opens
+    (record { name = name; args = [] }) (ascii "(" ∷ bs)) opens
 
-opens-name : (stop : Option ℕ) → ends_name stop open_parenthesis ≡ true
-opens-name stop = ap (λ (c : Bool). c || false) (or-true (is_given stop open_parenthesis))
+opens-name : (stop : Option ℕ) → ends_name stop (ascii "(") ≡ true
+opens-name stop = ap (λ (c : Bool). c || false) (or-true (is_given stop (ascii "(")))
 
-comma-ends : (stop : Option ℕ) → ends_name stop comma ≡ true
-comma-ends stop = or-true (is_given stop comma || false)
+comma-ends : (stop : Option ℕ) → ends_name stop (ascii ",") ≡ true
+comma-ends stop = or-true (is_given stop (ascii ",") || false)
 
 -- a call, and what may follow it
 by-call : (stop : Option ℕ) (call : CallForm) (text rest : List ℕ) → SpellsCall stop call text
@@ -192,15 +192,15 @@ by-call : (stop : Option ℕ) (call : CallForm) (text rest : List ℕ) → Spell
 by-call stop _ _ rest (NameAlone name plain) ends none =
     after-name stop name rest plain ends ∙ name-alone stop name rest none
 by-call stop _ _ rest (WithArguments name args text plain opens spelled) ends none =
-    let tail = text ++ close_parenthesis ∷ rest in
+    let tail = text ++ ascii ")" ∷ rest in
     let read = reads-inside args text rest spelled in
-    let whole : (name ++ (open_parenthesis ∷
-    (text ++ close_parenthesis ∷ []))) ++ rest ≡ name ++ open_parenthesis ∷ tail =
-    append_assoc name (open_parenthesis ∷ (text ++ close_parenthesis ∷ [])) rest
-    ∙ ap (λ (r : List ℕ). name ++ open_parenthesis ∷ r)
-    (append_assoc text (close_parenthesis ∷ []) rest) in
+    let whole : (name ++ (ascii "(" ∷
+    (text ++ ascii ")" ∷ []))) ++ rest ≡ name ++ ascii "(" ∷ tail =
+    append_assoc name (ascii "(" ∷ (text ++ ascii ")" ∷ [])) rest
+    ∙ ap (λ (r : List ℕ). name ++ ascii "(" ∷ r)
+    (append_assoc text (ascii ")" ∷ []) rest) in
     ap (step_of stop) whole
-    ∙ after-name stop name (open_parenthesis ∷ tail) plain (opens-name stop)
+    ∙ after-name stop name (ascii "(" ∷ tail) plain (opens-name stop)
     ∙ opened stop name tail opens
     ∙ ap (λ (a : List (List ℕ)). step_after_arguments stop name a
     (argument_items tail).ending) read.0
@@ -214,15 +214,15 @@ last-ends : (stop : Option ℕ) (rest : List ℕ) → (stop ≡ None → rest �
 last-ends None [] to_end = tt
 last-ends None (b ∷ bs) to_end = absurd (cons-nil b bs (to_end refl))
 last-ends (Some stop) rest to_end =
-    ap (λ (c : Bool). c || stop == open_parenthesis || stop == comma) (same-byte stop)
+    ap (λ (c : Bool). c || stop == ascii "(" || stop == ascii ",") (same-byte stop)
 
 last-opens-none : (stop : Option ℕ) (rest : List ℕ) → (stop ≡ None → rest ≡ [])
     → OpensNone stop (option_to_list stop ++ rest)
 last-opens-none None [] to_end = tt
 last-opens-none None (b ∷ bs) to_end = absurd (cons-nil b bs (to_end refl))
 last-opens-none (Some stop) rest to_end =
-    ap (λ (c : Bool). stop == open_parenthesis && not c) (same-byte stop)
-    ∙ and-false (stop == open_parenthesis)
+    ap (λ (c : Bool). stop == ascii "(" && not c) (same-byte stop)
+    ∙ and-false (stop == ascii "(")
 
 last-step : (stop : Option ℕ) (call : CallForm) (rest : List ℕ) → (stop ≡ None → rest ≡ [])
     → step_after_call stop call (option_to_list stop ++ rest) ≡ Last call rest
@@ -230,7 +230,7 @@ last-step None call [] to_end = refl
 last-step None call (b ∷ bs) to_end = absurd (cons-nil b bs (to_end refl))
 last-step (Some stop) call rest to_end =
     ap (λ (c : Bool). if c then Last call rest else
-    (if stop == comma then More call rest else Faulty call.name AfterClose)) (same-byte stop)
+    (if stop == ascii "," then More call rest else Faulty call.name AfterClose)) (same-byte stop)
 
 pub last_only : (stop : Option ℕ) (text : List ℕ) (call : CallForm) (rest : List ℕ)
     → BeginsWithLast stop text call rest → step_of stop text ≡ Last call rest
@@ -240,8 +240,8 @@ last_only stop text call rest (prefix, spelled, whole, to_end) =
     (last-opens-none stop rest to_end)
     ∙ last-step stop call rest to_end
 
-more-step : (stop : Option ℕ) (call : CallForm) (rest : List ℕ) → is_given stop comma ≡ false
-    → step_after_call stop call (comma ∷ rest) ≡ More call rest
+more-step : (stop : Option ℕ) (call : CallForm) (rest : List ℕ) → is_given stop (ascii ",") ≡ false
+    → step_after_call stop call (ascii "," ∷ rest) ≡ More call rest
 more-step stop call rest no_stop =
     ap (λ (c : Bool). if c then Last call rest else More call rest) no_stop
 
@@ -249,7 +249,7 @@ pub more_only : (stop : Option ℕ) (text : List ℕ) (call : CallForm) (rest : 
     → BeginsWithCall stop text call rest → step_of stop text ≡ More call rest
 more_only stop text call rest (prefix, spelled, whole, no_stop) =
     ap (step_of stop) whole
-    ∙ by-call stop call prefix (comma ∷ rest) spelled (comma-ends stop) refl
+    ∙ by-call stop call prefix (ascii "," ∷ rest) spelled (comma-ends stop) refl
     ∙ more-step stop call rest no_stop
 
 by-spelling : (stop : Option ℕ) (calls : List CallForm) (text : List ℕ)
@@ -260,9 +260,9 @@ by-spelling stop _ _ (LastCall call text spelled) rest to_end =
     (sym (last_only stop (text ++ option_to_list stop ++ rest) call rest
     (text, spelled, append_assoc text (option_to_list stop) rest, to_end)))
 by-spelling stop _ _ (FirstCall call calls text later spelled no_stop follows) rest to_end =
-    calls_of_steps-by stop ((text ++ comma ∷ later) ++ rest) (More call (later ++ rest))
-    (sym (more_only stop ((text ++ comma ∷ later) ++ rest) call (later ++ rest)
-    (text, spelled, append_assoc text (comma ∷ later) rest, no_stop)))
+    calls_of_steps-by stop ((text ++ ascii "," ∷ later) ++ rest) (More call (later ++ rest))
+    (sym (more_only stop ((text ++ ascii "," ∷ later) ++ rest) call (later ++ rest)
+    (text, spelled, append_assoc text (ascii "," ∷ later) rest, no_stop)))
     ∙ ap (longer_calls call) (by-spelling stop calls later follows rest to_end)
 
 pub calls_only : (stop : Option ℕ) (text : List ℕ) (list : CallList)

@@ -1,12 +1,12 @@
 -- What the table of arguments takes for a part, it takes for that part whatever follows, if only
 -- something does.
-use Rattle.std.proofs.Common.{◌≡◌, ℕ, suc, ◌≤◌, ◌==◌, Bool, true, false, if◌then◌else◌, List, [], ◌∷◌, ◌++◌, length, Option, Some, None, refl, sym, ap, ◌∙◌, subst, arith}
-use Rattle.hx_base.specs.Bytes.{comma, letter_n, letter_r, letter_t, letter_x, backslash, single_quote, double_quote, close_parenthesis}
+use Rattle.std.proofs.Common.{◌≡◌, ℕ, suc, ◌≤◌, ◌==◌, ◌||◌, Bool, true, false, if◌then◌else◌, List, [], ◌∷◌, ◌++◌, length, Option, Some, None, refl, sym, ap, ◌∙◌, subst, arith}
+use Rattle.hx_base.specs.Bytes.{ascii}
 use Rattle.hx_words.specs.declared.fault.ArgFault.TheVariants.{BadEscape}
 use Rattle.hx_words.specs.TextItems.{QuoteState, TextItem, part_or}
 use Rattle.hx_words.specs.TextItems.QuoteState.{Outside, Single, Double}
 use Rattle.hx_words.specs.TextItems.TextItem.{Gap, Part, NoItem}
-use Rattle.hx_words.specs.Quoting.{hex_byte, hex_value, hex_escape, is_plain_escape, escape_of}
+use Rattle.hx_words.specs.Quoting.{hex_escape, escape_of}
 use Rattle.hx_words.specs.Arguments.{ArgumentsEnd, argument_item}
 use Rattle.hx_words.specs.Arguments.ArgumentsEnd.{AtFault}
 
@@ -28,15 +28,14 @@ either-takes : (b : Bool) (x y : Found) → TakesSome x → TakesSome y → Take
 either-takes true x y p q = p
 either-takes false x y p q = q
 
-hex-takes : (high low : Option ℕ) → TakesSome (hex_byte high low)
-hex-takes (Some high) (Some low) = omega arith
-hex-takes (Some high) None = tt
-hex-takes None low = tt
+hex-takes : (b : Bool) (value : List ℕ) → TakesSome (if b then Some (3, value) else None)
+hex-takes true value = omega arith
+hex-takes false value = tt
 
 hex-escape-takes : (bs : List ℕ) → TakesSome (hex_escape bs)
 hex-escape-takes [] = tt
 hex-escape-takes (high ∷ []) = tt
-hex-escape-takes (high ∷ low ∷ bs) = hex-takes (hex_value high) (hex_value low)
+hex-escape-takes (high ∷ low ∷ bs) = hex-takes _ _
 
 escape-takes : (c : ℕ) (cs : List ℕ) → TakesSome (escape_of (c ∷ cs))
 unfolding escape_of
@@ -50,15 +49,14 @@ abbrev count_of : Found → ℕ
 count_of None = 3
 count_of (Some found) = found.0
 
-hex-three : (high low : Option ℕ) → count_of (hex_byte high low) ≡ 3
-hex-three (Some high) (Some low) = refl
-hex-three (Some high) None = refl
-hex-three None low = refl
+hex-three : (b : Bool) (value : List ℕ) → count_of (if b then Some (3, value) else None) ≡ 3
+hex-three true value = refl
+hex-three false value = refl
 
 hex-escape-three : (bs : List ℕ) → count_of (hex_escape bs) ≡ 3
 hex-escape-three [] = refl
 hex-escape-three (high ∷ []) = refl
-hex-escape-three (high ∷ low ∷ bs) = hex-three (hex_value high) (hex_value low)
+hex-escape-three (high ∷ low ∷ bs) = hex-three _ _
 
 hex-count : (bs : List ℕ) (n : ℕ) (value : List ℕ) → hex_escape bs ≡ Some (n, value) → n ≡ 3
 hex-count bs n value is = sym (ap count_of is) ∙ hex-escape-three bs
@@ -77,11 +75,13 @@ escape-same-from : (c : ℕ) (bs rest other value : List ℕ)
 unfolding escape_of
 escape-same-from c bs rest other value =
     let want : Found = Some (suc (length bs), value) in
-    either-same want (is_plain_escape c) _ _ _ _ (λ e. e)
-    (either-same want (c == letter_n) _ _ _ _ (λ e. e)
-    (either-same want (c == letter_r) _ _ _ _ (λ e. e)
-    (either-same want (c == letter_t) _ _ _ _ (λ e. e)
-    (either-same want (c == letter_x) _ _ _ _ (hex-same bs rest other value) (λ e. e)))))
+    either-same want
+    (c == ascii " " || c == ascii "#" || c == ascii "\\" || c == ascii "'" || c == ascii "\"")
+    _ _ _ _ (λ e. e)
+    (either-same want (c == ascii "n") _ _ _ _ (λ e. e)
+    (either-same want (c == ascii "r") _ _ _ _ (λ e. e)
+    (either-same want (c == ascii "t") _ _ _ _ (λ e. e)
+    (either-same want (c == ascii "x") _ _ _ _ (hex-same bs rest other value) (λ e. e)))))
 
 escape-same : (bs rest other value : List ℕ) → 1 ≤ length rest
     → escape_of (bs ++ rest) ≡ Some (length bs, value)
@@ -119,19 +119,19 @@ unfolding argument_item
 part_stands Outside after b bs rest other value some =
     let want : TextItem ArgumentsEnd = Part (length bs) value after in
     let wrong : ArgumentsEnd = AtFault BadEscape in
-    either-same want (b == close_parenthesis) _ _ _ _ (λ e. cc)
-    (either-same want (b == comma) _ _ _ _ (λ e. e)
-    (either-same want (b == double_quote) _ _ _ _ (λ e. e)
-    (either-same want (b == single_quote) _ _ _ _ (λ e. e)
-    (either-same want (b == backslash) _ _ _ _
+    either-same want (b == ascii ")") _ _ _ _ (λ e. cc)
+    (either-same want (b == ascii ",") _ _ _ _ (λ e. e)
+    (either-same want (b == ascii "\"") _ _ _ _ (λ e. e)
+    (either-same want (b == ascii "'") _ _ _ _ (λ e. e)
+    (either-same want (b == ascii "\\") _ _ _ _
     (part-same wrong Outside after (escape_of (bs ++ rest)) (escape_of (bs ++ other)) (length bs)
     value (escape-same bs rest other value some))
     (λ e. e)))))
 part_stands Double after b bs rest other value some =
     let want : TextItem ArgumentsEnd = Part (length bs) value after in
     let wrong : ArgumentsEnd = AtFault BadEscape in
-    either-same want (b == double_quote) _ _ _ _ (λ e. e)
-    (either-same want (b == backslash) _ _ _ _
+    either-same want (b == ascii "\"") _ _ _ _ (λ e. e)
+    (either-same want (b == ascii "\\") _ _ _ _
     (part-same wrong Double after (escape_of (bs ++ rest)) (escape_of (bs ++ other)) (length bs)
     value (escape-same bs rest other value some))
     (λ e. e))

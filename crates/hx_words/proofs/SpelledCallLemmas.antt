@@ -4,7 +4,7 @@ use Rattle.std.proofs.lemmas.Bool.{eqb-true}
 use Rattle.std.proofs.lemmas.List.{take-append-drop}
 use Rattle.std.specs.Prelude.{option_to_list}
 use Rattle.std.specs.List.{list_any, prefix_len}
-use Rattle.hx_base.specs.Bytes.{is_given, comma, open_parenthesis, close_parenthesis}
+use Rattle.hx_base.specs.Bytes.{ascii, is_given}
 use Rattle.hx_words.specs.declared.fault.ArgFault.{ArgFault}
 use Rattle.hx_words.specs.TextItems.{AreTextItems}
 use Rattle.hx_words.specs.TextItems.QuoteState.{Outside}
@@ -56,8 +56,8 @@ after-call (Some stop) call text [] spelled = tt
 after-call stop call text (b ∷ bs) spelled =
     let P : Step → Type 0 = IsFirstCall stop (text ++ b ∷ bs) in
     either P (is_given stop b) _ _ (λ t. at-stop stop b bs call text spelled t) (λ f.
-    either P (b == comma) _ _ (λ t.
-    let is = eqb-true b comma t in
+    either P (b == ascii ",") _ _ (λ t.
+    let is = eqb-true b (ascii ",") t in
     (text, spelled, ap (λ (c : ℕ). text ++ c ∷ bs) is, ap (is_given stop) (sym is) ∙ f)) (λ g. tt))
 
 arguments-are : (bs : List ℕ)
@@ -65,22 +65,22 @@ arguments-are : (bs : List ℕ)
 arguments-are bs = is_list argument_item arguments_end argument-within bs Outside 0 (omega arith)
 
 after-arguments : (stop : Option ℕ) (name bs : List ℕ) → list_any (ends_name stop) name ≡ false
-    → is_given stop open_parenthesis ≡ false → (ending : ArgumentsEnd)
+    → is_given stop (ascii "(") ≡ false → (ending : ArgumentsEnd)
     → (argument_items bs).ending ≡ ending
-    → IsFirstCall stop (name ++ open_parenthesis ∷ bs)
+    → IsFirstCall stop (name ++ ascii "(" ∷ bs)
     (step_after_arguments stop name (arguments (argument_items bs).items) ending)
 after-arguments stop name bs plain opens (AtFault fault) is = tt
 after-arguments stop name bs plain opens (AtParenthesis rest) is =
     let inside = inside-of Outside bs rest (argument_items bs) (arguments-are bs) is in
     let args = arguments (argument_items bs).items in
     let call : CallForm = record { name = name; args = args } in
-    let text = name ++ (open_parenthesis ∷ (inside.inside ++ close_parenthesis ∷ [])) in
+    let text = name ++ (ascii "(" ∷ (inside.inside ++ ascii ")" ∷ [])) in
     let spelled : SpellsCall stop call text =
     WithArguments name args inside.inside plain opens inside.called in
-    let whole : text ++ rest ≡ name ++ open_parenthesis ∷ bs =
-    append_assoc name (open_parenthesis ∷ (inside.inside ++ close_parenthesis ∷ [])) rest
-    ∙ ap (λ (r : List ℕ). name ++ open_parenthesis ∷ r)
-    (append_assoc inside.inside (close_parenthesis ∷ []) rest ∙ sym inside.whole) in
+    let whole : text ++ rest ≡ name ++ ascii "(" ∷ bs =
+    append_assoc name (ascii "(" ∷ (inside.inside ++ ascii ")" ∷ [])) rest
+    ∙ ap (λ (r : List ℕ). name ++ ascii "(" ∷ r)
+    (append_assoc inside.inside (ascii ")" ∷ []) rest ∙ sym inside.whole) in
     subst (λ (t : List ℕ). IsFirstCall stop t (step_after_call stop call rest)) whole
     (after-call stop call text rest spelled)
 
@@ -98,11 +98,11 @@ after-name stop name [] plain =
     after-call stop (record { name = name; args = [] }) name [] (NameAlone name plain)
 after-name stop name (b ∷ bs) plain =
     let P : Step → Type 0 = IsFirstCall stop (name ++ b ∷ bs) in
-    either P (b == open_parenthesis && not (is_given stop b)) _ _
+    either P (b == ascii "(" && not (is_given stop b)) _ _
     (λ t.
-    let both = and-both (b == open_parenthesis) (not (is_given stop b)) t in
-    let is = eqb-true b open_parenthesis both.0 in
-    let opens : is_given stop open_parenthesis ≡ false = ap (is_given stop) (sym is)
+    let both = and-both (b == ascii "(") (not (is_given stop b)) t in
+    let is = eqb-true b (ascii "(") both.0 in
+    let opens : is_given stop (ascii "(") ≡ false = ap (is_given stop) (sym is)
     ∙ not-true (is_given stop b) both.1 in
     subst (λ (c : ℕ). IsFirstCall stop (name ++ c ∷ bs) (step_with_arguments stop name bs)) (sym is)
     (after-arguments stop name bs plain opens (argument_items bs).ending refl))
@@ -152,9 +152,9 @@ more-prefix : (stop : Option ℕ) (text : List ℕ) (call : CallForm) (left : Li
     → BeginsWithCall stop text call left → SpellsPrefix stop left calls rest
     → SpellsPrefix stop text (call ∷ calls) rest
 more-prefix stop text call left calls rest (prefix, spelled, whole, no_stop) later = record {
-  prefix = prefix ++ comma ∷ later.prefix;
-  whole = whole ∙ ap (λ (r : List ℕ). prefix ++ comma ∷ r) later.whole
-      ∙ sym (append_assoc prefix (comma ∷ later.prefix) rest);
+  prefix = prefix ++ ascii "," ∷ later.prefix;
+  whole = whole ∙ ap (λ (r : List ℕ). prefix ++ ascii "," ∷ r) later.whole
+      ∙ sym (append_assoc prefix (ascii "," ∷ later.prefix) rest);
   spelled = FirstCall call calls prefix later.prefix spelled no_stop later.spelled;
   to_end = later.to_end;
 }

@@ -3,7 +3,7 @@ use Rattle.std.proofs.Common.{◌≡◌, ℕ, ◌≤◌, ◌==◌, Bool, true, f
 use Rattle.std.proofs.lemmas.Bool.{eqb-true}
 use Rattle.std.specs.Prelude.{is_none}
 use Rattle.std.specs.List.{slice_split, onto_first}
-use Rattle.hx_base.specs.Bytes.{comma, backslash, single_quote, double_quote, close_parenthesis}
+use Rattle.hx_base.specs.Bytes.{ascii}
 use Rattle.hx_words.specs.declared.fault.ArgFault.TheVariants.{BadEscape}
 use Rattle.hx_words.specs.TextItems.{QuoteState, TextItem, TextItems, part_or, AreTextItems}
 use Rattle.hx_words.specs.TextItems.AreTextItems.{NoBytes, FirstGap, FirstPart, FirstNone}
@@ -13,7 +13,7 @@ use Rattle.hx_words.specs.Quoting.{escape_of}
 use Rattle.hx_words.specs.Words.{joint_value}
 use Rattle.hx_words.specs.Arguments.{ArgumentsEnd, argument_item, arguments_end, arguments}
 use Rattle.hx_words.specs.Arguments.ArgumentsEnd.{AtParenthesis, AtFault}
-use Rattle.hx_words.specs.Spelling.{IsPart, SpellsArguments, SpellsInside}
+use Rattle.hx_words.specs.Spelling.{SpellsArguments, SpellsInside}
 use Rattle.hx_words.specs.Spelling.SpellsArguments.{LastArgument, NextArgument, PartOfArgument}
 use Rattle.hx_words.proofs.PartLemmas.{part_stands}
 
@@ -26,10 +26,10 @@ either P false x y p q = q refl
 
 -- what a gap or the end of the arguments says of where it stands
 abbrev Stands : QuoteState → ℕ → List ℕ → TextItem ArgumentsEnd → Type 0
-Stands state b bs (Gap count) = (state ≡ Outside) × (b ≡ comma) × (count ≡ 0)
+Stands state b bs (Gap count) = (state ≡ Outside) × (b ≡ ascii ",") × (count ≡ 0)
 Stands state b bs (Part count value after) = Unit {0}
 Stands state b bs (NoItem (AtParenthesis rest)) =
-    (state ≡ Outside) × (b ≡ close_parenthesis) × (bs ≡ rest)
+    (state ≡ Outside) × (b ≡ ascii ")") × (bs ≡ rest)
 Stands state b bs (NoItem (AtFault fault)) = Unit {0}
 
 part-stands : (state : QuoteState) (b : ℕ) (bs : List ℕ) (part : Option (ℕ × List ℕ))
@@ -42,18 +42,18 @@ item-stands : (state : QuoteState) (b : ℕ) (bs : List ℕ)
 unfolding argument_item
 item-stands Outside b bs =
     let P : TextItem ArgumentsEnd → Type 0 = Stands Outside b bs in
-    either P (b == close_parenthesis) _ _ (λ t. (refl, eqb-true b close_parenthesis t, refl)) (λ f.
-    either P (b == comma) _ _ (λ t. (refl, eqb-true b comma t, refl)) (λ f.
-    either P (b == double_quote) _ _ (λ t. tt) (λ f.
-    either P (b == single_quote) _ _ (λ t. tt) (λ f.
-    either P (b == backslash) _ _ (λ t. part-stands Outside b bs (escape_of bs)) (λ f. tt)))))
+    either P (b == ascii ")") _ _ (λ t. (refl, eqb-true b (ascii ")") t, refl)) (λ f.
+    either P (b == ascii ",") _ _ (λ t. (refl, eqb-true b (ascii ",") t, refl)) (λ f.
+    either P (b == ascii "\"") _ _ (λ t. tt) (λ f.
+    either P (b == ascii "'") _ _ (λ t. tt) (λ f.
+    either P (b == ascii "\\") _ _ (λ t. part-stands Outside b bs (escape_of bs)) (λ f. tt)))))
 item-stands Double b bs =
     let P : TextItem ArgumentsEnd → Type 0 = Stands Double b bs in
-    either P (b == double_quote) _ _ (λ t. tt) (λ f.
-    either P (b == backslash) _ _ (λ t. part-stands Double b bs (escape_of bs)) (λ f. tt))
+    either P (b == ascii "\"") _ _ (λ t. tt) (λ f.
+    either P (b == ascii "\\") _ _ (λ t. part-stands Double b bs (escape_of bs)) (λ f. tt))
 item-stands Single b bs =
     let P : TextItem ArgumentsEnd → Type 0 = Stands Single b bs in
-    either P (b == single_quote) _ _ (λ t. tt) (λ f. tt)
+    either P (b == ascii "'") _ _ (λ t. tt) (λ f. tt)
 
 stands-as : (state : QuoteState) (b : ℕ) (bs : List ℕ) (item : TextItem ArgumentsEnd)
     → argument_item state b bs ≡ item → Stands state b bs item
@@ -84,32 +84,33 @@ split_values items = map joint_value (slice_split is_none items)
 pub record Inside (state : QuoteState) (items : List (Option (List ℕ)))
     (bs rest : List ℕ) : Type 0 where
   pub inside : List ℕ
-  pub whole : bs ≡ inside ++ close_parenthesis ∷ rest
+  pub whole : bs ≡ inside ++ ascii ")" ∷ rest
   pub spelled : SpellsArguments state (split_values items) inside
   pub called : SpellsInside state (arguments items) inside
 
 inside-gap : (state : QuoteState) (b : ℕ) (bs after rest : List ℕ) (items : List (Option (List ℕ)))
-    → state ≡ Outside → b ≡ comma → bs ≡ [] → Inside state items after rest
+    → state ≡ Outside → b ≡ ascii "," → bs ≡ [] → Inside state items after rest
     → Inside state (None ∷ items) (b ∷ (bs ++ after)) rest
 inside-gap state b bs after rest items outside is none later =
     let from : SpellsArguments Outside (split_values items) later.inside =
     subst (λ (s : QuoteState). SpellsArguments s
     (split_values items) later.inside) outside later.spelled in
-    let here : SpellsArguments Outside (split_values (None ∷ items)) (comma ∷ later.inside) =
+    let here : SpellsArguments Outside (split_values (None ∷ items)) (ascii "," ∷ later.inside) =
     NextArgument (split_values items) later.inside from in
-    let spelled : SpellsArguments state (split_values (None ∷ items)) (comma ∷ later.inside) =
+    let spelled : SpellsArguments state (split_values (None ∷ items)) (ascii "," ∷ later.inside) =
     subst (λ (s : QuoteState). SpellsArguments s (split_values (None ∷ items))
-    (comma ∷ later.inside)) (sym outside) here in
+    (ascii "," ∷ later.inside)) (sym outside) here in
     record {
-      inside = comma ∷ later.inside;
-      whole = ap (λ (c : ℕ). c ∷ (bs ++ after)) is ∙ ap (λ (r : List ℕ). comma ∷ (r ++ after)) none
-          ∙ ap (λ (r : List ℕ). comma ∷ r) later.whole;
+      inside = ascii "," ∷ later.inside;
+      whole = ap (λ (c : ℕ). c ∷ (bs ++ after)) is ∙ ap (λ (r : List ℕ). ascii "," ∷ (r ++ after)) none
+          ∙ ap (λ (r : List ℕ). ascii "," ∷ r) later.whole;
       spelled = spelled;
       called = spelled;
     }
 
 onto-first : (state next : QuoteState) (b : ℕ) (bs value text : List ℕ)
-    (parts : List (List (Option (List ℕ)))) → IsPart state b bs value next
+    (parts : List (List (Option (List ℕ))))
+    → ((rest : List ℕ) → argument_item state b (bs ++ rest) ≡ Part (length bs) value next)
     → SpellsArguments next (map joint_value parts) text
     → SpellsArguments state (map joint_value (onto_first (Some value) parts)) (b ∷ (bs ++ text))
 onto-first state next b bs value text [] is later = absurd (one-under-way next [] text later)
@@ -123,8 +124,8 @@ inside-part : (state next : QuoteState) (b : ℕ) (bs value after rest : List �
     → Inside state (Some value ∷ items) (b ∷ (bs ++ after)) rest
 inside-part state next b bs value after rest items is later =
     let some : 1 ≤ length after =
-    omega (arith, ap length later.whole ∙ length-append later.inside (close_parenthesis ∷ rest)) in
-    let part : IsPart state b bs value next =
+    omega (arith, ap length later.whole ∙ length-append later.inside (ascii ")" ∷ rest)) in
+    let part : (other : List ℕ) → argument_item state b (bs ++ other) ≡ Part (length bs) value next =
     λ other. part_stands state next b bs after other value some is in
     let spelled =
     onto-first state next b bs value later.inside
@@ -133,17 +134,17 @@ inside-part state next b bs value after rest items is later =
       inside = b ∷ (bs ++ later.inside);
       whole = ap (λ (r : List ℕ). b ∷ (bs ++ r)) later.whole
           ∙ ap (λ (r : List ℕ). b ∷ r)
-          (sym (append_assoc bs later.inside (close_parenthesis ∷ rest)));
+          (sym (append_assoc bs later.inside (ascii ")" ∷ rest)));
       spelled = spelled;
       called = spelled;
     }
 
 inside-none : (state : QuoteState) (b : ℕ) (bs rest : List ℕ) → state ≡ Outside
-    → b ≡ close_parenthesis → bs ≡ rest → Inside state [] (b ∷ bs) rest
+    → b ≡ ascii ")" → bs ≡ rest → Inside state [] (b ∷ bs) rest
 inside-none state b bs rest outside is same =
     record {
       inside = [];
-      whole = ap (λ (c : ℕ). c ∷ bs) is ∙ ap (λ (r : List ℕ). close_parenthesis ∷ r) same;
+      whole = ap (λ (c : ℕ). c ∷ bs) is ∙ ap (λ (r : List ℕ). ascii ")" ∷ r) same;
       spelled = subst (λ (s : QuoteState). SpellsArguments s ([] ∷ []) [])
           (sym outside) LastArgument;
       called = refl;

@@ -6,7 +6,7 @@ use Rattle.hx_words.specs.TextItems.{QuoteState}
 use Rattle.hx_words.specs.TextItems.QuoteState.{Outside, Single, Double}
 use Rattle.hx_words.specs.Quoting.{escape_of}
 use Rattle.hx_words.specs.TextItems.{TextItem}
-use Rattle.hx_base.specs.Bytes.{is_given, comma, open_parenthesis}
+use Rattle.hx_base.specs.Bytes.{ascii, is_given}
 use Rattle.hx_words.specs.CallForm.{CallForm}
 use Rattle.hx_words.specs.Arguments.{ArgumentsEnd, argument_item, arguments_end, argument_items, arguments}
 use Rattle.hx_words.specs.Arguments.ArgumentsEnd.{AtParenthesis, AtFault}
@@ -83,7 +83,7 @@ call-proper : (stop : Option ℕ) (call : CallForm) (rest : List ℕ)
 call-proper stop call [] = end-proper stop call
 call-proper stop call (b ∷ bs) =
     step-either (length (b ∷ bs)) (is_given stop b) (Last call bs) _ (omega arith)
-    (step-either (length (b ∷ bs)) (b == comma) (More call bs) (Faulty call.name AfterClose)
+    (step-either (length (b ∷ bs)) (b == ascii ",") (More call bs) (Faulty call.name AfterClose)
     (omega arith) (λ is. cc))
 
 step_after_arguments-proper : (stop : Option ℕ) (name : List ℕ) (args : List (List ℕ)) (n : ℕ)
@@ -99,7 +99,7 @@ name-proper : (stop : Option ℕ) (name rest : List ℕ)
 name-proper stop name [] = call-proper stop (record { name = name; args = [] }) []
 name-proper stop name (b ∷ bs) =
     let reading = argument_items bs in
-    step-either (length (b ∷ bs)) (b == open_parenthesis && not (is_given stop b))
+    step-either (length (b ∷ bs)) (b == ascii "(" && not (is_given stop b))
     (step_with_arguments stop name bs)
     (step_after_call stop (record { name = name; args = [] }) (b ∷ bs))
     (step-longer (length bs) (length (b ∷ bs)) (step_with_arguments stop name bs) (omega arith)

@@ -1,8 +1,8 @@
 -- The code's one pass: the words so far, with those of what is left, are the words of the line.
 use Rattle.std.proofs.Common.{◌≡◌, ℕ, ◌+◌, ◌≤◌, nat_lt, if◌then◌else◌, List, [], ◌∷◌, ◌++◌, map, filter, length, drop, Option, Some, None, Result, Ok, Err, option_to_list, unwrap_or, refl, sym, ap, ◌∙◌, append_assoc, length-append, arith}
 use Rattle.std.proofs.lemmas.Bool.Decides.{nat_tests}
-use Rattle.std.specs.List.{slice_split, onto_first}
-use Rattle.std.specs.Prelude.{is_none}
+use Rattle.std.specs.List.{list_any, slice_split, onto_first}
+use Rattle.std.specs.Prelude.{is_some, is_none}
 use Rattle.hx_words.specs.declared.fault.WordFault.{WordFault}
 use Rattle.hx_words.specs.declared.fault.WordFault.TheVariants.{OpenQuote, TooManyWords}
 use Rattle.hx_words.specs.TextItems.{QuoteState}
@@ -10,7 +10,7 @@ use Rattle.hx_words.specs.TextItems.QuoteState.{Outside}
 use Rattle.hx_words.specs.TextItems.{TextItems, text_items, longer_items, no_items}
 use Rattle.hx_words.specs.TextItems.TextItem.{Gap, Part, NoItem}
 use Rattle.hx_words.specs.Variable.{Env}
-use Rattle.hx_words.specs.Words.{LineEnd, line_end, line_items, word_item, is_run, joint_value, runs, beginning_words, item_at_end, result_at_end, words_of}
+use Rattle.hx_words.specs.Words.{LineEnd, line_end, line_items, word_item, joint_value, runs, beginning_words, item_at_end, result_at_end, words_of}
 use Rattle.hx_words.specs.Words.LineEnd.{EndOutside, EndInside, WrongItem}
 use Rattle.hx_words.proofs.TextItemLemmas.{text_items-end, text_items-gap, text_items-part, text_items-no_items}
 
@@ -26,7 +26,8 @@ runs_after (Some word) (Some value ∷ items) = runs_after (Some (word ++ value)
 -- the first of these parts belongs to the word under way
 abbrev heads : List ℕ → List (List (Option (List ℕ))) → List (List ℕ)
 heads word [] = word ∷ []
-heads word (part ∷ parts) = (word ++ joint_value part) ∷ map joint_value (filter is_run parts)
+heads word (part ∷ parts) =
+    (word ++ joint_value part) ∷ map joint_value (filter (list_any is_some) parts)
 
 abbrev parts_of : List (Option (List ℕ)) → List (List (Option (List ℕ)))
 parts_of items = slice_split is_none items
@@ -39,11 +40,12 @@ heads-onto : (word value : List ℕ) (parts : List (List (Option (List ℕ))))
     → heads (word ++ value) parts ≡ heads word (onto_first (Some value) parts)
 heads-onto word value [] = ap (λ (v : List ℕ). (word ++ v) ∷ []) (sym (append-nil value))
 heads-onto word value (part ∷ parts) =
-    ap (λ (w : List ℕ). w ∷ map joint_value (filter is_run parts))
+    ap (λ (w : List ℕ). w ∷ map joint_value (filter (list_any is_some) parts))
     (append_assoc word value (joint_value part))
 
 heads-none : (value : List ℕ) (parts : List (List (Option (List ℕ))))
-    → heads value parts ≡ map joint_value (filter is_run (onto_first (Some value) parts))
+    → heads value parts
+    ≡ map joint_value (filter (list_any is_some) (onto_first (Some value) parts))
 heads-none value [] = ap (λ (v : List ℕ). v ∷ []) (sym (append-nil value))
 heads-none value (part ∷ parts) = refl
 

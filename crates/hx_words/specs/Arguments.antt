@@ -3,13 +3,13 @@
 -- the relation to read first is `SpellsArguments` of `Spelling`, and `arguments` the function.
 use Rattle.std.specs.Prelude.{ℕ, ◌==◌, if◌then◌else◌, List, [], ◌∷◌, map, Option, is_none}
 use Rattle.std.specs.List.{slice_split}
-use Rattle.hx_base.specs.Bytes.{comma, backslash, single_quote, double_quote, close_parenthesis}
+use Rattle.hx_base.specs.Bytes.{ascii}
 use Rattle.hx_words.specs.declared.fault.ArgFault.{ArgFault}
 use Rattle.hx_words.specs.declared.fault.ArgFault.TheVariants.{Unclosed, BadEscape, OpenQuote}
-use Rattle.hx_words.specs.Quoting.{escape_of}
-use Rattle.hx_words.specs.TextItems.{QuoteState, TextItem, TextItems, text_items, single_item, part_or}
+use Rattle.hx_words.specs.Quoting.{part_at}
+use Rattle.hx_words.specs.TextItems.{QuoteState, TextItem, TextItems, text_items}
 use Rattle.hx_words.specs.TextItems.QuoteState.{Outside, Single, Double}
-use Rattle.hx_words.specs.TextItems.TextItem.{Gap, Part, NoItem}
+use Rattle.hx_words.specs.TextItems.TextItem.{Gap, NoItem}
 use Rattle.hx_words.specs.Words.{joint_value}
 
 -- how the reading of arguments ends
@@ -24,28 +24,13 @@ arguments_end Outside = AtFault Unclosed
 arguments_end Single = AtFault OpenQuote
 arguments_end Double = AtFault OpenQuote
 
--- outside quotes: `)`, a comma, the beginning of a quote, a backslash, and any other byte as itself
-abbrev pub outside_argument : ℕ → List ℕ → TextItem ArgumentsEnd
-outside_argument b bs =
-    if b == close_parenthesis then NoItem (AtParenthesis bs) else
-    (if b == comma then Gap 0 else
-    (if b == double_quote then Part 0 [] Double else
-    (if b == single_quote then Part 0 [] Single else
-    (if b == backslash then part_or (AtFault BadEscape) Outside (escape_of bs) else
-    Part 0 (b ∷ []) Outside))))
-
--- in double quotes: the end of the quote, a backslash, and any other byte as itself
-abbrev pub double_argument : ℕ → List ℕ → TextItem ArgumentsEnd
-double_argument b bs =
-    if b == double_quote then Part 0 [] Outside else
-    (if b == backslash then part_or (AtFault BadEscape) Double (escape_of bs) else
-    Part 0 (b ∷ []) Double)
-
--- the table: the item that begins with byte b, where the bytes bs follow; a gap is a comma
+-- the table: the item that begins with byte b, where the bytes bs follow. Outside quotes `)` ends
+-- the arguments, and a comma is a gap
 unfoldable pub argument_item : QuoteState → ℕ → List ℕ → TextItem ArgumentsEnd
-argument_item Outside b bs = outside_argument b bs
-argument_item Double b bs = double_argument b bs
-argument_item Single b bs = single_item b
+argument_item Outside b bs =
+    if b == ascii ")" then NoItem (AtParenthesis bs) else
+    (if b == ascii "," then Gap 0 else part_at (AtFault BadEscape) Outside b bs)
+argument_item state b bs = part_at (AtFault BadEscape) state b bs
 
 -- the items after `(`
 abbrev pub argument_items : List ℕ → TextItems ArgumentsEnd

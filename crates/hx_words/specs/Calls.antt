@@ -5,7 +5,7 @@
 -- wrong with any other text.
 use Rattle.std.specs.Prelude.{ℕ, zero, suc, ◌-◌, Bool, not, ◌==◌, ◌&&◌, ◌||◌, if◌then◌else◌, List, [], ◌∷◌, length, take, drop, Option, Some, None, Result, Ok, Err}
 use Rattle.std.specs.List.{prefix_len}
-use Rattle.hx_base.specs.Bytes.{is_given, comma, open_parenthesis}
+use Rattle.hx_base.specs.Bytes.{ascii, is_given}
 use Rattle.hx_words.specs.declared.fault.ArgFault.{ArgFault}
 use Rattle.hx_words.specs.declared.fault.ArgFault.TheVariants.{Unclosed, AfterClose}
 use Rattle.hx_words.specs.CallForm.{CallForm, CallList}
@@ -23,7 +23,7 @@ pub data Step : Type 0 where
 
 -- the stop byte, `(` and a comma end a name
 abbrev pub ends_name : Option ℕ → ℕ → Bool
-ends_name stop b = is_given stop b || b == open_parenthesis || b == comma
+ends_name stop b = is_given stop b || b == ascii "(" || b == ascii ","
 
 abbrev pub step_at_end : Option ℕ → CallForm → Step
 step_at_end None call = Last call []
@@ -34,7 +34,7 @@ abbrev pub step_after_call : Option ℕ → CallForm → List ℕ → Step
 step_after_call stop call [] = step_at_end stop call
 step_after_call stop call (b ∷ bs) =
     if is_given stop b then Last call bs else
-    (if b == comma then More call bs else Faulty call.name AfterClose)
+    (if b == ascii "," then More call bs else Faulty call.name AfterClose)
 
 abbrev pub step_after_arguments : Option ℕ → List ℕ → List (List ℕ) → ArgumentsEnd → Step
 step_after_arguments stop name args (AtParenthesis rest) =
@@ -51,7 +51,7 @@ step_with_arguments stop name bs =
 abbrev pub step_after_name : Option ℕ → List ℕ → List ℕ → Step
 step_after_name stop name [] = step_after_call stop (record { name = name; args = [] }) []
 step_after_name stop name (b ∷ bs) =
-    if b == open_parenthesis && not (is_given stop b) then step_with_arguments stop name bs else
+    if b == ascii "(" && not (is_given stop b) then step_with_arguments stop name bs else
     step_after_call stop (record { name = name; args = [] }) (b ∷ bs)
 
 abbrev pub call_name_length : Option ℕ → List ℕ → ℕ

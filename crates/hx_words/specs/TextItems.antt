@@ -2,14 +2,12 @@
 -- for, and gaps between them. The words of a line and the arguments of a call are cut in this way,
 -- each by a table of its own. The relation `AreTextItems`, at the end, is to be read first;
 -- `text_items` is the one list that it allows, as a function.
-use Rattle.std.specs.Prelude.{◌≡◌, ℕ, zero, suc, ◌==◌, if◌then◌else◌, List, [], ◌∷◌, ◌++◌, length, Option, Some, None}
-use Rattle.hx_base.specs.Bytes.{single_quote}
+use Rattle.std.specs.Prelude.{◌≡◌, ℕ, zero, suc, List, [], ◌∷◌, ◌++◌, length, Option, Some, None}
+use Rattle.std.specs.Option.{option_map_or}
 
 -- where a byte stands: outside quotes, in single quotes or in double quotes
 pub data QuoteState : Type 0 where
-  Outside : QuoteState
-  Single : QuoteState
-  Double : QuoteState
+  Outside Single Double : QuoteState
 
 -- the item that begins at a byte, with how many of the bytes after that byte belong to it
 pub data TextItem (E : Type 0) : Type 0 where
@@ -37,14 +35,9 @@ no_items e = record { items = []; ending = e }
 abbrev pub longer_items : {E : Type 0} → Option (List ℕ) → TextItems E → TextItems E
 longer_items item rest = record { items = item ∷ rest.items; ending = rest.ending }
 
--- in single quotes each byte is itself, and `'` ends the quote
-abbrev pub single_item : {E : Type 0} → ℕ → TextItem E
-single_item b = if b == single_quote then Part 0 [] Outside else Part 0 (b ∷ []) Single
-
 -- a part that leaves the state as it is; `wrong` is the ending where there is none
 abbrev pub part_or : {E : Type 0} → E → QuoteState → Option (ℕ × List ℕ) → TextItem E
-part_or wrong state None = NoItem wrong
-part_or wrong state (Some part) = Part part.0 part.1 state
+part_or wrong state part = option_map_or (λ p. Part p.0 p.1 state) part (NoItem wrong)
 
 -- an item, and the items of what follows it
 abbrev pub items_with_rest : {E : Type 0}

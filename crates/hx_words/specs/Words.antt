@@ -1,60 +1,40 @@
 -- The words of a configuration line (HAProxy's configuration manual 2.4, section 2.2; what the
 -- manual leaves open of backslash pairs and of `$` is fixed here). `ReadsLine` and `runs` are to be
 -- read first, and `words_of` then.
-use Rattle.std.specs.Prelude.{ℕ, Bool, true, false, nat_lt, ◌==◌, if◌then◌else◌, List, [], ◌∷◌, ◌++◌, map, filter, flat_map, length, Option, Some, is_none, unwrap_or, Result, Ok, Err}
-use Rattle.std.specs.List.{slice_split}
-use Rattle.hx_base.specs.Bytes.{is_blank, number_sign, backslash, single_quote, double_quote, dollar_sign}
+use Rattle.std.specs.Prelude.{ℕ, nat_lt, eqb, codes, ◌&&◌, ◌==◌, if◌then◌else◌, List, [], ◌∷◌, ◌++◌, map, filter, flat_map, length, Option, Some, is_some, is_none, unwrap_or, Result, Ok, Err}
+use Rattle.std.specs.List.{list_any, slice_split, starts_with}
+use Rattle.hx_base.specs.Bytes.{ascii, is_blank}
 use Rattle.hx_words.specs.declared.fault.WordFault.{WordFault}
 use Rattle.hx_words.specs.declared.fault.WordFault.TheVariants.{OpenQuote, BadEscape, BadVariable, TooManyWords}
-use Rattle.hx_words.specs.Quoting.{escape_of}
-use Rattle.hx_words.specs.Variable.{Env, variable_of, begins_with}
-use Rattle.hx_words.specs.TextItems.{QuoteState, TextItem, TextItems, text_items, single_item, part_or, AreTextItems}
+use Rattle.hx_words.specs.Quoting.{part_at}
+use Rattle.hx_words.specs.Variable.{Env, variable_of}
+use Rattle.hx_words.specs.TextItems.{QuoteState, TextItem, TextItems, text_items, part_or, AreTextItems}
 use Rattle.hx_words.specs.TextItems.QuoteState.{Outside, Single, Double}
 use Rattle.hx_words.specs.TextItems.TextItem.{Gap, Part}
 
 -- how the reading of a line ends
 pub data LineEnd : Type 0 where
-  -- at the line's end, outside quotes
-  EndOutside : LineEnd
-  -- at the line's end, inside a quote
-  EndInside : LineEnd
+  -- at the line's end, outside quotes or inside a quote
+  EndOutside EndInside : LineEnd
   -- before the line's end, where no item begins, for this reason
   WrongItem : (fault : WordFault) → LineEnd
 
 abbrev pub line_end : QuoteState → LineEnd
 line_end Outside = EndOutside
-line_end Single = EndInside
-line_end Double = EndInside
+line_end _ = EndInside
 
--- outside quotes: a blank, a comment to the line's end, the beginning of a quote, a backslash, and
--- any other byte as itself
-abbrev pub outside_item : ℕ → List ℕ → TextItem LineEnd
-outside_item b bs =
-    if is_blank b then Gap 0 else
-    (if b == number_sign then Gap (length bs) else
-    (if b == double_quote then Part 0 [] Double else
-    (if b == single_quote then Part 0 [] Single else
-    (if b == backslash then part_or (WrongItem BadEscape) Outside (escape_of bs) else
-    Part 0 (b ∷ []) Outside))))
-
--- a backslash in double quotes: `\$` is `$`, the rest as outside quotes
-abbrev pub double_escape : List ℕ → TextItem LineEnd
-double_escape bs =
-    if begins_with dollar_sign bs then Part 1 (dollar_sign ∷ []) Double else
-    part_or (WrongItem BadEscape) Double (escape_of bs)
-
--- in double quotes: the end of the quote, a variable, a backslash, and any other byte as itself
-abbrev pub double_item : Env → ℕ → List ℕ → TextItem LineEnd
-double_item env b bs =
-    if b == double_quote then Part 0 [] Outside else
-    (if b == dollar_sign then part_or (WrongItem BadVariable) Double (variable_of env bs) else
-    (if b == backslash then double_escape bs else Part 0 (b ∷ []) Double))
-
--- the table of a line's items: the item that begins with byte b, where the bytes bs follow
+-- the table of a line's items: the item that begins with byte b, where the bytes bs follow. Outside
+-- quotes a blank is a gap, and so is a comment to the line's end; in double quotes `$` begins a
+-- variable, and `\$` is `$`
 unfoldable pub word_item : Env → QuoteState → ℕ → List ℕ → TextItem LineEnd
-word_item env Outside b bs = outside_item b bs
-word_item env Double b bs = double_item env b bs
-word_item env Single b bs = single_item b
+word_item env Outside b bs =
+    if is_blank b then Gap 0 else
+    (if b == ascii "#" then Gap (length bs) else part_at (WrongItem BadEscape) Outside b bs)
+word_item env Double b bs =
+    if b == ascii "$" then part_or (WrongItem BadVariable) Double (variable_of env bs) else
+    (if b == ascii "\\" && starts_with eqb bs (codes "$") then Part 1 (codes "$") Double else
+    part_at (WrongItem BadEscape) Double b bs)
+word_item env Single b bs = part_at (WrongItem BadEscape) Single b bs
 
 -- these are the items of the line, and this is how its reading ends
 abbrev pub ReadsLine : Env → List ℕ → TextItems LineEnd → Type 0
@@ -64,17 +44,13 @@ ReadsLine env line items = AreTextItems (word_item env) line_end Outside line it
 abbrev pub line_items : Env → List ℕ → TextItems LineEnd
 line_items env line = text_items (word_item env) line_end line Outside 0
 
-abbrev pub is_run : List (Option (List ℕ)) → Bool
-is_run [] = false
-is_run (item ∷ items) = true
-
 -- the values of these items, one after the other
 abbrev pub joint_value : List (Option (List ℕ)) → List ℕ
 joint_value items = flat_map (λ item. unwrap_or item []) items
 
 -- the maximal runs of items that are no gap, each with its joint value
 abbrev pub runs : List (Option (List ℕ)) → List (List ℕ)
-runs items = map joint_value (filter is_run (slice_split is_none items))
+runs items = map joint_value (filter (list_any is_some) (slice_split is_none items))
 
 -- what is no item begins a word nevertheless, unless one is under way there
 abbrev pub item_at_end : LineEnd → List (Option (List ℕ))

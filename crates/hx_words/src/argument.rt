@@ -1,9 +1,10 @@
 ghost use Rattle.std.specs.Prelude.{◌≡◌, ◌≢◌, ◌<◌, ◌≤◌, length, IfOk, IfErr};
-ghost use Rattle.hx_words.specs.Arguments.{argument_item, outside_argument, double_argument, arguments, argument_items};
+ghost use Rattle.hx_words.specs.Arguments.{argument_item, arguments, argument_items};
 ghost use Rattle.hx_words.specs.Arguments.ArgumentsEnd.{AtParenthesis, AtFault};
 ghost use Rattle.hx_words.specs.TokenView.{argument_item_of, quote_state_of};
-ghost use Rattle.hx_words.specs.Quoting.{escape_of};
-ghost use Rattle.hx_words.specs.TextItems.{following_count, part_or, single_item};
+ghost use Rattle.hx_words.specs.Quoting.{escape_of, part_at};
+ghost use Rattle.hx_words.specs.TextItems.{following_count, part_or};
+ghost use Rattle.hx_words.specs.TextItems.QuoteState.{Outside, Single, Double};
 
 use crate::fault::ArgFault;
 use crate::parts::PartsSoFar;
@@ -79,8 +80,9 @@ fn argument_at<'a>(mode: Mode, byte: u8, after: &[u8]) -> ArgToken<'a>
     }
 }
 
+#[tactic(auto, unfolding(crate::specs::Arguments::argument_item))]
 fn outside<'a>(byte: u8, after: &[u8]) -> ArgToken<'a>
-    ensures item { argument_item_of after.now result ≡ outside_argument byte after.now }
+    ensures item { argument_item_of after.now result ≡ argument_item Outside byte after.now }
     ensures within { following_count (argument_item_of after.now result) ≤ length after.now }
 {
     match byte {
@@ -94,7 +96,8 @@ fn outside<'a>(byte: u8, after: &[u8]) -> ArgToken<'a>
 }
 
 fn double<'a>(byte: u8, after: &[u8]) -> ArgToken<'a>
-    ensures item { argument_item_of after.now result ≡ double_argument byte after.now }
+    ensures item { argument_item_of after.now result
+        ≡ part_at (AtFault ArgFault.BadEscape) Double byte after.now }
     ensures within { following_count (argument_item_of after.now result) ≤ length after.now }
 {
     match byte {
@@ -105,7 +108,8 @@ fn double<'a>(byte: u8, after: &[u8]) -> ArgToken<'a>
 }
 
 fn single<'a>(byte: u8, after: &[u8]) -> ArgToken<'a>
-    ensures item { argument_item_of after.now result ≡ single_item byte }
+    ensures item { argument_item_of after.now result
+        ≡ part_at (AtFault ArgFault.BadEscape) Single byte after.now }
     ensures within { following_count (argument_item_of after.now result) ≤ length after.now }
 {
     match byte {

@@ -1,5 +1,6 @@
-ghost use Rattle.std.specs.Prelude.{◌≡◌, ◌∷◌, ◌++◌, [], ◌+◌, ◌≤◌, length, drop, MatchOption, IfSome, OnOk};
-ghost use Rattle.hx_words.specs.Quoting.{escape_of, hex_escape, hex_value};
+ghost use Rattle.std.specs.Prelude.{◌≡◌, ◌∷◌, ◌++◌, [], ◌+◌, ◌≤◌, length, drop, MatchOption, IfSome, OnOk, if◌then◌else◌};
+ghost use Rattle.std.specs.Char.{digit_value, is_digit};
+ghost use Rattle.hx_words.specs.Quoting.{escape_of, hex_escape};
 ghost use Rattle.hx_words.specs.TokenView.{part_bytes, escape_view};
 
 use hx_text::{NoMemory, Octets};
@@ -86,7 +87,7 @@ fn read_hex<'a>(after: &[u8]) -> Option<(usize, PartValue<'a>)>
 
 /// The value of a hex digit.
 fn hex_digit(byte: u8) -> Option<u8>
-    ensures value { result ≡ hex_value byte }
+    ensures value { result ≡ (if is_digit byte 16 then Some (digit_value byte) else None) }
     ensures below { IfSome result (λ digit. digit ≤ 15) }
 {
     let digit = char::from(byte).to_digit(16)?;

@@ -1,5 +1,5 @@
 ghost use Rattle.std.specs.Prelude.{◌≡◌, ◌≤◌, ◌==◌, ◌&&◌, not, IfOk, length, take};
-ghost use Rattle.hx_base.specs.Bytes.{is_given, open_parenthesis};
+ghost use Rattle.hx_base.specs.Bytes.{ascii, is_given};
 ghost use Rattle.hx_words.specs.Calls.{step_of, step_after_call, step_with_arguments, step_after_name, call_name_length, ends_name};
 ghost use Rattle.hx_words.specs.Calls.Step.{Faulty};
 ghost use Rattle.hx_words.specs.StepView.{step_view, Shortens};
@@ -127,7 +127,7 @@ fn goes_on(byte: u8, stop: Option<u8>) -> bool
 
 /// Whether the byte begins arguments.
 fn opens(byte: u8, stop: Option<u8>) -> bool
-    ensures { result ≡ (byte == open_parenthesis && not (is_given stop byte)) }
+    ensures { result ≡ (byte == ascii "(" && not (is_given stop byte)) }
 {
     byte == b'(' && !stops(byte, stop)
 }

@@ -1,9 +1,11 @@
-ghost use Rattle.std.specs.Prelude.{◌≡◌, ◌≤◌, length};
-ghost use Rattle.hx_words.specs.Quoting.{escape_of};
-ghost use Rattle.hx_words.specs.TextItems.{following_count, part_or, single_item};
+ghost use Rattle.std.specs.Prelude.{◌≡◌, ◌≤◌, [], length};
+ghost use Rattle.hx_base.specs.Bytes.{ascii};
+ghost use Rattle.hx_words.specs.Quoting.{escape_of, part_at};
+ghost use Rattle.hx_words.specs.TextItems.{following_count, part_or};
+ghost use Rattle.hx_words.specs.TextItems.QuoteState.{Outside, Single, Double};
 ghost use Rattle.hx_words.specs.TokenView.{word_item_of, quote_state_of};
 ghost use Rattle.hx_base.specs.Pairs.{pairs_of};
-ghost use Rattle.hx_words.specs.Words.{word_item, outside_item, double_item, double_escape};
+ghost use Rattle.hx_words.specs.Words.{word_item};
 ghost use Rattle.hx_words.specs.Words.LineEnd.{WrongItem};
 
 use crate::fault::WordFault;
@@ -37,8 +39,9 @@ pub(crate) fn item_at<'a>(
     }
 }
 
+#[tactic(auto, unfolding(crate::specs::Words::word_item))]
 fn outside<'a>(byte: u8, after: &[u8]) -> Token<'a>
-    ensures item { word_item_of result ≡ outside_item byte after.now }
+    ensures item { word_item_of result ≡ word_item [] Outside byte after.now }
     ensures within { following_count (word_item_of result) ≤ length after.now }
 {
     match byte {
@@ -51,8 +54,9 @@ fn outside<'a>(byte: u8, after: &[u8]) -> Token<'a>
     }
 }
 
+#[tactic(auto, unfolding(crate::specs::Words::word_item))]
 fn double<'a>(env: &'a [(Vec<u8>, Vec<u8>)], byte: u8, after: &[u8]) -> Token<'a>
-    ensures item { word_item_of result ≡ double_item (pairs_of env.now) byte after.now }
+    ensures item { word_item_of result ≡ word_item (pairs_of env.now) Double byte after.now }
     ensures within { following_count (word_item_of result) ≤ length after.now }
 {
     match byte {
@@ -67,7 +71,7 @@ fn double<'a>(env: &'a [(Vec<u8>, Vec<u8>)], byte: u8, after: &[u8]) -> Token<'a
 }
 
 fn single<'a>(byte: u8) -> Token<'a>
-    ensures item { word_item_of result ≡ single_item byte }
+    ensures item { word_item_of result ≡ part_at (WrongItem WordFault.BadEscape) Single byte [] }
     ensures within { following_count (word_item_of result) ≡ 0 }
 {
     match byte {
@@ -77,8 +81,9 @@ fn single<'a>(byte: u8) -> Token<'a>
 }
 
 /// A backslash in double quotes.
+#[tactic(auto, unfolding(crate::specs::Words::word_item))]
 fn dollar_escape<'a>(after: &[u8]) -> Token<'a>
-    ensures item { word_item_of result ≡ double_escape after.now }
+    ensures item { word_item_of result ≡ word_item [] Double (ascii "\\") after.now }
     ensures within { following_count (word_item_of result) ≤ length after.now }
 {
     if starts_with(after, b'$') {

@@ -1,7 +1,7 @@
-ghost use Rattle.std.specs.Prelude.{◌≡◌, ◌+◌, ◌≤◌, IsTrue, take, length, option_map, IfSome};
-ghost use Rattle.hx_base.specs.Pairs.{pairs_of};
-ghost use Rattle.hx_words.specs.Variable.{env_value, variable_of, variable_name, variable_name_length, begins_with, is_name_byte, plain_name, braced_name};
-ghost use Rattle.std.specs.List.{prefix_len};
+ghost use Rattle.std.specs.Prelude.{◌≡◌, ◌+◌, ◌≤◌, eqb, IsTrue, [], ◌∷◌, take, length, option_map, unwrap_or, IfSome};
+ghost use Rattle.hx_base.specs.Pairs.{pairs_of, value_at};
+ghost use Rattle.hx_words.specs.Variable.{variable_of, variable_name, variable_name_length, is_name_byte, plain_name, braced_name};
+ghost use Rattle.std.specs.List.{prefix_len, starts_with};
 
 use crate::quoting::first;
 
@@ -18,7 +18,7 @@ pub(crate) fn variable<'a>(env: &'a [(Vec<u8>, Vec<u8>)], after: &[u8]) -> Optio
 
 /// The value of the first pair of the name, nothing where there is none.
 fn lookup<'a>(env: &'a [(Vec<u8>, Vec<u8>)], name: &[u8]) -> &'a [u8]
-    ensures { result.now ≡ env_value (pairs_of env.now) name.now }
+    ensures { result.now ≡ unwrap_or (value_at (pairs_of env.now) name.now) [] }
 {
     for (known, value) in env {
         if known.as_slice() == name {
@@ -90,7 +90,7 @@ fn is_name(byte: u8) -> bool
 
 /// Whether the bytes begin with this one.
 pub(crate) fn starts_with(bytes: &[u8], byte: u8) -> bool
-    ensures value { result ≡ begins_with byte bytes.now }
+    ensures value { result ≡ starts_with eqb bytes.now (byte ∷ []) }
     ensures within { IsTrue result → 1 ≤ length bytes.now }
 {
     match first(bytes) {
