@@ -7,5 +7,6 @@ pub mod Fetches
 pub mod Convs
 pub mod Types
 pub mod Acls
+pub mod Predefined
 pub mod Actions
 pub mod Statements
