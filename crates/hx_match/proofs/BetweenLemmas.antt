@@ -35,11 +35,7 @@ further key text b (before, after, e) = (b ∷ before, after, ap (λ l. b ∷ l)
 
 pub part_between : (key text : List ℕ) → is_part key text ≡ true
     → (before : List ℕ) × (after : List ℕ) × (text ≡ before ++ (key ++ after))
-part_between key [] is =
-    elim (either (starts_with nat_eq [] key) false is) [
-      | inl starts ↦ ([], drop (length key) [], starts_split [] key starts)
-      | inr never ↦ absurd cc
-    ]
+part_between key [] is = ([], drop (length key) [], starts_split [] key is)
 part_between key (b ∷ text) is =
     elim (either (starts_with nat_eq (b ∷ text) key) (is_part key text) is) [
       | inl starts ↦ ([], drop (length key) (b ∷ text), starts_split (b ∷ text) key starts)

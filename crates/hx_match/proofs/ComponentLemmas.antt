@@ -7,7 +7,7 @@ use Rattle.std.proofs.lemmas.Bool.{cases_lt, ne_eqb}
 use Rattle.std.proofs.lemmas.List.{drop-map, length-map, map-append, take-map}
 use mathlib.Core.List.{reverse-cons}
 use Rattle.std.proofs.lemmas.Str.Ascii.{lowercase_is}
-use Rattle.hx_base.specs.Bytes.{colon, full_stop, question_mark, slash}
+use Rattle.hx_base.specs.Bytes.{ascii}
 use Rattle.hx_sample.specs.Keys.{folded, is_component, is_delimited_part, is_ended, parts_path, rests_after, trimmed}
 use Rattle.hx_match.specs.Read.{is_delim}
 use Rattle.hx_match.specs.declared.components.Delims.{Delims}
@@ -35,14 +35,14 @@ not_lower c le b = elim (cases_lt b 65) [
 ]
 
 path_ignores : IgnoresCase parts_path
-path_ignores b = ap₂ (λ p q. p || q) (not_lower slash (omega arith) b) (not_lower question_mark (omega arith) b)
+path_ignores b = ap₂ (λ p q. p || q) (not_lower (ascii "/") (omega arith) b) (not_lower (ascii "?") (omega arith) b)
 
 pub ignores : (delims : Delims) → IgnoresCase (is_delim delims)
 ignores Path b = path_ignores b
 ignores Domain b =
     ap₂ (λ p q. p || q)
-    (ap₂ (λ p q. p || q) (path_ignores b) (not_lower full_stop (omega arith) b))
-    (not_lower colon (omega arith) b)
+    (ap₂ (λ p q. p || q) (path_ignores b) (not_lower (ascii ".") (omega arith) b))
+    (not_lower (ascii ":") (omega arith) b)
 
 -- ---- texts without their delimiters
 

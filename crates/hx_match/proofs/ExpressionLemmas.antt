@@ -9,9 +9,10 @@ use Rattle.regex.specs.Patterns.{find}
 use Rattle.regex.specs.declared.bytes.regex.Regex.{Regex}
 use Rattle.regex.proofs.ForCallers.{is_match_alike}
 use Rattle.hx_outside.specs.Expressions.{expression}
+use Rattle.hx_text.specs.declared.kinds.By.TheVariants as by
 use Rattle.hx_sample.specs.Keys.{is_found_in, key_expression}
 use Rattle.hx_outside.specs.declared.pattern_fault.PatFault.TheVariants.{BadRegex, NotUtf8}
-use Rattle.hx_match.specs.Patterns.{expression_fault}
+use Rattle.hx_match.specs.Patterns.{text_fault}
 use Rattle.hx_match.specs.Read.{IsKeyExpression}
 
 pub found_alike : (ci : Bool) (key : List ℕ) (re : Regex) (text : List ℕ)
@@ -22,16 +23,16 @@ found_alike ci key re text bytes read =
 
 -- a text that is UTF-8 and no expression
 pub bad_expression : (ci : Bool) (text : List ℕ) → IsUtf8 text → expression ci text ≡ None
-    → expression_fault ci text ≡ Some BadRegex
+    → text_fault by.Reg ci text ≡ Some BadRegex
 bad_expression ci text utf8 none = rw (is_utf8-from_IsUtf8 text utf8, none) refl
 
 -- a text whose expression was made
 pub made_expression : (ci : Bool) (text : List ℕ) (re : Regex) → IsKeyExpression ci text re
-    → expression_fault ci text ≡ None
+    → text_fault by.Reg ci text ≡ None
 made_expression ci text re read = rw (is_utf8-from_IsUtf8 text read.utf8, read.is.is) refl
 
 -- a text that isn't UTF-8
-pub no_utf8 : (ci : Bool) (text : List ℕ) → ¬ (IsUtf8 text) → expression_fault ci text ≡ Some NotUtf8
+pub no_utf8 : (ci : Bool) (text : List ℕ) → ¬ (IsUtf8 text) → text_fault by.Reg ci text ≡ Some NotUtf8
 no_utf8 ci text other =
     elim (cases_Bool (is_utf8 text)) [
       | inl is ↦ absurd (other (IsUtf8-from_is_utf8 text is))

@@ -3,3 +3,4 @@ pub mod ComponentLemmas
 pub mod ExpressionLemmas
 pub mod RefusalLemmas
 pub mod BetweenLemmas
+pub mod RangeLemmas

@@ -19,7 +19,7 @@ use Rattle.hx_text.specs.Network.{net_of}
 use Rattle.hx_sample.specs.declared.sample.Value.{Value}
 use Rattle.hx_sample.specs.declared.sample.Value.TheVariants as value
 use Rattle.hx_sample.specs.Keys.{Range, has_address, hits, is_found_in, is_within, key_expression, range_of}
-use Rattle.hx_match.specs.Patterns.{ends_before, expression_fault, fault_without, range_fault, text_fault}
+use Rattle.hx_match.specs.Patterns.{fault_without, range_fault, text_fault}
 
 -- ---- ranges
 
@@ -37,20 +37,16 @@ outside least greatest n reversed =
       ]
     ]
 
-reversed_range : (least greatest : Option ℤ) (n : ℤ) → ends_before least greatest ≡ true
-    → is_within (record { least = least; greatest = greatest }) n ≡ false
-reversed_range (Some least) (Some greatest) n h = outside least greatest n h
-reversed_range (Some least) None n h = cc
-reversed_range None greatest n h = cc
-
 refused_range : (range : Option Range) (n : ℤ) → range_fault range ≢ None
     → option_map_or (λ r. is_within r n) range false ≡ false
 refused_range None n fault = refl
-refused_range (Some range) n fault =
-    elim (cases_Bool (ends_before range.least range.greatest)) [
-      | inl reversed ↦ reversed_range range.least range.greatest n reversed
+refused_range (Some (Some low, Some high)) n fault =
+    elim (cases_Bool (int_lt high low)) [
+      | inl reversed ↦ outside low high n reversed
       | inr ordered ↦ absurd (fault (rw ordered refl))
     ]
+refused_range (Some (Some low, None)) n fault = absurd (fault refl)
+refused_range (Some (None, greatest)) n fault = absurd (fault refl)
 
 -- ---- other texts
 
@@ -69,7 +65,7 @@ refused_pattern : (pattern : Option Re) (text : List ℕ) → fault_without BadR
 refused_pattern None text fault = refl
 refused_pattern (Some pattern) text fault = absurd (fault refl)
 
-refused_expression : (ci : Bool) (key text : List ℕ) → expression_fault ci key ≢ None
+refused_expression : (ci : Bool) (key text : List ℕ) → text_fault by.Reg ci key ≢ None
     → is_found_in (key_expression ci key) text ≡ false
 refused_expression ci key text fault =
     elim (cases_Bool (is_utf8 key)) [

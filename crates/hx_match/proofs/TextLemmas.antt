@@ -54,7 +54,7 @@ or_left a b h = rw h refl
 -- a key that begins what follows some bytes of a text is a part of it
 pub part_at : (key text : List ℕ) (k : ℕ) → k ≤ length text
     → starts_with nat_eq (drop k text) key ≡ true → is_part key text ≡ true
-part_at key [] zero le starts = or_left (starts_with nat_eq [] key) false starts
+part_at key [] zero le starts = starts
 part_at key [] (suc k) le starts = absurd (omega arith)
 part_at key (b ∷ text) zero le starts = or_left _ (is_part key text) starts
 part_at key (b ∷ text) (suc k) le starts =
@@ -64,7 +64,7 @@ part_at key (b ∷ text) (suc k) le starts =
 pub no_part : (key text : List ℕ)
     → ((k : ℕ) → k ≤ length text → starts_with nat_eq (drop k text) key ≡ false)
     → is_part key text ≡ false
-no_part key [] none = or_none _ false (none zero (omega arith)) refl
+no_part key [] none = none zero (omega arith)
 no_part key (b ∷ text) none =
     or_none _ (is_part key text) (none zero (omega arith))
     (no_part key text (λ k le. none (suc k) (omega arith)))

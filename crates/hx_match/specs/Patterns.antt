@@ -1,6 +1,6 @@
 -- Which texts are patterns of a match method, and why the others are none (HAProxy configuration
 -- manual 2.4, section 7.1).
-use Rattle.std.specs.Prelude.{◌≡◌, ℕ, ℤ, int_lt, Bool, false, List, Option, None, Some, IsUtf8, Result, Err, ⊤, if◌then◌else◌}
+use Rattle.std.specs.Prelude.{◌≡◌, ℕ, int_lt, Bool, List, Option, None, Some, is_some, IsUtf8, Result, Err, ⊤, if◌then◌else◌}
 use Rattle.std.specs.Result.{result_ok}
 use Rattle.std.specs.Str.{is_utf8}
 use Rattle.hex.specs.Hex.{decode_of}
@@ -30,21 +30,13 @@ pattern_network _ text = None
 
 -- the fault where there is nothing, and none where there is something
 abbrev pub fault_without : {A : Type 0} → PatFault → Option A → Option PatFault
-fault_without fault None = Some fault
-fault_without fault (Some x) = None
+fault_without fault found = if is_some found then None else Some fault
 
--- a range from the one bound to the other ends before it begins
-abbrev pub ends_before : Option ℤ → Option ℤ → Bool
-ends_before (Some least) (Some greatest) = int_lt greatest least
-ends_before _ _ = false
-
+-- the fault of a range: there is none, or it ends before it begins
 abbrev pub range_fault : Option Range → Option PatFault
 range_fault None = Some BadInt
-range_fault (Some range) = if ends_before range.least range.greatest then Some BadRange else None
-
-abbrev pub expression_fault : Bool → List ℕ → Option PatFault
-expression_fault ci text =
-    if is_utf8 text then fault_without BadRegex (expression ci text) else Some NotUtf8
+range_fault (Some (Some low, Some high)) = if int_lt high low then Some BadRange else None
+range_fault _ = None
 
 -- why the text is no pattern of the method, and none where it is one
 abbrev pub text_fault : By → Bool → List ℕ → Option PatFault
@@ -52,7 +44,8 @@ text_fault by.Int ci text = range_fault (range_of text)
 text_fault by.Len ci text = range_fault (range_of text)
 text_fault by.Ip ci text = fault_without BadAddress (net_of text)
 text_fault by.Bin ci text = fault_without BadHex (result_ok (decode_of text))
-text_fault by.Reg ci text = expression_fault ci text
+text_fault by.Reg ci text =
+    if is_utf8 text then fault_without BadRegex (expression ci text) else Some NotUtf8
 text_fault _ ci text = None
 
 -- ---- what reading a pattern answers

@@ -19,7 +19,7 @@ use Rattle.hx_match.specs.declared.ranges.Bounds.{Bounds}
 
 -- the range between bounds
 abbrev pub range_of_bounds : Bounds → Range
-range_of_bounds bounds = record { least = bounds.least; greatest = bounds.greatest }
+range_of_bounds bounds = (bounds.least, bounds.greatest)
 
 -- the bytes that are delimiters
 abbrev pub is_delim : Delims → ℕ → Bool

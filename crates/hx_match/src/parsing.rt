@@ -3,7 +3,7 @@ ghost use Rattle.std.specs.Result.{result_ok};
 ghost use Rattle.hex.specs.Hex.{decode_of};
 ghost use Rattle.hx_text.specs.Network.{net_of};
 ghost use Rattle.hx_sample.specs.Keys.{range_of, trimmed};
-ghost use Rattle.hx_match.specs.Patterns.{expression_fault, fault_without, range_fault, text_fault, AsksMaker, CountsLarge, MayCome};
+ghost use Rattle.hx_match.specs.Patterns.{fault_without, range_fault, text_fault, AsksMaker, CountsLarge, MayCome};
 ghost use Rattle.hx_match.specs.Read.{by_of, by_of_text, is_delim, range_of_bounds, IsKeyExpression, IsNetwork, IsRead, IsTextRead};
 
 use crate::components::{Delims, trim};
@@ -163,7 +163,7 @@ fn made_regex<M: ReMaker>(
 ) -> Result<Box<Regex>, PatFault>
     ensures made { IfOk result (λ re. IsKeyExpression ci text.now re.value) }
     ensures refused { IfErr result
-        (MayCome (expression_fault ci text.now) (AsksMaker By.Reg text.now)) }
+        (MayCome (text_fault By.Reg ci text.now) (AsksMaker By.Reg text.now)) }
     ensures large { CountsLarge result (record { text = text.now; ci = ci })
         (record { too_large = M.too_large maker.old; large = M.large maker.old })
         (record { too_large = M.too_large maker.new; large = M.large maker.new }) }

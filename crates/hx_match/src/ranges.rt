@@ -1,6 +1,8 @@
-ghost use Rattle.std.specs.Prelude.{◌≡◌, ℤ, option_map};
-ghost use Rattle.hx_sample.specs.Keys.{bound_of, is_within, range_between, range_of};
-ghost use Rattle.hx_match.specs.Patterns.{ends_before};
+ghost use Rattle.std.specs.Prelude.{◌≡◌, ℤ, None, Some, option_map, if◌then◌else◌};
+ghost use Rattle.std.specs.Option.{option_zip};
+ghost use Rattle.hx_outside.specs.declared.pattern_fault.PatFault.TheVariants.{BadRange};
+ghost use Rattle.hx_sample.specs.Keys.{bound_of, is_within, range_of};
+ghost use Rattle.hx_match.specs.Patterns.{range_fault};
 ghost use Rattle.hx_match.specs.Read.{range_of_bounds};
 
 use hx_text::{cut_at, read_i64};
@@ -30,7 +32,8 @@ impl Bounds {
 
     /// Whether the range ends before it begins.
     pub(crate) fn ends_before(&self) -> bool
-        ensures { result ≡ ends_before self.now.least self.now.greatest }
+        ensures { range_fault (Some (range_of_bounds self.now))
+            ≡ (if result then Some BadRange else None) }
     {
         match (self.least, self.greatest) {
             (Some(least), Some(greatest)) => greatest < least,
@@ -55,7 +58,7 @@ fn read_bound(text: &[u8]) -> Option<Option<i64>>
 
 fn range_between(least: &[u8], greatest: &[u8]) -> Option<Bounds>
     ensures { option_map range_of_bounds result
-        ≡ range_between (bound_of least.now) (bound_of greatest.now) }
+        ≡ option_zip (bound_of least.now) (bound_of greatest.now) }
 {
     let least = read_bound(least)?;
     let greatest = read_bound(greatest)?;

@@ -1,90 +1,67 @@
--- What is got from the maps of all scopes after one of them changed.
-use Rattle.std.proofs.Common.{◌≡◌, ℕ, List, Some, None, refl, ap, sym}
-use Rattle.std.proofs.lemmas.Map.Lookups.{exact_bytes}
-use Rattle.std.specs.Prelude.{if◌then◌else◌}
+-- What is got of the variables after one of them changed, and after some ended.
+use Rattle.std.proofs.Common.{◌≡◌, ℕ, Bool, true, false, cond, not, Some, None, refl, ap, sym, ◌∙◌}
+use Rattle.std.proofs.lemmas.Map.Views.{exact_unsigned_eq}
+use Rattle.std.specs.Prelude.{Option, if◌then◌else◌, nat_eq}
 use Rattle.std.specs.declared.cmp.Ordering.TheVariants.{Equal}
-use Rattle.std.specs.Cmp.{tied_itself}
-use Rattle.std.specs.Cmp.Lexicographic.{slice_cmp, nat_list_cmp_total}
-use Rattle.std.specs.FinMap.{get-empty}
-use Rattle.std.specs.Ordering.{nat_cmp}
-use Rattle.hx_text.specs.declared.names.Scope.{Scope}
-use Rattle.hx_text.specs.declared.names.Scope.TheVariants.{Proc, Sess, Txn, Req, Res}
+use Rattle.std.specs.Cmp.{nat_eq_equiv, tied_itself}
+use Rattle.std.specs.Option.{option_eq}
+use Rattle.hx_text.specs.declared.names.VarName.{VarName}
 use Rattle.hx_sample.specs.declared.sample.Value.{Value}
-use Rattle.hx_sample.specs.Vars.{Scopes, SessionVar, session_cmp, var_in, with_var_in, without_var_in, after_request, after_session, ends_with_request, owner_of}
+use Rattle.hx_sample.specs.Vars.{IsSameVar, Scopes, VarKey, after_request, after_session, ends_with_request, key_cmp, key_of, owner_of, var_of, with_var, without_var}
+use Rattle.hx_sample.proofs.KeyLemmas.{exact_key, key_total}
 use Rattle.hx_sample.proofs.MapLemmas.{inserted_tied, inserted_apart, removed_tied, removed_apart}
-use Rattle.hx_sample.proofs.SessionLemmas.{session_total, exact_session, session_gone, session_stays}
+use Rattle.hx_sample.proofs.SessionLemmas.{not_true}
+use Rattle.hx_sample.proofs.VarLemmas.{get-kept}
 
--- names that differ don't tie
-names_apart : (n q : List ℕ) → ¬ (n ≡ q) → ¬ (slice_cmp nat_cmp q n ≡ Equal)
-names_apart n q differ tied = differ (sym (exact_bytes q n tied))
+key_tied : (key : VarKey) → key_cmp key key ≡ Equal
+key_tied key = tied_itself key_total key
 
-name_tied : (n : List ℕ) → slice_cmp nat_cmp n n ≡ Equal
-name_tied n = tied_itself nat_list_cmp_total n
+-- the keys of variables that differ don't tie
+keys_apart : (conn : ℕ) (name : VarName) (c : ℕ) (n : VarName) → ¬ (IsSameVar conn name c n) → ¬ (key_cmp (key_of c n) (key_of conn name) ≡ Equal)
+keys_apart conn name c n differ tied =
+    let same = sym (exact_key (key_of c n) (key_of conn name) tied) in
+    differ (ap (λ key. key.1.scope) same, ap (λ key. key.1.name) same, ap (λ key. key.0) same)
 
--- variables of sessions that differ don't tie
-session_apart : (n q : List ℕ) (conn c : ℕ) → ¬ ((n ≡ q) × (conn ≡ c)) → ¬ (session_cmp (c, q) (conn, n) ≡ Equal)
-session_apart n q conn c differ tied =
-    let same = exact_session (c, q) (conn, n) tied in
-    differ (ap (λ var. var.1) (sym same), ap (λ var. var.0) (sym same))
+pub set_here : (vars : Scopes) (conn : ℕ) (name : VarName) (v : Value) → var_of (with_var vars conn name v) conn name ≡ Some v
+set_here vars conn name v =
+    inserted_tied key_total vars (key_of conn name) v (key_of conn name) (key_tied (key_of conn name))
 
-session_tied : (var : SessionVar) → session_cmp var var ≡ Equal
-session_tied var = tied_itself session_total var
+pub set_elsewhere : (vars : Scopes) (conn : ℕ) (name : VarName) (v : Value) (c : ℕ) (n : VarName) → ¬ (IsSameVar conn name c n) → var_of (with_var vars conn name v) c n ≡ var_of vars c n
+set_elsewhere vars conn name v c n differ =
+    inserted_apart key_total vars (key_of conn name) v (key_of c n) (keys_apart conn name c n differ)
 
--- all scopes
-pub set_here : (s : Scopes) (conn : ℕ) (scope : Scope) (n : List ℕ) (v : Value) → var_in (with_var_in s conn scope n v) conn scope n ≡ Some v
-set_here s conn Proc n v = inserted_tied nat_list_cmp_total s.process n v n (name_tied n)
-set_here s conn Sess n v = inserted_tied session_total s.sessions (conn, n) v (conn, n) (session_tied (conn, n))
-set_here s conn Txn n v = inserted_tied nat_list_cmp_total s.transaction n v n (name_tied n)
-set_here s conn Req n v = inserted_tied nat_list_cmp_total s.request n v n (name_tied n)
-set_here s conn Res n v = inserted_tied nat_list_cmp_total s.response n v n (name_tied n)
+pub unset_here : (vars : Scopes) (conn : ℕ) (name : VarName) → var_of (without_var vars conn name) conn name ≡ None
+unset_here vars conn name =
+    removed_tied key_total vars (key_of conn name) (key_of conn name) (key_tied (key_of conn name))
 
-pub set_elsewhere : (s : Scopes) (conn : ℕ) (scope : Scope) (n : List ℕ) (v : Value) (c : ℕ) (other : Scope) (q : List ℕ) → ¬ ((scope ≡ other) × (n ≡ q) × (owner_of conn scope ≡ owner_of c other)) → var_in (with_var_in s conn scope n v) c other q ≡ var_in s c other q
-set_elsewhere s conn Proc n v c Proc q differ =
-    inserted_apart nat_list_cmp_total s.process n v q (names_apart n q (λ e. differ (refl, e, refl)))
-set_elsewhere s conn Sess n v c Sess q differ =
-    inserted_apart session_total s.sessions (conn, n) v (c, q) (session_apart n q conn c (λ e. differ (refl, e.0, ap Some e.1)))
-set_elsewhere s conn Txn n v c Txn q differ =
-    inserted_apart nat_list_cmp_total s.transaction n v q (names_apart n q (λ e. differ (refl, e, refl)))
-set_elsewhere s conn Req n v c Req q differ =
-    inserted_apart nat_list_cmp_total s.request n v q (names_apart n q (λ e. differ (refl, e, refl)))
-set_elsewhere s conn Res n v c Res q differ =
-    inserted_apart nat_list_cmp_total s.response n v q (names_apart n q (λ e. differ (refl, e, refl)))
-set_elsewhere s conn _ n v c _ q differ = refl
+pub unset_elsewhere : (vars : Scopes) (conn : ℕ) (name : VarName) (c : ℕ) (n : VarName) → ¬ (IsSameVar conn name c n) → var_of (without_var vars conn name) c n ≡ var_of vars c n
+unset_elsewhere vars conn name c n differ =
+    removed_apart key_total vars (key_of conn name) (key_of c n) (keys_apart conn name c n differ)
 
-pub unset_here : (s : Scopes) (conn : ℕ) (scope : Scope) (n : List ℕ) → var_in (without_var_in s conn scope n) conn scope n ≡ None
-unset_here s conn Proc n = removed_tied nat_list_cmp_total s.process n n (name_tied n)
-unset_here s conn Sess n = removed_tied session_total s.sessions (conn, n) (conn, n) (session_tied (conn, n))
-unset_here s conn Txn n = removed_tied nat_list_cmp_total s.transaction n n (name_tied n)
-unset_here s conn Req n = removed_tied nat_list_cmp_total s.request n n (name_tied n)
-unset_here s conn Res n = removed_tied nat_list_cmp_total s.response n n (name_tied n)
+turned : {X : Type 0} (b : Bool) (x y : X) → cond (not b) x y ≡ cond b y x
+turned true x y = refl
+turned false x y = refl
 
-pub unset_elsewhere : (s : Scopes) (conn : ℕ) (scope : Scope) (n : List ℕ) (c : ℕ) (other : Scope) (q : List ℕ) → ¬ ((scope ≡ other) × (n ≡ q) × (owner_of conn scope ≡ owner_of c other)) → var_in (without_var_in s conn scope n) c other q ≡ var_in s c other q
-unset_elsewhere s conn Proc n c Proc q differ =
-    removed_apart nat_list_cmp_total s.process n q (names_apart n q (λ e. differ (refl, e, refl)))
-unset_elsewhere s conn Sess n c Sess q differ =
-    removed_apart session_total s.sessions (conn, n) (c, q) (session_apart n q conn c (λ e. differ (refl, e.0, ap Some e.1)))
-unset_elsewhere s conn Txn n c Txn q differ =
-    removed_apart nat_list_cmp_total s.transaction n q (names_apart n q (λ e. differ (refl, e, refl)))
-unset_elsewhere s conn Req n c Req q differ =
-    removed_apart nat_list_cmp_total s.request n q (names_apart n q (λ e. differ (refl, e, refl)))
-unset_elsewhere s conn Res n c Res q differ =
-    removed_apart nat_list_cmp_total s.response n q (names_apart n q (λ e. differ (refl, e, refl)))
-unset_elsewhere s conn _ n c _ q differ = refl
+pub request_ended : (vars : Scopes) (conn : ℕ) (name : VarName) → var_of (after_request vars) conn name ≡ (if ends_with_request name.scope then None else var_of vars conn name)
+request_ended vars conn name =
+    get-kept vars (λ key. not (ends_with_request key.1.scope)) (key_of conn name)
+    ∙ turned (ends_with_request name.scope) (var_of vars conn name) None
 
-pub request_ended : (s : Scopes) (conn : ℕ) (scope : Scope) (n : List ℕ) → var_in (after_request s) conn scope n ≡ (if ends_with_request scope then None else var_in s conn scope n)
-request_ended s conn Proc n = refl
-request_ended s conn Sess n = refl
-request_ended s conn Txn n = get-empty (slice_cmp nat_cmp) n
-request_ended s conn Req n = get-empty (slice_cmp nat_cmp) n
-request_ended s conn Res n = get-empty (slice_cmp nat_cmp) n
+-- what is got after a session ended, by what owns the variable
+after : (vars : Scopes) (conn c : ℕ) (n : VarName) (ends : Bool) → option_eq nat_eq (owner_of c n.scope) (Some conn) ≡ ends → var_of (after_session vars conn) c n ≡ cond (not ends) (var_of vars c n) None
+after vars conn c n ends is =
+    get-kept vars (λ key. not (option_eq nat_eq key.0 (Some conn))) (key_of c n)
+    ∙ ap (λ b. cond (not b) (var_of vars c n) None) is
 
-pub session_ended : (s : Scopes) (conn c : ℕ) (scope : Scope) (n : List ℕ) → owner_of c scope ≡ Some conn → var_in (after_session s conn) c scope n ≡ None
-session_ended s conn c Sess n owns =
-    let same : c ≡ conn = cc in
-    session_gone s.sessions conn c n same
-session_ended s conn c _ n owns = cc
+pub session_ended : (vars : Scopes) (conn c : ℕ) (n : VarName) → owner_of c n.scope ≡ Some conn → var_of (after_session vars conn) c n ≡ None
+session_ended vars conn c n owns =
+    after vars conn c n true (ap (λ o. option_eq nat_eq o (Some conn)) owns ∙ nat_eq_equiv.refl conn)
 
-pub other_session_stays : (s : Scopes) (conn c : ℕ) (scope : Scope) (n : List ℕ) → ¬ (owner_of c scope ≡ Some conn) → var_in (after_session s conn) c scope n ≡ var_in s c scope n
-other_session_stays s conn c Sess n other =
-    session_stays s.sessions conn c n (λ same. other (ap Some same))
-other_session_stays s conn c _ n other = refl
+other_owner : (o : Option ℕ) (conn : ℕ) → ¬ (o ≡ Some conn) → option_eq nat_eq o (Some conn) ≡ false
+other_owner None conn other = refl
+other_owner (Some c) conn other =
+    not_true (nat_eq c conn) (λ e. other (ap Some (exact_unsigned_eq c conn e)))
+
+pub other_session_stays : (vars : Scopes) (conn c : ℕ) (n : VarName) → ¬ (owner_of c n.scope ≡ Some conn) → var_of (after_session vars conn) c n ≡ var_of vars c n
+other_session_stays vars conn c n other =
+    after vars conn c n false (other_owner (owner_of c n.scope) conn other)

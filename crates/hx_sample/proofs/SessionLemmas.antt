@@ -14,8 +14,7 @@ use Rattle.std.specs.FinMap.{find, get-empty, get-entries, get-insert, get-remov
 use Rattle.std.specs.Map.{lookup}
 use Rattle.std.specs.Ordering.{nat_cmp, is_eq, ordering_then}
 use Rattle.hx_sample.specs.declared.sample.Value.{Value}
-use Rattle.hx_sample.specs.Stored.{with_names, session_vars}
-use Rattle.hx_sample.specs.Vars.{ByName, BySession, SessionVar, session_cmp, without_session}
+use Rattle.hx_sample.specs.Stored.{ByName, BySession, SessionVar, session_cmp, session_vars, with_names, without_session}
 use Rattle.hx_sample.proofs.MapLemmas.{chosen_where_tied, passed_where_apart, tied_or_apart, inserted_apart, removed_tied, removed_apart}
 
 -- the order of sessions' variables
@@ -23,7 +22,7 @@ pub session_total : IsTotalOrder session_cmp
 session_total =
     then_total (on_total (λ (var : SessionVar). var.0) nat_cmp_total) (on_total (λ (var : SessionVar). var.1) nat_list_cmp_total)
 
-both_tied : (r s : Ordering) → ordering_then r s ≡ Equal → (r ≡ Equal) × (s ≡ Equal)
+pub both_tied : (r s : Ordering) → ordering_then r s ≡ Equal → (r ≡ Equal) × (s ≡ Equal)
 both_tied Less s h = cc
 both_tied Equal s h = (refl, h)
 both_tied Greater s h = cc
@@ -43,11 +42,11 @@ pub vars_apart : (q conn : ℕ) (x name : List ℕ) → ¬ (q ≡ conn) → ¬ (
 vars_apart q conn x name differ tied = differ (ap (λ var. var.0) (exact_session (q, x) (conn, name) tied))
 
 -- what stays where a session is taken out
-not_true : (b : Bool) → ¬ (b ≡ true) → b ≡ false
+pub not_true : (b : Bool) → ¬ (b ≡ true) → b ≡ false
 not_true true differs = absurd (differs refl)
 not_true false differs = refl
 
-get-without_session : (s : BySession) (conn q : ℕ) (n : List ℕ) → map.get (without_session s conn) (q, n) ≡ cond (not (q == conn)) (map.get s (q, n)) None
+pub get-without_session : (s : BySession) (conn q : ℕ) (n : List ℕ) → map.get (without_session s conn) (q, n) ≡ cond (not (q == conn)) (map.get s (q, n)) None
 get-without_session s conn q n =
     get-retain_keys s (λ var. not (var.0 == conn)) (q, n) (λ x tied. ap (λ var. not (var.0 == conn)) (sym (exact_session (q, n) x tied)))
 
@@ -65,16 +64,16 @@ session_stays s conn q n other =
 abbrev at_name : List ℕ → Option ByName → Option Value
 at_name n o = option_and_then (λ names. map.get names n) o
 
-or_else : Option Value → Option Value → Option Value
+unfoldable pub or_else : Option Value → Option Value → Option Value
 or_else None other = other
 or_else (Some value) other = Some value
 
-or_else-none : (o : Option Value) → or_else o None ≡ o
+pub or_else-none : (o : Option Value) → or_else o None ≡ o
 unfolding or_else
 or_else-none None = refl
 or_else-none (Some value) = refl
 
-or_else-cond : (b : Bool) (value : Value) (o other : Option Value) → cond b (Some value) (or_else o other) ≡ or_else (cond b (Some value) o) other
+pub or_else-cond : (b : Bool) (value : Value) (o other : Option Value) → cond b (Some value) (or_else o other) ≡ or_else (cond b (Some value) o) other
 unfolding or_else
 or_else-cond true value o other = refl
 or_else-cond false value o other = refl

@@ -1,6 +1,6 @@
 -- Which entry of a list is found for a value (HAProxy configuration manual 2.4, sections 7.1 and
 -- 7.3.1, `map`).
-use Rattle.std.specs.Prelude.{ℕ, max, ◌==◌, Bool, false, List, [], ◌∷◌, length, Option, None, Some}
+use Rattle.std.specs.Prelude.{ℕ, max, ◌==◌, Bool, false, List, [], ◌∷◌, length, slice_get, Option}
 use Rattle.std.specs.List.{filter}
 use Rattle.std.specs.Option.{option_map_or}
 use Rattle.hx_text.specs.declared.address.Ip.{Ip}
@@ -22,8 +22,7 @@ pub record Entry : Type 0 where
 
 -- the first item, if there is one
 abbrev pub first_item : {A : Type 0} → List A → Option A
-first_item [] = None
-first_item (x ∷ xs) = Some x
+first_item xs = slice_get xs 0
 
 -- the greatest measure of the items, and 0 where there is none
 abbrev pub greatest : {A : Type 0} → (A → ℕ) → List A → ℕ

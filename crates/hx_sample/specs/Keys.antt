@@ -1,13 +1,13 @@
 -- What a key hits: a text that is read as a pattern of a match method, and the values that it hits
 -- (HAProxy configuration manual 2.4, section 7.1).
-use Rattle.std.specs.Prelude.{◌≡◌, ℕ, ◌-◌, ◌&&◌, ◌||◌, ◌==◌, ℤ, pos, int_le, bit_and, Bool, true, false, List, [], ◌∷◌, length, take, drop, Option, None, Some, is_some, option_map, if◌then◌else◌, nat_eq, ⊤}
+use Rattle.std.specs.Prelude.{◌≡◌, ℕ, ◌-◌, ◌&&◌, ◌||◌, ◌==◌, ℤ, pos, int_le, bit_and, Bool, true, false, List, [], ◌∷◌, length, take, drop, Option, None, Some, is_some, option_map, slice_get, if◌then◌else◌, nat_eq, ⊤}
 use Rattle.std.specs.List.{starts_with, ends_with, list_any, prefix_len, suffix_len}
 use Rattle.std.specs.Result.{result_ok}
-use Rattle.std.specs.Option.{option_map_or}
+use Rattle.std.specs.Option.{option_map_or, option_zip, unwrap_or}
 use Rattle.std.specs.Str.{bytes_eq, is_utf8, str_to_ascii_lowercase}
 use Rattle.hex.specs.Hex.{decode_of}
 use Rattle.regex.specs.Patterns.{Re, find}
-use Rattle.hx_base.specs.Bytes.{slash, question_mark, full_stop, colon}
+use Rattle.hx_base.specs.Bytes.{ascii}
 use Rattle.hx_outside.specs.Expressions.{expression}
 use Rattle.hx_text.specs.declared.address.Ip.{Ip}
 use Rattle.hx_text.specs.declared.address.Ip.TheVariants.{V4, V6}
@@ -18,21 +18,13 @@ use Rattle.hx_text.specs.declared.kinds.Kind.TheVariants as kind
 use Rattle.hx_text.specs.declared.network.Net.{Net}
 use Rattle.hx_text.specs.declared.network.Net.TheVariants.{Plain, Masked}
 use Rattle.hx_text.specs.Cut.{cut_of}
+pub use Rattle.hx_text.specs.Methods.{kind_by}
 use Rattle.hx_text.specs.Mapping.{mapped_address, ipv4_of}
 use Rattle.hx_text.specs.Network.{prefix_bits, net_of}
 use Rattle.hx_text.specs.Number.{int_of}
 use Rattle.hx_sample.specs.declared.sample.Value.{Value}
 use Rattle.hx_sample.specs.declared.sample.Value.TheVariants as value
 use Rattle.hx_sample.specs.Cast.{kind_of}
-
--- the kind of the values that a method looks at
-abbrev pub kind_by : By → Kind
-kind_by by.Found = kind.Any
-kind_by by.Bool = kind.Bool
-kind_by by.Int = kind.Int
-kind_by by.Ip = kind.Ip
-kind_by by.Bin = kind.Bin
-kind_by _ = kind.Str
 
 -- the value is of the kind, where that isn't any
 abbrev pub IsOfKind : Kind → Value → Type 0
@@ -41,37 +33,28 @@ IsOfKind k v = kind_of v ≡ k
 
 -- ---- numbers
 
--- the numbers from the one to the other; without a bound, all on that side
-pub record Range : Type 0 where
-  pub least : Option ℤ
-  pub greatest : Option ℤ
+-- the least and the greatest number of a range; without the one, all on that side
+abbrev pub Range : Type 0
+Range = Option ℤ × Option ℤ
 
 -- whether the number is in the range
 abbrev pub is_within : Range → ℤ → Bool
-is_within range n =
-    option_map_or (λ least. int_le least n) range.least true
-    && option_map_or (λ greatest. int_le n greatest) range.greatest true
+is_within (least, greatest) n =
+    option_map_or (λ low. int_le low n) least true && option_map_or (int_le n) greatest true
 
 -- a bound as it is written: a number, or nothing for no bound; none for any other text
 abbrev pub bound_of : List ℕ → Option (Option ℤ)
 bound_of [] = Some None
 bound_of text = option_map Some (int_of text)
 
--- the range between two bounds, if both are read
-abbrev pub range_between : Option (Option ℤ) → Option (Option ℤ) → Option Range
-range_between (Some least) (Some greatest) = Some (record { least = least; greatest = greatest })
-range_between _ _ = None
+-- the range between two bounds as they are written, of which one at least is there
+abbrev pub range_between : List ℕ × List ℕ → Option Range
+range_between ([], []) = None
+range_between (least, greatest) = option_zip (bound_of least) (bound_of greatest)
 
--- the range of a text that is cut at its first colon, if it has one
-abbrev pub range_of_cut : List ℕ → Option (List ℕ × List ℕ) → Option Range
-range_of_cut text None =
-    option_map (λ n. record { least = Some n; greatest = Some n }) (int_of text)
-range_of_cut text (Some ([], [])) = None
-range_of_cut text (Some (least, greatest)) = range_between (bound_of least) (bound_of greatest)
-
--- the range that a text writes: `N`, `N:M`, `N:` or `:M`
+-- the range that a text writes: `N:M`, `N:` or `:M`, and `N`, which is both bounds
 abbrev pub range_of : List ℕ → Option Range
-range_of text = range_of_cut text (cut_of colon text)
+range_of text = range_between (unwrap_or (cut_of (ascii ":") text) (text, text))
 
 -- whether the number is in the range that the key writes
 abbrev pub is_in_range : List ℕ → ℤ → Bool
@@ -103,22 +86,18 @@ is_in_network key ip = option_map_or (λ net. has_address net ip) (net_of key) f
 
 -- ---- texts
 
--- the suffixes of a text, the longest first; the text and the empty text are among them
-abbrev pub suffixes : List ℕ → List (List ℕ)
-suffixes [] = [] ∷ []
-suffixes (b ∷ text) = (b ∷ text) ∷ suffixes text
-
 -- whether the key stands somewhere in the text
 abbrev pub is_part : List ℕ → List ℕ → Bool
-is_part key text = list_any (λ rest. starts_with nat_eq rest key) (suffixes text)
+is_part key [] = starts_with nat_eq [] key
+is_part key (b ∷ text) = starts_with nat_eq (b ∷ text) key || is_part key text
 
 -- the bytes that part the components of a path
 abbrev pub parts_path : ℕ → Bool
-parts_path b = b == slash || b == question_mark
+parts_path b = b == ascii "/" || b == ascii "?"
 
 -- the bytes that part the labels of a host's name, and the name from what stands around it
 abbrev pub parts_domain : ℕ → Bool
-parts_domain b = parts_path b || b == full_stop || b == colon
+parts_domain b = parts_path b || b == ascii "." || b == ascii ":"
 
 -- the text without the delimiters at its ends
 abbrev pub trimmed : (ℕ → Bool) → List ℕ → List ℕ
@@ -134,8 +113,7 @@ rests_after is_delim (b ∷ text) =
 
 -- whether the text is empty or begins with a delimiter
 abbrev pub is_ended : (ℕ → Bool) → List ℕ → Bool
-is_ended is_delim [] = true
-is_ended is_delim (b ∷ text) = is_delim b
+is_ended is_delim text = option_map_or is_delim (slice_get text 0) true
 
 -- whether the part stands somewhere in the text with a delimiter, or an end of the text, on each
 -- side
@@ -167,8 +145,7 @@ folded ci text = if ci then str_to_ascii_lowercase text else text
 
 -- whether the expression matches somewhere in the text
 abbrev pub is_found_in : Option Re → List ℕ → Bool
-is_found_in None text = false
-is_found_in (Some pattern) text = is_some (find pattern text 0)
+is_found_in pattern text = option_map_or (λ re. is_some (find re text 0)) pattern false
 
 -- the regular expression that the key is, and none where it isn't UTF-8
 abbrev pub key_expression : Bool → List ℕ → Option Re

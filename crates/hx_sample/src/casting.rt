@@ -2,7 +2,8 @@ ghost use Rattle.std.specs.Prelude.{◌≡◌, ◌≢◌, IfOk, IfSome, IsOk, So
 ghost use Rattle.std.specs.Fmt.{signed_decimal};
 ghost use Rattle.hx_text.specs.Address.{ip_text};
 ghost use Rattle.hx_sample.specs.Seen.{bytes_of, value_of, occurrence_value, kept_bytes, IsSameWhereBoth};
-ghost use Rattle.hx_sample.specs.Cast.{cast_of, from_str, is_printed, kind_of};
+ghost use Rattle.hx_sample.specs.Cast.{cast_of, is_printed, kind_of};
+ghost use Rattle.hx_sample.specs.declared.sample.Value.TheVariants as value;
 
 use crate::sample::{Bytes, Sample};
 use hx_text::{Ip, Kind, NoMemory, Octets, print_i64, print_ip, read_i64, read_ip};
@@ -33,7 +34,7 @@ fn address_text(alloc: Global, ip: Ip) -> Result<Octets, NoMemory>
 /// The text as a value of the kind `kind`, or none where it writes none. No bytes are copied, and
 /// no memory is taken.
 pub(crate) fn read_as<'a>(text: Bytes<'a>, kind: Kind) -> Option<Sample<'a>>
-    ensures value { occurrence_value result ≡ from_str (bytes_of text.entry) kind }
+    ensures value { occurrence_value result ≡ cast_of (value.Str (bytes_of text.entry)) kind }
     ensures kept { IfSome result (λ s. IsSameWhereBoth (Some text.entry) (kept_bytes s)) }
 {
     match kind {

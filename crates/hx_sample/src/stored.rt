@@ -1,7 +1,7 @@
 ghost use Rattle.std.specs.Prelude.{◌≡◌, ℕ, List, None, IsTrue, OnOk, OnErr};
 ghost use Rattle.std.specs.FinMap as map;
 ghost use Rattle.std.specs.Option.{option_copied};
-ghost use Rattle.hx_sample.specs.Vars.{without_session};
+ghost use Rattle.hx_sample.specs.Stored.{without_session};
 
 use crate::sample::Value;
 use hx_text::{NoMemory, Octets};
@@ -17,7 +17,7 @@ pub(crate) struct Names {
 
 impl Model for Names {
     ghost use Rattle.std.specs.FinMap as map;
-    ghost use Rattle.hx_sample.specs.Vars.{ByName, by_name_code};
+    ghost use Rattle.hx_sample.specs.Stored.{ByName, by_name_code};
 
     ghost Value = { ByName };
 
@@ -85,8 +85,7 @@ pub(crate) struct Sessions {
 }
 
 impl Model for Sessions {
-    ghost use Rattle.hx_sample.specs.Stored.{session_vars};
-    ghost use Rattle.hx_sample.specs.Vars.{BySession, by_session_code};
+    ghost use Rattle.hx_sample.specs.Stored.{BySession, by_session_code, session_vars};
 
     ghost Value = { BySession };
 

@@ -10,8 +10,8 @@ use std::marker::Model;
 
 /// The variables of the process, of the transaction, the request and the response that are under
 /// way, and of each connection's session (HAProxy configuration manual 2.4, section 7.3.2, `var`).
-/// Contracts see them as finite maps, one for each scope: that of sessions is keyed by connection
-/// and name.
+/// Contracts see them as one finite map, keyed by the connection of a session's variable, if any, and
+/// the name.
 ///
 /// To get, set or unset one costs by the logarithm of their number.
 #[derive(Drop)]
@@ -25,19 +25,20 @@ pub struct Vars {
 }
 
 impl Model for Vars {
+    ghost use Rattle.hx_sample.specs.Stored.{all_vars};
     ghost use Rattle.hx_sample.specs.Vars.{Scopes, scopes_code};
 
     ghost Value = { Scopes };
 
     ghost coded = { scopes_code };
 
-    ghost view = { λ vars. record {
+    ghost view = { λ vars. all_vars (record {
       process = vars.process;
       sessions = vars.sessions;
       transaction = vars.transaction;
       request = vars.request;
       response = vars.response;
-    } };
+    }) };
 }
 
 impl Vars {
