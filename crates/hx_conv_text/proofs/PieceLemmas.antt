@@ -7,8 +7,8 @@ use Rattle.std.proofs.lemmas.List.Splits.{length-slice_split, slice_split_first,
 use Rattle.std.proofs.lemmas.List.Sums.{count_by-le-length, length-filter, prefix_len-le-length}
 use Rattle.std.proofs.Math.ListN.{drop_of_length-le}
 use Rattle.std.proofs.Math.Seq.{drop-drop, take_all}
-use Rattle.hx_conv_text.specs.Pieces.{Span, first_items, is_filled, is_in, last_items, spans_from}
-use Rattle.hx_conv_text.specs.Scanning.{fields_after, pieces_after}
+use Rattle.hx_conv_text.specs.Pieces.{first_items, is_in, last_items, spans_from}
+use Rattle.hx_conv_text.specs.Scanning.{fields_after, is_filled, pieces_after}
 
 module _ (p : ℕ → Bool) where
   split-none : (xs : List ℕ) → length xs ≤ position_or_len p xs → slice_split p xs ≡ xs ∷ []
@@ -144,38 +144,38 @@ length-pieces_after true delims text =
     )
 
 -- lists of which some items are skipped
-pub drop_next : (spans rest : List Span) (span : Span) (i : ℕ) → drop i spans ≡ span ∷ rest → drop (i + 1) spans ≡ rest
+pub drop_next : (spans rest : List (ℕ × ℕ)) (span : (ℕ × ℕ)) (i : ℕ) → drop i spans ≡ span ∷ rest → drop (i + 1) spans ≡ rest
 drop_next spans rest span i e = sym (drop-drop 1 i spans) ∙ ap (drop 1) e
 
-pub drop_later : (spans : List Span) (i n : ℕ) → i ≤ n → drop i spans ≡ [] → drop n spans ≡ []
+pub drop_later : (spans : List (ℕ × ℕ)) (i n : ℕ) → i ≤ n → drop i spans ≡ [] → drop n spans ≡ []
 drop_later spans i n h e =
     let sum : i + (n - i) ≡ n = omega arith in
     ap (λ k. drop k spans) (sym sum) ∙ sym (drop-drop (n - i) i spans) ∙ ap (drop (n - i)) e
     ∙ drop_of_length-le [] (omega arith)
 
-pub take_next : (spans rest : List Span) (span : Span) (n : ℕ) → 0 < n → spans ≡ span ∷ rest
+pub take_next : (spans rest : List (ℕ × ℕ)) (span : (ℕ × ℕ)) (n : ℕ) → 0 < n → spans ≡ span ∷ rest
     → take n spans ≡ span ∷ take (n - 1) rest
 take_next spans rest span n h e =
     let more : n ≡ suc (n - 1) = omega arith in
     ap (take n) e ∙ ap (λ k. take k (span ∷ rest)) more
 
 -- the items up to one, taken from the first of them on
-pub take_last : (spans : List Span) (pieces skipped : ℕ) → skipped ≤ pieces
+pub take_last : (spans : List (ℕ × ℕ)) (pieces skipped : ℕ) → skipped ≤ pieces
     → take (pieces - skipped) (drop skipped spans) ≡ drop skipped (take pieces spans)
 take_last spans pieces skipped h =
     let sum : skipped + (pieces - skipped) ≡ pieces = omega arith in
     sym (drop-take skipped (pieces - skipped) spans) ∙ ap (λ k. drop skipped (take k spans)) sum
 
 -- so many items, or all
-pub first_some : (most : ℕ) (spans : List Span) → ¬ (most ≡ 0) → take most spans ≡ first_items most spans
+pub first_some : (most : ℕ) (spans : List (ℕ × ℕ)) → ¬ (most ≡ 0) → take most spans ≡ first_items most spans
 first_some most spans h = rw (ne_eqb most 0 h) refl
 
-pub first_all : (most size : ℕ) (spans : List Span) → most ≡ 0 → length spans ≤ size → take size spans ≡ first_items most spans
+pub first_all : (most size : ℕ) (spans : List (ℕ × ℕ)) → most ≡ 0 → length spans ≤ size → take size spans ≡ first_items most spans
 first_all most size spans e h = rw e (take_all size spans h)
 
-pub last_all : (most skipped : ℕ) (spans : List Span) → most ≡ 0 → skipped ≡ 0 → drop skipped spans ≡ last_items most spans
+pub last_all : (most skipped : ℕ) (spans : List (ℕ × ℕ)) → most ≡ 0 → skipped ≡ 0 → drop skipped spans ≡ last_items most spans
 last_all most skipped spans e f = rw (e, f) refl
 
-pub last_some : (most skipped : ℕ) (spans : List Span) → ¬ (most ≡ 0) → skipped ≡ length spans - most
+pub last_some : (most skipped : ℕ) (spans : List (ℕ × ℕ)) → ¬ (most ≡ 0) → skipped ≡ length spans - most
     → drop skipped spans ≡ last_items most spans
 last_some most skipped spans h e = rw (ne_eqb most 0 h, e) refl

@@ -1,6 +1,6 @@
 -- What replaces the matches of an expression, and that expressions which match the same are
 -- replaced the same.
-use Rattle.std.proofs.Common.{◌≡◌, ℕ, zero, suc, ◌+◌, ◌*◌, ◌<◌, ◌≤◌, ◌==◌, ◌⊎◌, Bool, true, false, List, [], ◌∷◌, ◌++◌, map, get_or, drop, take, length, Option, Some, None, option_map, refl, sym, ap, ap₂, ◌∙◌, inl, inr, arith, append_assoc, slice_range, if◌then◌else◌}
+use Rattle.std.proofs.Common.{◌≡◌, ℕ, zero, suc, ◌+◌, ◌-◌, ◌*◌, ◌<◌, ◌≤◌, ◌==◌, ◌⊎◌, Bool, true, false, List, [], ◌∷◌, ◌++◌, map, get_or, drop, take, length, Option, Some, None, option_map, refl, sym, ap, ap₂, ◌∙◌, inl, inr, arith, append_assoc, slice_range, if◌then◌else◌}
 use Rattle.std.proofs.lemmas.Bool.{ne_eqb}
 use Rattle.std.proofs.lemmas.List.{drop_more, get_or_default}
 use Rattle.std.proofs.lemmas.Option.{same_Some}
@@ -14,9 +14,10 @@ use Rattle.regex.specs.declared.bytes.captures.Captures.{Captures}
 use Rattle.regex.specs.declared.bytes.regex.Regex.{Regex}
 use Rattle.regex.proofs.ForCallers.{find_all_alike, spans}
 use Rattle.regex_syntax.proofs.CapturesLemmas.{find_alike}
-use Rattle.hx_outside.specs.Expressions.{IsExpression}
+use Rattle.std.specs.Option.{option_to_list}
+use Rattle.hx_outside.specs.Expressions.{expression, IsExpression}
 use Rattle.hx_conv_text.specs.Captured.{captured}
-use Rattle.hx_conv_text.specs.Substitution.{expanded_of, expansion, expansion_at, regsub_of, substituted_text, with_replaced}
+use Rattle.hx_conv_text.specs.Substitution.{expanded_of, expansion, expansion_at, substituted_text}
 
 plain : (group : ℕ → List ℕ) (b : ℕ) (rest : List ℕ) → (b ≡ 92 → ⊥) ⊎ (rest ≡ [])
     → expansion group (b ∷ rest) ≡ b ∷ expansion group rest
@@ -64,10 +65,6 @@ expansion_seen : List ℕ → List ℕ → Seen → List ℕ
 expansion_seen sub input s =
     expansion (λ n. bytes_of input (if n == 0 then Some (s.0, s.1) else both (s.2 (2 * n)) (s.2 (2 * n + 1)))) sub
 
-replaced_seen : List ℕ → List ℕ → Option Seen → List ℕ
-replaced_seen sub input None = input
-replaced_seen sub input (Some s) = take s.0 input ++ expansion_seen sub input s ++ drop s.1 input
-
 expansion_at-seen : (sub input : List ℕ) (m : Match) → expansion_at sub input m ≡ expansion_seen sub input (spans m)
 unfolding expansion_seen
 expansion_at-seen sub input m = refl
@@ -76,13 +73,6 @@ expanded-seen : (sub input : List ℕ) (o : Option Match)
     → option_map (expansion_at sub input) o ≡ option_map (expansion_seen sub input) (option_map spans o)
 expanded-seen sub input None = refl
 expanded-seen sub input (Some m) = ap Some (expansion_at-seen sub input m)
-
-replaced-seen : (sub input : List ℕ) (o : Option Match)
-    → with_replaced (expansion_at sub input) input o ≡ replaced_seen sub input (option_map spans o)
-unfolding replaced_seen
-replaced-seen sub input None = refl
-replaced-seen sub input (Some m) =
-    ap (λ written. take m.start input ++ written ++ drop m.trace.end input) (expansion_at-seen sub input m)
 
 all_alike : (sub input : List ℕ) (at : ℕ) (xs ys : List Match) → map spans xs ≡ map spans ys
     → replaced_by (expansion_at sub input) input at xs ≡ replaced_by (expansion_at sub input) input at ys
@@ -99,6 +89,14 @@ all_alike sub input at (x ∷ xs) (y ∷ ys) e =
     (all_alike sub input x.trace.end xs ys tail
     ∙ ap (λ (s : Seen). replaced_by (expansion_at sub input) input s.1 ys) head)
 
+-- the spans of the match alone, if there is one
+spans_alone : (o p : Option Match) → option_map spans o ≡ option_map spans p
+    → map spans (option_to_list o) ≡ map spans (option_to_list p)
+spans_alone None None e = refl
+spans_alone None (Some y) e = absurd cc
+spans_alone (Some x) None e = absurd cc
+spans_alone (Some x) (Some y) e = cc
+
 module _ {a b : Re} (same : SameCaptures a b) (input : List ℕ) (bytes : (k : ℕ) → get_or input k 0 < 256) where
   leftmost : option_map spans (find a input 0) ≡ option_map spans (find b input 0)
   leftmost = find_alike a b same input (λ k d h. rw (get_or_default input k d 0 h) (bytes k)) 0
@@ -112,8 +110,8 @@ module _ {a b : Re} (same : SameCaptures a b) (input : List ℕ) (bytes : (k : �
   pub substituted_alike : (sub : List ℕ) (each : Bool) → substituted_text a sub each input ≡ substituted_text b sub each input
   substituted_alike sub true = all_alike sub input 0 (find_all a input) (find_all b input) (find_all_alike same input bytes false)
   substituted_alike sub false =
-      replaced-seen sub input (find a input 0) ∙ ap (replaced_seen sub input) leftmost
-      ∙ sym (replaced-seen sub input (find b input 0))
+      all_alike sub input 0 (option_to_list (find a input 0)) (option_to_list (find b input 0))
+      (spans_alone (find a input 0) (find b input 0) leftmost)
 
 -- an expression that was made of a text replaces as that of the text
 pub expanded_is : (ci : Bool) (text sub input : List ℕ) (re : Regex) → ((k : ℕ) → get_or input k 0 < 256)
@@ -123,7 +121,8 @@ expanded_is ci text sub input re bytes is = rw is.is (expanded_alike is.same inp
 
 pub substituted_is : (ci : Bool) (text sub : List ℕ) (each : Bool) (input : List ℕ) (re : Regex)
     → ((k : ℕ) → get_or input k 0 < 256) → IsExpression ci text re
-    → Some (substituted_text (regex_pattern re) sub each input) ≡ regsub_of ci text sub each input
+    → Some (substituted_text (regex_pattern re) sub each input)
+    ≡ option_map (λ pattern. substituted_text pattern sub each input) (expression ci text)
 substituted_is ci text sub each input re bytes is =
     rw is.is (ap Some (substituted_alike is.same input bytes sub each))
 
@@ -140,7 +139,16 @@ pub whole_span : (input : List ℕ) (m : Match) (c : Captures) (s : ℕ × ℕ) 
 unfolding group_span
 whole_span input m c s h e = same_Some _ _ e ∙ h.1.whole_is
 
+-- nothing is replaced where nothing matches
+pub none_made : (written : Match → List ℕ) (input : List ℕ) → input ≡ replaced_by written input 0 []
+unfolding replaced_by
+none_made written input = refl
+
+-- the leftmost match alone is replaced
 pub first_made : (sub input replacement : List ℕ) (m : Match) (s : ℕ × ℕ) → s ≡ span m → replacement ≡ expansion_at sub input m
-    → take s.0 input ++ replacement ++ drop s.1 input ≡ with_replaced (expansion_at sub input) input (Some m)
+    → take s.0 input ++ replacement ++ drop s.1 input ≡ replaced_by (expansion_at sub input) input 0 (m ∷ [])
+unfolding replaced_by
 first_made sub input replacement m s e f =
+    let start : m.start ≡ m.start - 0 = omega arith in
     ap₂ (λ (w : List ℕ) (t : ℕ × ℕ). take t.0 input ++ w ++ drop t.1 input) f e
+    ∙ ap (λ n. take n input ++ expansion_at sub input m ++ drop m.trace.end input) start

@@ -1,12 +1,14 @@
 -- How the code keeps a converter that was built: by how its value comes about.
-use Rattle.std.specs.Prelude.{ℕ, List, Option, Some, ⊤}
+use Rattle.std.specs.Prelude.{ℕ, ◌-◌, List, [], ◌∷◌, length, drop, take, Option, Some, ⊤}
+use Rattle.std.specs.List.{before_first, prefix_len, suffix_len}
+use Rattle.hx_base.specs.Bytes.{ascii}
 use Rattle.hx_ast.specs.declared.conv.Conv.{Conv}
 use Rattle.hx_ast.specs.declared.conv.Conv.TheVariants as conv
 use Rattle.hx_outside.specs.Expressions.{IsExpression}
 use Rattle.hx_sample.specs.declared.sample.Value.{Value}
 use Rattle.hx_sample.specs.declared.sample.Value.TheVariants as value
-use Rattle.hx_conv_text.specs.Pieces.{field_part_of, word_part_of}
-use Rattle.hx_conv_text.specs.Texts.{byte_part_of, cut_crlf_of, ltrim_of, rtrim_of}
+use Rattle.hx_conv_text.specs.Pieces.{field_spans, is_in, items_at, text_across, word_spans}
+use Rattle.hx_conv_text.specs.Texts.{at_most, natural}
 use Rattle.hx_conv_text.specs.declared.built.Built.{Built}
 use Rattle.hx_conv_text.specs.declared.built.Built.TheVariants as built
 use Rattle.hx_conv_text.specs.declared.built.Made.{Made}
@@ -24,12 +26,15 @@ conv_of_part part.CutCrlf = conv.CutCrlf
 
 -- the part of the bytes that such a converter gives
 abbrev pub part_of : Part → List ℕ → Option (List ℕ)
-part_of (part.Field index delims count) text = field_part_of index delims count text
-part_of (part.Word index delims count) text = word_part_of index delims count text
-part_of (part.Bytes offset len) bytes = Some (byte_part_of offset len bytes)
-part_of (part.Ltrim chars) text = Some (ltrim_of chars text)
-part_of (part.Rtrim chars) text = Some (rtrim_of chars text)
-part_of part.CutCrlf text = Some (cut_crlf_of text)
+part_of (part.Field index delims count) text =
+    text_across text (items_at index count (field_spans delims text))
+part_of (part.Word index delims count) text =
+    text_across text (items_at index count (word_spans delims text))
+part_of (part.Bytes offset len) bytes = Some (at_most len (drop (natural offset) bytes))
+part_of (part.Ltrim chars) text = Some (drop (prefix_len (is_in chars) text) text)
+part_of (part.Rtrim chars) text =
+    Some (take (length text - suffix_len (is_in chars) text) text)
+part_of part.CutCrlf text = Some (before_first (is_in (ascii "\r" ∷ ascii "\n" ∷ [])) text)
 
 -- the part as a value
 abbrev pub part_value : Part → List ℕ → Value

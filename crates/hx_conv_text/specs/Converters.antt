@@ -1,9 +1,12 @@
 -- What each converter of texts makes of a value (HAProxy configuration manual 2.4, section 7.3.1).
-use Rattle.std.specs.Prelude.{ℕ, Bool, true, false, ℤ, pos, List, length, map, Option, Some, None, option_map, option_and_then}
+use Rattle.std.specs.Prelude.{ℕ, ◌-◌, Bool, true, false, pos, List, [], ◌∷◌, ◌++◌, length, map, drop, take, Option, Some, None, is_some, option_map, option_and_then, unwrap_or}
 use Rattle.std.specs.Char.{to_ascii_lowercase, to_ascii_uppercase}
 use Rattle.std.specs.Cmp.Lexicographic.{slice_cmp}
+use Rattle.std.specs.List.{before_first, prefix_len, suffix_len}
 use Rattle.std.specs.Option.{option_map_or}
 use Rattle.std.specs.Ordering.{nat_cmp}
+use Rattle.hx_base.specs.Bytes.{ascii}
+use Rattle.hx_ast.specs.Types.{input_kind}
 use Rattle.hx_ast.specs.declared.conv.Conv.{Conv}
 use Rattle.hx_ast.specs.declared.conv.Conv.TheVariants as conv
 use Rattle.hx_text.specs.declared.kinds.Kind.{Kind}
@@ -17,27 +20,57 @@ use Rattle.hx_sample.specs.declared.sample.Bytes.TheVariants.{Lent, Own}
 use Rattle.hx_sample.specs.declared.sample.Sample.{Sample}
 use Rattle.hx_sample.specs.declared.sample.Value.{Value}
 use Rattle.hx_sample.specs.declared.sample.Value.TheVariants as value
-use Rattle.hx_conv_text.specs.Pieces.{field_part_of, word_part_of}
-use Rattle.hx_conv_text.specs.Substitution.{regsub_of}
-use Rattle.hx_conv_text.specs.Texts.{byte_part_of, concat_of, cut_crlf_of, ltrim_of, rtrim_of, sign_of}
+use Rattle.hx_outside.specs.Expressions.{expression}
+use Rattle.hx_conv_text.specs.Pieces.{field_spans, is_in, items_at, text_across, word_spans}
+use Rattle.hx_conv_text.specs.Substitution.{substituted_text}
+use Rattle.hx_conv_text.specs.Texts.{at_most, natural, sign_of}
 use Rattle.hx_conv_text.specs.UrlDecoding.{url_dec_of}
+
+-- What a converter of texts does: it makes a value, or none where it fails, of the bytes of its
+-- input, and looks up the texts of variables.
+abbrev pub Conversion : Type 0
+Conversion = (VarName → Option (List ℕ)) → List ℕ → Option Value
+
+-- what makes a text, or none, of the bytes alone
+abbrev pub to_text : (List ℕ → Option (List ℕ)) → Option Conversion
+to_text f = Some (λ lookup text. option_map value.Str (f text))
+
+-- What each converter of texts does; none of another converter. `bytes` gives the bytes from an
+-- offset on, at most so many. `ltrim` and `rtrim` leave out the first and the last bytes, as long
+-- as they are some of these, and `cut_crlf` all from the first carriage return or line feed on.
+-- `concat` puts the text, START, the text of the variable and END in a row, each if it is there.
+-- `strcmp` has no value where its variable is unset.
+abbrev pub conversion_of : Conv → Option Conversion
+conversion_of conv.Lower = to_text (λ text. Some (map to_ascii_lowercase text))
+conversion_of conv.Upper = to_text (λ text. Some (map to_ascii_uppercase text))
+conversion_of conv.Length = Some (λ lookup text. Some (value.Int (pos (length text))))
+conversion_of (conv.Field index delims count) =
+    to_text (λ text. text_across text (items_at index count (field_spans delims text)))
+conversion_of (conv.Word index delims count) =
+    to_text (λ text. text_across text (items_at index count (word_spans delims text)))
+conversion_of (conv.Bytes offset len) =
+    Some (λ lookup bytes. Some (value.Bin (at_most len (drop (natural offset) bytes))))
+conversion_of (conv.Ltrim chars) =
+    to_text (λ text. Some (drop (prefix_len (is_in chars) text) text))
+conversion_of (conv.Rtrim chars) =
+    to_text (λ text. Some (take (length text - suffix_len (is_in chars) text) text))
+conversion_of conv.CutCrlf =
+    to_text (λ text. Some (before_first (is_in (ascii "\r" ∷ ascii "\n" ∷ [])) text))
+conversion_of (conv.Concat start name end) =
+    Some (λ lookup text.
+    let middle = unwrap_or (option_and_then lookup name) [] in
+    Some (value.Str (text ++ unwrap_or start [] ++ middle ++ unwrap_or end [])))
+conversion_of (conv.Strcmp name) =
+    Some (λ lookup text.
+    option_map (λ other. value.Int (sign_of (slice_cmp nat_cmp text other))) (lookup name))
+conversion_of (conv.Regsub pattern sub each ci) =
+    to_text (λ text. option_map (λ re. substituted_text re sub each text) (expression ci pattern))
+conversion_of (conv.UrlDec form) = to_text (url_dec_of form)
+conversion_of _ = None
 
 -- the converter is one of texts
 abbrev pub is_text_conv : Conv → Bool
-is_text_conv conv.Lower = true
-is_text_conv conv.Upper = true
-is_text_conv conv.Length = true
-is_text_conv (conv.Field index delims count) = true
-is_text_conv (conv.Word index delims count) = true
-is_text_conv (conv.Bytes offset len) = true
-is_text_conv (conv.Ltrim chars) = true
-is_text_conv (conv.Rtrim chars) = true
-is_text_conv conv.CutCrlf = true
-is_text_conv (conv.Concat start name end) = true
-is_text_conv (conv.Strcmp name) = true
-is_text_conv (conv.Regsub text sub each ci) = true
-is_text_conv (conv.UrlDec form) = true
-is_text_conv _ = false
+is_text_conv conv = is_some (conversion_of conv)
 
 -- the bytes of a string, a binary or a method
 abbrev pub content_of : Value → Option (List ℕ)
@@ -54,43 +87,16 @@ cast_content kind input = option_and_then content_of (cast_of input kind)
 abbrev pub var_text : Scopes → ℕ → VarName → Option (List ℕ)
 var_text vars conn name = option_and_then (cast_content kind.Str) (var_of vars conn name)
 
--- the kind to which a converter of texts casts its input
-abbrev pub text_input_kind : Conv → Kind
-text_input_kind (conv.Bytes offset len) = kind.Bin
-text_input_kind _ = kind.Str
-
--- how a text compares with another, if there is one
-abbrev pub strcmp_of : Option (List ℕ) → List ℕ → Option ℤ
-strcmp_of other text = option_map (λ o. sign_of (slice_cmp nat_cmp text o)) other
-
--- what a converter makes of the bytes of its input, none where it fails
+-- what a converter of texts makes of the bytes of its input, for a connection
 abbrev pub converted_bytes : Conv → ℕ → Scopes → List ℕ → Option Value
-converted_bytes conv.Lower conn vars text = Some (value.Str (map to_ascii_lowercase text))
-converted_bytes conv.Upper conn vars text = Some (value.Str (map to_ascii_uppercase text))
-converted_bytes conv.Length conn vars text = Some (value.Int (pos (length text)))
-converted_bytes (conv.Field index delims count) conn vars text =
-    option_map value.Str (field_part_of index delims count text)
-converted_bytes (conv.Word index delims count) conn vars text =
-    option_map value.Str (word_part_of index delims count text)
-converted_bytes (conv.Bytes offset len) conn vars bytes =
-    Some (value.Bin (byte_part_of offset len bytes))
-converted_bytes (conv.Ltrim chars) conn vars text = Some (value.Str (ltrim_of chars text))
-converted_bytes (conv.Rtrim chars) conn vars text = Some (value.Str (rtrim_of chars text))
-converted_bytes conv.CutCrlf conn vars text = Some (value.Str (cut_crlf_of text))
-converted_bytes (conv.Concat start name end) conn vars text =
-    Some (value.Str (concat_of start (option_and_then (var_text vars conn) name) end text))
-converted_bytes (conv.Strcmp name) conn vars text =
-    option_map value.Int (strcmp_of (var_text vars conn name) text)
-converted_bytes (conv.Regsub pattern sub each ci) conn vars text =
-    option_map value.Str (regsub_of ci pattern sub each text)
-converted_bytes (conv.UrlDec form) conn vars text = option_map value.Str (url_dec_of form text)
-converted_bytes _ conn vars text = None
+converted_bytes conv conn vars text =
+    option_and_then (λ convert. convert (var_text vars conn) text) (conversion_of conv)
 
 -- What a converter of texts makes of a value, for a connection. None where the value can't be cast
 -- to what the converter takes, or the converter fails.
-abbrev pub text_conv_of : Conv → Value → ℕ → Scopes → Option Value
+unfoldable pub text_conv_of : Conv → Value → ℕ → Scopes → Option Value
 text_conv_of conv input conn vars =
-    option_and_then (converted_bytes conv conn vars) (cast_content (text_input_kind conv) input)
+    option_and_then (converted_bytes conv conn vars) (cast_content (input_kind conv) input)
 
 -- the value of the converter is a part of its input
 abbrev pub is_part_conv : Conv → Bool

@@ -1,9 +1,11 @@
-ghost use Rattle.std.specs.Prelude.{◌≡◌, IfOk, IfSome, IsOk, Some, true, option_map, option_and_then};
+ghost use Rattle.std.specs.Prelude.{◌≡◌, [], IfOk, IfSome, IsOk, Some, true, option_map, option_and_then, unwrap_or};
+ghost use Rattle.std.specs.Cmp.Lexicographic.{slice_cmp};
+ghost use Rattle.std.specs.Ordering.{nat_cmp};
 ghost use Rattle.hx_sample.specs.Seen.{bytes_of, value_of, kept_bytes, occurrence_value};
 ghost use Rattle.hx_sample.specs.declared.sample.Value.TheVariants as value;
 ghost use Rattle.hx_conv_text.specs.Built.{IsBuilt, IsMade, conv_of_text, conv_of_made, part_of, part_value};
-ghost use Rattle.hx_conv_text.specs.Converters.{cast_content, converted_bytes, has_lent_bytes, is_lent, is_part_conv, strcmp_of, var_text};
-ghost use Rattle.hx_conv_text.specs.Texts.{given_bytes};
+ghost use Rattle.hx_conv_text.specs.Converters.{cast_content, converted_bytes, has_lent_bytes, is_lent, is_part_conv, var_text};
+ghost use Rattle.hx_conv_text.specs.Texts.{sign_of};
 
 use crate::built::{Built, Made, Part};
 use crate::pieces::{field, word};
@@ -122,7 +124,7 @@ fn named_text<'v>(
 
 /// The text, or nothing.
 fn given_text<'a>(text: &'a Option<Bytes<'_>>) -> &'a [u8]
-    ensures { result.now ≡ given_bytes (option_map bytes_of text.now) }
+    ensures { result.now ≡ unwrap_or (option_map bytes_of text.now) [] }
 {
     match text {
         Some(text) => text.as_slice(),
@@ -168,7 +170,8 @@ fn compared(
     conn: u32,
     vars: &Vars,
 ) -> Result<Option<i64>, NoMemory>
-    ensures { IfOk result (λ n. n ≡ strcmp_of (var_text vars.now conn name.now) text.now) }
+    ensures { IfOk result (λ n. n ≡ option_map (λ other. sign_of (slice_cmp nat_cmp text.now other))
+        (var_text vars.now conn name.now)) }
 {
     match var_text(alloc, vars, conn, name)? {
         Some(other) => Ok(Some(strcmp(text, other.as_slice()))),

@@ -1,9 +1,10 @@
 ghost use Rattle.std.specs.Prelude.{◌≡◌, ◌≤◌, ℕ, IfOk, IfErr, IfSome, IsErrOf, IsNone, IsOk, IsSome, IsSomeAnd, IsUtf8, true, Some, None};
+ghost use Rattle.hx_ast.specs.Types.{input_kind};
 ghost use Rattle.hx_ast.specs.declared.conv.Conv.TheVariants as conv;
 ghost use Rattle.hx_outside.specs.Expressions.{expression, IsExpression};
 ghost use Rattle.hx_sample.specs.Seen.{value_of, occurrence_value};
 ghost use Rattle.hx_conv_text.specs.Building.{expression_text, large_after, BuildCountsLarge, IsExpressionFault, IsNoRegex, IsRegex};
-ghost use Rattle.hx_conv_text.specs.Converters.{has_lent_bytes, text_input_kind, is_part_conv, is_text_conv, text_conv_of};
+ghost use Rattle.hx_conv_text.specs.Converters.{has_lent_bytes, is_part_conv, is_text_conv, text_conv_of};
 
 use crate::applying::content;
 use crate::built::{Built, Made, Part};
@@ -199,6 +200,7 @@ pub fn made_regex<M: ReMaker>(
 /// no piece stands at the index, `strcmp` where the variable is unset, `url_dec` where two
 /// hexadecimal digits don't follow a `%`. A part of bytes that are lent is lent on; owned bytes are
 /// copied, and so is what a converter makes. `NoMemory` where memory runs out.
+#[tactic(auto, unfolding(crate::specs::Converters::text_conv_of))]
 pub fn apply<'a>(
     alloc: Global,
     conv: &TextConv,
@@ -222,7 +224,7 @@ pub fn apply<'a>(
 impl TextConv {
     /// The type to which the converter casts its input.
     fn text_input_kind(&self) -> Kind
-        ensures { result ≡ text_input_kind self.now }
+        ensures { result ≡ input_kind self.now }
     {
         match &self.built {
             Built::Part(Part::Bytes(_, _)) => Kind::Bin,

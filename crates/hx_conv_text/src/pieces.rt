@@ -1,7 +1,7 @@
 ghost use Rattle.std.specs.Prelude.{◌≡◌, ℕ, ◌+◌, ◌-◌, ◌≤◌, ◌<◌, [], ◌∷◌, length, drop, take, false, IfSome, IfNone, option_map};
 ghost use Rattle.std.specs.List.{filter, position_or_len, prefix_len};
-ghost use Rattle.hx_conv_text.specs.Pieces.{field_part_of, is_filled, is_in, first_items, items_at, last_end, last_items, piece_count, text_across, word_part_of};
-ghost use Rattle.hx_conv_text.specs.Scanning.{fields_after, pieces_left};
+ghost use Rattle.hx_conv_text.specs.Pieces.{field_spans, is_in, first_items, items_at, last_items, piece_count, text_across, word_spans};
+ghost use Rattle.hx_conv_text.specs.Scanning.{fields_after, is_filled, last_end, pieces_left};
 
 /// The text across the fields that `index` and `count` name, with the delimiters between them.
 /// Where `index` is positive these are so many from the one of that number on, and where it is
@@ -13,7 +13,8 @@ pub(crate) fn field<'a>(
     count: Option<i64>,
     text: &'a [u8],
 ) -> Option<&'a [u8]>
-    ensures { option_map (λ part. part.now) result ≡ field_part_of index delims.now count text.now }
+    ensures { option_map (λ part. part.now) result
+        ≡ text_across text.now (items_at index count (field_spans delims.now text.now)) }
 {
     let pieces = Pieces {
         words: false,
@@ -30,7 +31,8 @@ pub(crate) fn word<'a>(
     count: Option<i64>,
     text: &'a [u8],
 ) -> Option<&'a [u8]>
-    ensures { option_map (λ part. part.now) result ≡ word_part_of index delims.now count text.now }
+    ensures { option_map (λ part. part.now) result
+        ≡ text_across text.now (items_at index count (word_spans delims.now text.now)) }
 {
     let pieces = Pieces {
         words: true,
@@ -205,7 +207,7 @@ impl<'a> Pieces<'a, '_> {
     /// The text across the pieces that an index and a count name.
     fn part(&self, index: i64, count: Option<i64>) -> Option<&'a [u8]>
         ensures { option_map (λ part. part.now) result ≡ text_across self.now.text.now
-            (items_at index (piece_count count) (pieces_left self.now 0)) }
+            (items_at index count (pieces_left self.now 0)) }
     {
         let number = index.unsigned_abs() as usize;
         if index >= 0 {

@@ -1,10 +1,10 @@
-ghost use Rattle.std.specs.Prelude.{◌≡◌, ℕ, Bool, List, Some, ◌++◌, ◌≤◌, drop, take, length, option_map, IfOk};
+ghost use Rattle.std.specs.Prelude.{◌≡◌, ℕ, Bool, List, Some, ◌++◌, ◌≤◌, drop, take, length, option_map, option_to_list, IfOk};
 ghost use Rattle.regex.specs.Bytes.{regex_pattern};
 ghost use Rattle.regex.specs.Patterns.{find, find_all};
 ghost use Rattle.regex.specs.Replace.{replaced_by};
-ghost use Rattle.hx_outside.specs.Expressions.{IsExpression};
+ghost use Rattle.hx_outside.specs.Expressions.{expression, IsExpression};
 ghost use Rattle.hx_conv_text.specs.Captured.{captured};
-ghost use Rattle.hx_conv_text.specs.Substitution.{expansion, expansion_at, expanded_of, regsub_of, substituted_text, with_replaced};
+ghost use Rattle.hx_conv_text.specs.Substitution.{expansion, expansion_at, expanded_of, substituted_text};
 
 use hx_text::{NoMemory, Octets};
 use regex::bytes::{Captures, Regex};
@@ -96,8 +96,8 @@ fn with_first_replaced(
     sub: &[u8],
     input: &[u8],
 ) -> Result<Octets, NoMemory>
-    ensures { IfOk result (λ made. made ≡ with_replaced (expansion_at sub.now input.now) input.now
-        (find (regex_pattern re.now) input.now 0)) }
+    ensures { IfOk result (λ made. made ≡ replaced_by (expansion_at sub.now input.now) input.now 0
+        (option_to_list (find (regex_pattern re.now) input.now 0))) }
 {
     let mut matcher = re.matcher(alloc)?;
     match matcher.captures(input) {
@@ -141,7 +141,8 @@ pub(crate) fn regsub(
     input: &[u8],
 ) -> Result<Octets, NoMemory>
     ensures { (ci : Bool) (text : List ℕ) → IsExpression ci text re.now →
-        IfOk result (λ made. Some made ≡ regsub_of ci text sub.now each input.now) }
+        IfOk result (λ made. Some made
+        ≡ option_map (λ re. substituted_text re sub.now each input.now) (expression ci text)) }
 {
     if each {
         Ok(with_each_replaced(alloc, re, sub, input)?)

@@ -1,10 +1,11 @@
-ghost use Rattle.std.specs.Prelude.{◌≡◌, ◌++◌, ◌≤◌, length, map, IfOk};
+ghost use Rattle.std.specs.Prelude.{◌≡◌, [], ◌∷◌, ◌++◌, ◌-◌, ◌≤◌, drop, take, length, map, unwrap_or, IfOk};
 ghost use Rattle.std.specs.Char.{to_ascii_lowercase, to_ascii_uppercase};
 ghost use Rattle.std.specs.Cmp.Lexicographic.{slice_cmp};
-ghost use Rattle.std.specs.List.{suffix_len};
+ghost use Rattle.std.specs.List.{before_first, prefix_len, suffix_len};
 ghost use Rattle.std.specs.Ordering.{nat_cmp};
+ghost use Rattle.hx_base.specs.Bytes.{ascii};
 ghost use Rattle.hx_conv_text.specs.Pieces.{is_in};
-ghost use Rattle.hx_conv_text.specs.Texts.{byte_part_of, cut_crlf_of, ltrim_of, given_bytes, natural, rtrim_of, sign_of};
+ghost use Rattle.hx_conv_text.specs.Texts.{at_most, natural, sign_of};
 
 use crate::pieces::{is_in, leading_in, leading_outside};
 use hx_text::{NoMemory, Octets};
@@ -32,7 +33,7 @@ fn natural(n: i64) -> usize
 
 /// The bytes from `offset` on, at most `len` of them.
 pub(crate) fn bytes(offset: i64, len: Option<i64>, bytes: &[u8]) -> &[u8]
-    ensures { result.now ≡ byte_part_of offset len bytes.now }
+    ensures { result.now ≡ at_most len (drop (natural offset) bytes.now) }
 {
     let rest = &bytes[natural(offset).min(bytes.len())..];
     match len {
@@ -43,7 +44,7 @@ pub(crate) fn bytes(offset: i64, len: Option<i64>, bytes: &[u8]) -> &[u8]
 
 /// The text without the bytes of `chars` that it begins with.
 pub(crate) fn ltrim<'a>(chars: &[u8], text: &'a [u8]) -> &'a [u8]
-    ensures { result.now ≡ ltrim_of chars.now text.now }
+    ensures { result.now ≡ drop (prefix_len (is_in chars.now) text.now) text.now }
 {
     &text[leading_in(chars, text)..]
 }
@@ -58,21 +59,23 @@ fn trailing(chars: &[u8], text: &[u8]) -> usize
 
 /// The text without the bytes of `chars` that it ends with.
 pub(crate) fn rtrim<'a>(chars: &[u8], text: &'a [u8]) -> &'a [u8]
-    ensures { result.now ≡ rtrim_of chars.now text.now }
+    ensures { result.now
+        ≡ take (length text.now - suffix_len (is_in chars.now) text.now) text.now }
 {
     &text[..text.len() - trailing(chars, text)]
 }
 
 /// What stands before the first carriage return or line feed.
 pub(crate) fn cut_crlf(text: &[u8]) -> &[u8]
-    ensures { result.now ≡ cut_crlf_of text.now }
+    ensures { result.now
+        ≡ before_first (is_in (ascii "\r" ∷ ascii "\n" ∷ [])) text.now }
 {
     &text[..leading_outside(b"\r\n", text)]
 }
 
 /// The bytes, or nothing.
 pub(crate) fn given(bytes: &Option<Octets>) -> &[u8]
-    ensures { result.now ≡ given_bytes bytes.now }
+    ensures { result.now ≡ unwrap_or bytes.now [] }
 {
     match bytes {
         Some(bytes) => bytes.as_slice(),

@@ -1,7 +1,9 @@
-ghost use Rattle.std.specs.Prelude.{◌≡◌, ◌≤◌, ◌==◌, length, drop, IfOk};
+ghost use Rattle.std.specs.Prelude.{◌≡◌, ◌≤◌, ◌==◌, false, length, drop, IfOk, if◌then◌else◌};
 ghost use Rattle.std.specs.List.{position_or_len};
-ghost use Rattle.hx_base.specs.Bytes.{question_mark};
-ghost use Rattle.hx_conv_text.specs.UrlDecoding.{has_digits, is_encoded, is_form, plus_as_space, url_dec_of, with_spaces};
+ghost use Rattle.std.specs.Option.{option_map_or};
+ghost use Rattle.hx_base.specs.Bytes.{ascii};
+ghost use Rattle.hx_sample.specs.Cast.{is_not_zero};
+ghost use Rattle.hx_conv_text.specs.UrlDecoding.{has_digits, is_encoded, url_dec_of, with_spaces};
 
 use hx_text::{NoMemory, Octets};
 use percent_encoding::percent_decode;
@@ -25,7 +27,7 @@ pub(crate) fn url_dec(
 }
 
 fn is_form(form: Option<i64>) -> bool
-    ensures { result ≡ is_form form }
+    ensures { result ≡ option_map_or is_not_zero form false }
 {
     match form {
         Some(form) => form != 0,
@@ -55,14 +57,14 @@ fn is_encoded(text: &[u8]) -> bool
 }
 
 fn plus_as_space(b: u8) -> u8
-    ensures { result ≡ plus_as_space b }
+    ensures { result ≡ (if b == ascii "+" then ascii " " else b) }
 {
     if b == b'+' { b' ' } else { b }
 }
 
 /// How many bytes stand before the first `?`.
 fn before_query(text: &[u8]) -> usize
-    ensures value { result ≡ position_or_len (λ b. b == question_mark) text.now }
+    ensures value { result ≡ position_or_len (λ b. b == ascii "?") text.now }
     ensures within { result ≤ length text.now }
 {
     text.iter().take_while(|b| **b != b'?').count()

@@ -1,16 +1,18 @@
 -- What each converter of numbers, addresses and encodings makes of a value (HAProxy configuration
--- manual 2.4, section 7.3.1). The input is cast first; without a cast there is no value.
-use Rattle.std.specs.Prelude.{ℕ, ℤ, not, Bool, true, false, List, Option, None, option_map, option_and_then, if◌then◌else◌}
-use Rattle.std.specs.Int.{w64, int_bit_and, int_bit_or, int_bit_xor, int_bit_not}
+-- manual 2.4, section 7.3.1).
+use Rattle.std.specs.Prelude.{ℕ, ℤ, ◌+ℤ◌, ◌-ℤ◌, ◌*ℤ◌, neg_ℤ, not, Bool, true, false, Option, Some, None, option_map, option_and_then, if◌then◌else◌}
+use Rattle.std.specs.Int.{w64, saturate_signed, int_bit_and, int_bit_or, int_bit_xor, int_bit_not}
 use Rattle.hex.specs.Hex.{encode_upper}
+use Rattle.hx_ast.specs.Types.{input_kind}
 use Rattle.hx_ast.specs.declared.conv.Conv.{Conv}
 use Rattle.hx_ast.specs.declared.conv.Conv.TheVariants as conv
-use Rattle.hx_sample.specs.Cast.{is_not_zero}
+use Rattle.hx_ast.specs.declared.val.Val.{Val}
+use Rattle.hx_sample.specs.Cast.{cast_of, is_not_zero}
 use Rattle.hx_sample.specs.Vars.{Scopes}
 use Rattle.hx_sample.specs.declared.sample.Value.{Value}
 use Rattle.hx_sample.specs.declared.sample.Value.TheVariants as value
-use Rattle.hx_conv_val.specs.Inputs.{bool_input, int_input, ip_input, text_input, bytes_input, operand_of}
-use Rattle.hx_conv_val.specs.Numbers.{is_zero, is_even, sum_of, difference_of, product_of, quotient_of, remainder_of, negation_of}
+use Rattle.hx_conv_val.specs.Inputs.{operand_of}
+use Rattle.hx_conv_val.specs.Numbers.{is_zero, is_even, saturating, quotient_of, remainder_of}
 use Rattle.hx_conv_val.specs.Addresses.{masked_address}
 use Rattle.hx_conv_val.specs.Encodings.{base64_text, base64url_text, base64_bytes, base64url_bytes, hex_number, digest_of}
 
@@ -61,60 +63,41 @@ takes_no_memory conv.Cpl = true
 takes_no_memory (conv.Ipmask mask bits) = true
 takes_no_memory _ = false
 
--- one text for true, and one for false
-abbrev pub choice_of : List ℕ → List ℕ → Bool → Value
-choice_of t f b = value.Str (if b then t else f)
+-- an operation on the input and the number of the operand, if it has one
+abbrev pub calculated : (ℤ → ℤ → ℤ) → ℤ → Option ℤ → Option Value
+calculated operation n operand = option_map (λ m. value.Int (operation n m)) operand
 
--- an operation on the input and the operand; none where either is
-abbrev pub calculated_value : (ℤ → ℤ → ℤ) → Option ℤ → Option ℤ → Option Value
-calculated_value operation input operand =
-    option_and_then (λ n. option_map (λ m. value.Int (operation n m)) operand) input
+-- What a converter makes of a value of the type that it takes, where operands have these numbers;
+-- none of a value of another type.
+abbrev pub made_of : Conv → (Val → Option ℤ) → Value → Option Value
+made_of (conv.Iif t f) number (value.Bool b) = Some (value.Str (if b then t else f))
+made_of conv.Bool number (value.Int n) = Some (value.Bool (is_not_zero n))
+made_of conv.Even number (value.Int n) = Some (value.Bool (is_even n))
+made_of conv.Odd number (value.Int n) = Some (value.Bool (not (is_even n)))
+made_of conv.Not number (value.Int n) = Some (value.Bool (is_zero n))
+made_of (conv.Add operand) number (value.Int n) = calculated (saturating ◌+ℤ◌) n (number operand)
+made_of (conv.Sub operand) number (value.Int n) = calculated (saturating ◌-ℤ◌) n (number operand)
+made_of (conv.Mul operand) number (value.Int n) = calculated (saturating ◌*ℤ◌) n (number operand)
+made_of (conv.Div operand) number (value.Int n) = calculated quotient_of n (number operand)
+made_of (conv.Mod operand) number (value.Int n) = calculated remainder_of n (number operand)
+made_of conv.Neg number (value.Int n) = Some (value.Int (saturate_signed w64 (neg_ℤ n)))
+made_of (conv.And operand) number (value.Int n) = calculated (int_bit_and w64) n (number operand)
+made_of (conv.Or operand) number (value.Int n) = calculated (int_bit_or w64) n (number operand)
+made_of (conv.Xor operand) number (value.Int n) = calculated (int_bit_xor w64) n (number operand)
+made_of conv.Cpl number (value.Int n) = Some (value.Int (int_bit_not w64 n))
+made_of (conv.Ipmask mask bits) number (value.Ip ip) =
+    option_map value.Ip (masked_address mask bits ip)
+made_of conv.Base64 number (value.Bin bytes) = Some (value.Str (base64_text bytes))
+made_of conv.Ub64enc number (value.Bin bytes) = Some (value.Str (base64url_text bytes))
+made_of conv.B64dec number (value.Str text) = option_map value.Bin (base64_bytes text)
+made_of conv.Ub64dec number (value.Str text) = option_map value.Bin (base64url_bytes text)
+made_of conv.Hex number (value.Bin bytes) = Some (value.Str (encode_upper bytes))
+made_of conv.Hex2i number (value.Str text) = Some (value.Int (hex_number text))
+made_of (conv.Sha2 bits) number (value.Bin bytes) = Some (value.Bin (digest_of bits bytes))
+made_of _ number _ = None
 
--- the value that a converter makes of one, for a connection and the variables
-abbrev pub value_conv_of : Conv → Value → ℕ → Scopes → Option Value
-value_conv_of (conv.Iif t f) input conn vars = option_map (choice_of t f) (bool_input input)
-value_conv_of conv.Bool input conn vars =
-    option_map (λ n. value.Bool (is_not_zero n)) (int_input input)
-value_conv_of conv.Even input conn vars =
-    option_map (λ n. value.Bool (is_even n)) (int_input input)
-value_conv_of conv.Odd input conn vars =
-    option_map (λ n. value.Bool (not (is_even n))) (int_input input)
-value_conv_of conv.Not input conn vars =
-    option_map (λ n. value.Bool (is_zero n)) (int_input input)
-value_conv_of (conv.Add operand) input conn vars =
-    calculated_value sum_of (int_input input) (operand_of operand conn vars)
-value_conv_of (conv.Sub operand) input conn vars =
-    calculated_value difference_of (int_input input) (operand_of operand conn vars)
-value_conv_of (conv.Mul operand) input conn vars =
-    calculated_value product_of (int_input input) (operand_of operand conn vars)
-value_conv_of (conv.Div operand) input conn vars =
-    calculated_value quotient_of (int_input input) (operand_of operand conn vars)
-value_conv_of (conv.Mod operand) input conn vars =
-    calculated_value remainder_of (int_input input) (operand_of operand conn vars)
-value_conv_of conv.Neg input conn vars =
-    option_map (λ n. value.Int (negation_of n)) (int_input input)
-value_conv_of (conv.And operand) input conn vars =
-    calculated_value (int_bit_and w64) (int_input input) (operand_of operand conn vars)
-value_conv_of (conv.Or operand) input conn vars =
-    calculated_value (int_bit_or w64) (int_input input) (operand_of operand conn vars)
-value_conv_of (conv.Xor operand) input conn vars =
-    calculated_value (int_bit_xor w64) (int_input input) (operand_of operand conn vars)
-value_conv_of conv.Cpl input conn vars =
-    option_map (λ n. value.Int (int_bit_not w64 n)) (int_input input)
-value_conv_of (conv.Ipmask mask bits) input conn vars =
-    option_map value.Ip (option_and_then (masked_address mask bits) (ip_input input))
-value_conv_of conv.Base64 input conn vars =
-    option_map (λ bytes. value.Str (base64_text bytes)) (bytes_input input)
-value_conv_of conv.Ub64enc input conn vars =
-    option_map (λ bytes. value.Str (base64url_text bytes)) (bytes_input input)
-value_conv_of conv.B64dec input conn vars =
-    option_map value.Bin (option_and_then base64_bytes (text_input input))
-value_conv_of conv.Ub64dec input conn vars =
-    option_map value.Bin (option_and_then base64url_bytes (text_input input))
-value_conv_of conv.Hex input conn vars =
-    option_map (λ bytes. value.Str (encode_upper bytes)) (bytes_input input)
-value_conv_of conv.Hex2i input conn vars =
-    option_map (λ text. value.Int (hex_number text)) (text_input input)
-value_conv_of (conv.Sha2 bits) input conn vars =
-    option_map (λ bytes. value.Bin (digest_of bits bytes)) (bytes_input input)
-value_conv_of _ input conn vars = None
+-- The value that a converter makes of one, for a connection and the variables. The value is cast
+-- first to the type that the converter takes; without a cast there is none.
+unfoldable pub value_conv_of : Conv → Value → ℕ → Scopes → Option Value
+value_conv_of conv input conn vars =
+    option_and_then (made_of conv (operand_of conn vars)) (cast_of input (input_kind conv))

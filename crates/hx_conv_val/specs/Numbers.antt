@@ -1,12 +1,8 @@
 -- Arithmetic on integers of 64 bits with a sign: the exact result, and where that is none of them,
 -- the nearest.
-use Rattle.std.specs.Prelude.{◌-◌, ◌^◌, ◌%◌, ◌==◌, ℤ, pos, neg_ℤ, ◌+ℤ◌, ◌-ℤ◌, ◌*ℤ◌, int_div, int_rem, unsigned_abs, Bool, if◌then◌else◌}
+use Rattle.std.specs.Prelude.{◌-◌, ◌^◌, ◌%◌, ◌==◌, ℤ, pos, neg_ℤ, int_div, int_rem, unsigned_abs, Bool, if◌then◌else◌}
 use Rattle.std.specs.Int.{w64, saturate_signed}
 use Rattle.std.specs.Ordering.{int_eq}
-
--- the greatest integer of 64 bits, and the least
-abbrev pub greatest_int : ℤ
-greatest_int = pos (2 ^ 63 - 1)
 
 abbrev pub least_int : ℤ
 least_int = neg_ℤ (pos (2 ^ 63))
@@ -18,22 +14,14 @@ is_zero n = int_eq n (pos 0)
 abbrev pub is_even : ℤ → Bool
 is_even n = unsigned_abs n % 2 == 0
 
-abbrev pub sum_of : ℤ → ℤ → ℤ
-sum_of n m = saturate_signed w64 (n +ℤ m)
-
-abbrev pub difference_of : ℤ → ℤ → ℤ
-difference_of n m = saturate_signed w64 (n -ℤ m)
-
-abbrev pub product_of : ℤ → ℤ → ℤ
-product_of n m = saturate_signed w64 (n *ℤ m)
+-- the result of an operation, or the nearest integer of 64 bits with a sign
+abbrev pub saturating : (ℤ → ℤ → ℤ) → ℤ → ℤ → ℤ
+saturating operation n m = saturate_signed w64 (operation n m)
 
 -- rounded toward zero; the greatest integer for the divisor 0
 abbrev pub quotient_of : ℤ → ℤ → ℤ
-quotient_of n m = if is_zero m then greatest_int else saturate_signed w64 (int_div n m)
+quotient_of n m = if is_zero m then pos (2 ^ 63 - 1) else saturating int_div n m
 
 -- the remainder of that division, which has the sign of the dividend; 0 for the divisor 0
 abbrev pub remainder_of : ℤ → ℤ → ℤ
 remainder_of n m = if is_zero m then pos 0 else int_rem n m
-
-abbrev pub negation_of : ℤ → ℤ
-negation_of n = saturate_signed w64 (neg_ℤ n)

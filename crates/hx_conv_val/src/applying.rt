@@ -1,8 +1,8 @@
 ghost use Rattle.std.specs.Prelude.{◌≡◌, IfOk, IsOk, IsTrue, option_map, option_and_then};
 ghost use Rattle.hx_conv_val.specs.Addresses.{masked_address};
-ghost use Rattle.hx_conv_val.specs.Converters.{calculated_value, choice_of, takes_no_memory, value_conv_of};
-ghost use Rattle.hx_conv_val.specs.Forms.{int_value, operation_result, bytes_value, text_value};
-ghost use Rattle.hx_conv_val.specs.Inputs.{bool_input, int_input, ip_input, text_input, bytes_input, operand_of};
+ghost use Rattle.hx_conv_val.specs.Converters.{takes_no_memory, value_conv_of};
+ghost use Rattle.hx_conv_val.specs.Forms.{bool_input, ip_input, text_input, bytes_input, calculated_value, choice_of, int_value, operation_result, bytes_value, text_value};
+ghost use Rattle.hx_conv_val.specs.Inputs.{int_input};
 ghost use Rattle.hx_sample.specs.Seen.{occurrence_value, value_of};
 ghost use Rattle.hx_sample.specs.declared.sample.Value.TheVariants as value;
 

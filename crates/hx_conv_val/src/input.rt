@@ -1,5 +1,6 @@
 ghost use Rattle.std.specs.Prelude.{◌≡◌, IfOk, IsOk, option_map};
-ghost use Rattle.hx_conv_val.specs.Inputs.{bool_input, int_input, ip_input, text_input, bytes_input, operand_of};
+ghost use Rattle.hx_conv_val.specs.Forms.{bool_input, ip_input, text_input, bytes_input};
+ghost use Rattle.hx_conv_val.specs.Inputs.{int_input, operand_of};
 ghost use Rattle.hx_sample.specs.Seen.{bytes_of, value_of};
 
 use hx_ast::Val;
@@ -71,7 +72,7 @@ pub(crate) fn operand_of(
     conn: u32,
     vars: &Vars,
 ) -> Result<Option<i64>, NoMemory>
-    ensures value { IfOk result (λ n. n ≡ operand_of operand.now conn vars.now) }
+    ensures value { IfOk result (λ n. n ≡ operand_of conn vars.now operand.now) }
     ensures ok { IsOk result }
 {
     match operand {

@@ -1,9 +1,9 @@
 //! Laws: what the definitions of converters imply.
-ghost use Rattle.std.specs.Prelude.{◌≡◌, ◌≢◌, ◌↔◌, ◌≤◌, ◌<◌, ◌^◌, ℕ, ℤ, pos, negsuc, None, Some, ◌+ℤ◌, ◌*ℤ◌, int_div, unsigned_abs, FitsSigned};
+ghost use Rattle.std.specs.Prelude.{◌≡◌, ◌-◌, ◌≢◌, ◌↔◌, ◌≤◌, ◌<◌, ◌^◌, ℕ, ℤ, pos, negsuc, None, Some, ◌+ℤ◌, ◌*ℤ◌, int_div, unsigned_abs, FitsSigned};
 ghost use Rattle.std.specs.Int.{w64, saturate_signed};
 ghost use Rattle.hx_conv_val.specs.Addresses.{masked_address};
 ghost use Rattle.hx_conv_val.specs.Encodings.{base64_text, base64_bytes, base64url_text, base64url_bytes};
-ghost use Rattle.hx_conv_val.specs.Numbers.{greatest_int, least_int, quotient_of, remainder_of};
+ghost use Rattle.hx_conv_val.specs.Numbers.{least_int, quotient_of, remainder_of};
 ghost use Rattle.hx_text.specs.Network.{mask_of, prefix_bits};
 ghost use Rattle.hx_text.specs.declared.address.Ip.TheVariants.{V4};
 
@@ -11,7 +11,7 @@ ghost use Rattle.hx_text.specs.declared.address.Ip.TheVariants.{V4};
 /// 2^63 - 1, and one below all of them the least, -2^63.
 pub fn saturation_is_nearest()
     ensures exact { (z : ℤ) → FitsSigned w64 z → saturate_signed w64 z ≡ z }
-    ensures above { (n : ℕ) → 2 ^ 63 ≤ n → saturate_signed w64 (pos n) ≡ greatest_int }
+    ensures above { (n : ℕ) → 2 ^ 63 ≤ n → saturate_signed w64 (pos n) ≡ pos (2 ^ 63 - 1) }
     ensures below { (n : ℕ) → 2 ^ 63 ≤ n → saturate_signed w64 (negsuc n) ≡ least_int }
 {}
 

@@ -1,6 +1,7 @@
-ghost use Rattle.std.specs.Prelude.{◌≡◌};
+ghost use Rattle.std.specs.Prelude.{◌≡◌, neg_ℤ};
+ghost use Rattle.std.specs.Int.{w64, saturate_signed};
 ghost use Rattle.hx_conv_val.specs.Forms.{int_value, operation_result};
-ghost use Rattle.hx_conv_val.specs.Numbers.{is_even, quotient_of, remainder_of, negation_of};
+ghost use Rattle.hx_conv_val.specs.Numbers.{is_even, quotient_of, remainder_of};
 ghost use Rattle.hx_sample.specs.Seen.{value_of};
 
 use crate::form::{IntForm, Operation};
@@ -13,7 +14,7 @@ fn is_even(n: i64) -> bool
 }
 
 fn negation_of(n: i64) -> i64
-    ensures { result ≡ negation_of n }
+    ensures { result ≡ saturate_signed w64 (neg_ℤ n) }
 {
     if n == i64::MIN { i64::MAX } else { -n }
 }

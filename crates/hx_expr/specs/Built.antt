@@ -4,6 +4,7 @@ use Rattle.hx_ast.specs.declared.conv.Conv.{Conv}
 use Rattle.hx_ast.specs.declared.conv.Conv.TheVariants as conv
 use Rattle.hx_conv_text.specs.Converters.{is_text_conv}
 use Rattle.hx_conv_val.specs.Converters.{is_value_conv}
+use Rattle.hx_expr.specs.Values.{is_map_conv}
 use Rattle.hx_expr.specs.declared.plan.Built.{Built}
 use Rattle.hx_expr.specs.declared.plan.Built.TheVariants.{Text, Val, Map}
 
@@ -16,5 +17,6 @@ conv_of_built (Map head by out default) = conv.Map head by out default
 -- each is kept as what it is
 abbrev pub IsKept : Built → Type 0
 IsKept (Text c) = is_text_conv c ≡ true
-IsKept (Val c) = (is_text_conv c ≡ false) × (is_value_conv c ≡ true)
+IsKept (Val c) =
+    (is_text_conv c ≡ false) × (is_map_conv c ≡ false) × (is_value_conv c ≡ true)
 IsKept (Map head by out default) = ⊤

@@ -1,12 +1,12 @@
 -- The value of an expression: what its fetch finds, and what its converters make of that one after
 -- the other (HAProxy configuration manual 2.4, section 7.3).
-use Rattle.std.specs.Prelude.{◌≡◌, ℕ, ◌<◌, List, [], ◌∷◌, length, map, Option, None, Some, IfSome, option_and_then, slice_get, if◌then◌else◌, ⊤}
+use Rattle.std.specs.Prelude.{◌≡◌, fold, ℕ, ◌<◌, Bool, true, false, List, [], ◌∷◌, length, map, Option, None, Some, IfSome, option_and_then, slice_get, if◌then◌else◌, ⊤}
 use Rattle.hx_ast.specs.declared.conv.Conv.{Conv}
 use Rattle.hx_ast.specs.declared.conv.Conv.TheVariants as conv
 use Rattle.hx_ast.specs.declared.expr.Expr.{Expr}
 use Rattle.hx_ast.specs.Types.{kind_out}
 use Rattle.hx_conv_text.specs.Converters.{is_text_conv, text_conv_of}
-use Rattle.hx_conv_val.specs.Converters.{is_value_conv, value_conv_of}
+use Rattle.hx_conv_val.specs.Converters.{value_conv_of}
 use Rattle.hx_fetch.specs.Fetches.{chosen_of, occurrences_of}
 use Rattle.hx_fetch.specs.World.{Context}
 use Rattle.hx_sample.specs.Cast.{cast_of}
@@ -32,21 +32,24 @@ map_value heads lists (conv.Map head by out default) input =
     (cast_of input (kind_by by))
 map_value heads lists _ input = None
 
--- what a converter makes of a value
+abbrev pub is_map_conv : Conv → Bool
+is_map_conv (conv.Map head by out default) = true
+is_map_conv _ = false
+
+-- what a converter makes of a value: one of texts, one that looks up in a map, or one of numbers,
+-- addresses and encodings
 abbrev pub converted_value :
     Context → List TableHead → List (List Entry) → Conv → Value → Option Value
 converted_value context heads lists c input =
     if is_text_conv c then text_conv_of c input context.conn.id context.vars
-    else if is_value_conv c then value_conv_of c input context.conn.id context.vars
-    else map_value heads lists c input
+    else if is_map_conv c then map_value heads lists c input
+    else value_conv_of c input context.conn.id context.vars
 
 -- what converters make of an occurrence, one after the other; none stays none
 abbrev pub value_after :
     Context → List TableHead → List (List Entry) → List Conv → Option Value → Option Value
-value_after context heads lists [] occurrence = occurrence
-value_after context heads lists (c ∷ convs) occurrence =
-    value_after context heads lists convs
-    (option_and_then (converted_value context heads lists c) occurrence)
+value_after context heads lists convs occurrence =
+    fold (λ found c. option_and_then (converted_value context heads lists c) found) occurrence convs
 
 -- the value of an expression, from the one occurrence of its fetch that expressions take
 abbrev pub expr_value : Context → List TableHead → List (List Entry) → Expr → Option Value

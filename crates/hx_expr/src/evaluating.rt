@@ -5,7 +5,6 @@ ghost use Rattle.hx_sample.specs.Seen.{occurrence_value, value_of};
 ghost use Rattle.hx_expr.specs.Values.{HasTableHead, HasTableHeads, IsHeadBy, converted_value, expr_value, expr_values, map_value, mapped_value, value_after};
 
 use crate::plan::{Built, Plan, PlanConv};
-use crate::typing::kind_by;
 use hx_ast::{Conv, kind_out};
 use hx_conv_text::apply as apply_text;
 use hx_conv_val::apply as apply_val;
@@ -50,7 +49,7 @@ fn look_up<'w, T: Tables, L: Ledger>(
         ≡ map_value (T.heads tables.now) (T.lists tables.now)
         (Conv.Map head by out default.now) (value_of sample.entry)) }
 {
-    let Some(input) = cast(alloc, sample, kind_by(by))? else {
+    let Some(input) = cast(alloc, sample, by.kind())? else {
         return Ok(None);
     };
     match tables.find(alloc, head, &input, steps)? {

@@ -25,4 +25,4 @@ pub use compiling::compile;
 pub use evaluating::{eval, eval_all};
 pub use fault::PlanFault;
 pub use plan::Plan;
-pub use typing::{can_cast, is_typed, kind_by};
+pub use typing::{can_cast, is_typed};

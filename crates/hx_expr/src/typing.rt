@@ -1,25 +1,9 @@
 ghost use Rattle.std.specs.Prelude.{◌≡◌};
-ghost use Rattle.hx_sample.specs.Keys.{kind_by};
-ghost use Rattle.hx_expr.specs.Types.{input_kind, can_cast, is_typed};
+ghost use Rattle.hx_ast.specs.Types.{input_kind};
+ghost use Rattle.hx_expr.specs.Types.{can_cast, is_typed};
 
 use hx_ast::{Conv, Expr};
-use hx_text::{By, Kind};
-
-/// The type of the values that a match method looks at (HAProxy configuration manual 2.4, section
-/// 7.1).
-pub fn kind_by(by: By) -> Kind
-    ensures { result ≡ kind_by by }
-{
-    match by {
-        By::Found => Kind::Any,
-        By::Bool => Kind::Bool,
-        By::Int => Kind::Int,
-        By::Ip => Kind::Ip,
-        By::Bin => Kind::Bin,
-        By::Len | By::Str | By::Beg | By::End | By::Sub => Kind::Str,
-        By::Dir | By::Dom | By::Reg => Kind::Str,
-    }
-}
+use hx_text::Kind;
 
 fn input_kind(conv: &Conv) -> Kind
     ensures { result ≡ input_kind conv.now }
@@ -31,7 +15,7 @@ fn input_kind(conv: &Conv) -> Kind
         Conv::Regsub(_, _, _, _) | Conv::UrlDec(_) => Kind::Str,
         Conv::B64dec | Conv::Ub64dec | Conv::Hex2i => Kind::Str,
         Conv::Bytes(_, _) | Conv::Base64 | Conv::Ub64enc | Conv::Hex | Conv::Sha2(_) => Kind::Bin,
-        Conv::Map(_, by, _, _) => kind_by(*by),
+        Conv::Map(_, by, _, _) => by.kind(),
         Conv::Iif(_, _) => Kind::Bool,
         Conv::Bool | Conv::Even | Conv::Odd | Conv::Not | Conv::Neg | Conv::Cpl => Kind::Int,
         Conv::Add(_) | Conv::Sub(_) | Conv::Mul(_) | Conv::Div(_) | Conv::Mod(_) => Kind::Int,
@@ -47,19 +31,15 @@ pub fn can_cast(from: Kind, to: Kind) -> bool
 {
     match (from, to) {
         (Kind::Any, _) => true,
+        (Kind::Str, _) => true,
         (_, Kind::Any) => true,
+        (_, Kind::Str) => true,
         (Kind::Bool, Kind::Bool) => true,
         (Kind::Bool, Kind::Int) => true,
-        (Kind::Bool, Kind::Str) => true,
         (Kind::Int, Kind::Bool) => true,
         (Kind::Int, Kind::Int) => true,
-        (Kind::Int, Kind::Str) => true,
         (Kind::Ip, Kind::Ip) => true,
-        (Kind::Ip, Kind::Str) => true,
-        (Kind::Str, _) => true,
-        (Kind::Bin, Kind::Str) => true,
         (Kind::Bin, Kind::Bin) => true,
-        (Kind::Method, Kind::Str) => true,
         (Kind::Method, Kind::Bin) => true,
         (Kind::Method, Kind::Method) => true,
         _ => false,

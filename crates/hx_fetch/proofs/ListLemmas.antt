@@ -1,12 +1,14 @@
 -- Lists that are cut, filtered and joined.
-use Rattle.std.proofs.Common.{◌≡◌, ℕ, ◌+◌, ◌≤◌, ◌<◌, suc, zero, List, [], ◌∷◌, ◌++◌, Some, None, length, drop, map, refl, ap, sym, ◌∙◌, arith, add-one}
+use Rattle.std.proofs.Common.{◌≡◌, ℕ, Bool, true, ◌+◌, ◌≤◌, ◌<◌, suc, zero, List, [], ◌∷◌, ◌++◌, Some, None, length, drop, map, refl, ap, sym, ◌∙◌, arith, add-one}
 use Rattle.std.specs.Prelude.{Option, slice_get, reverse}
 use Rattle.std.specs.List.{filter, flat_map}
+use Rattle.std.specs.Option.{option_map_or}
+use Rattle.std.specs.Str.{bytes_eq}
 use Rattle.std.proofs.lemmas.List.{map-append, length-reverse, reverse-append}
 use Rattle.std.proofs.lemmas.Option.{slice_get_past}
 use Rattle.std.proofs.lemmas.List.Elements.{filter-append}
 use Rattle.hx_lists.specs.NamedValues.{NamedValue, cookies}
-use Rattle.hx_fetch.specs.Names.{is_pair_name, values_under}
+use Rattle.hx_fetch.specs.Views.{values_under}
 
 -- the item at a position is the first of what is left from it on
 drop_from : {A : Type 0} (xs : List A) (k : ℕ) (x : A) → slice_get xs k ≡ Some x → drop k xs ≡ x ∷ drop (suc k) xs
@@ -57,8 +59,9 @@ joined_alone (x ∷ xs) = ap (λ rest. x ∷ rest) (joined_alone xs)
 
 values_under-append : (name : Option (List ℕ)) (ps qs : List NamedValue) → values_under name (ps ++ qs) ≡ values_under name ps ++ values_under name qs
 values_under-append name ps qs =
-    ap (map (λ pair. pair.1)) (filter-append (λ (pair : NamedValue). is_pair_name name pair.0) ps qs)
-    ∙ map-append (λ pair. pair.1) (filter (λ (pair : NamedValue). is_pair_name name pair.0) ps) (filter (λ (pair : NamedValue). is_pair_name name pair.0) qs)
+    let is_of : NamedValue → Bool = λ pair. option_map_or (bytes_eq pair.0) name true in
+    ap (map (λ pair. pair.1)) (filter-append is_of ps qs)
+    ∙ map-append (λ pair. pair.1) (filter is_of ps) (filter is_of qs)
 
 -- the cookies of each line that have the name are those of all lines that have it
 pub cookies_by_line : (name : Option (List ℕ)) (lines : List (List ℕ)) → flat_map (λ line. values_under name (cookies line)) lines ≡ values_under name (flat_map cookies lines)

@@ -1,6 +1,8 @@
 -- What each fetch finds, as the list of its occurrences, each a value or none (HAProxy
 -- configuration manual 2.4 sections 7.3.2 to 7.3.6).
-use Rattle.std.specs.Prelude.{ℕ, ◌-◌, ◌^◌, min, pos, Bool, true, false, List, [], ◌∷◌, ◌++◌, map, length, codes, Option, Some, option_map, ◌==◌, if◌then◌else◌}
+use Rattle.std.specs.Prelude.{ℕ, ◌-◌, ◌^◌, min, pos, Bool, true, false, List, [], ◌∷◌, ◌++◌, map, length, slice_get, codes, Option, Some, option_map, unwrap_or, ◌==◌, if◌then◌else◌}
+use Rattle.std.specs.Str.{bytes_eq}
+use Rattle.hx_ast.specs.Types.{fetch_kind}
 use Rattle.hx_ast.specs.declared.fetch.Fetch.{Fetch}
 use Rattle.hx_ast.specs.declared.fetch.Fetch.TheVariants as fetch
 use Rattle.hx_http.specs.Parts.{Parts}
@@ -10,36 +12,41 @@ use Rattle.hx_sample.specs.declared.sample.Value.TheVariants as value
 use Rattle.hx_sample.specs.Cast.{cast_of}
 use Rattle.hx_sample.specs.Vars.{var_of}
 use Rattle.hx_text.specs.declared.kinds.Kind.{Kind}
-use Rattle.hx_text.specs.declared.kinds.Kind.TheVariants as kind
-use Rattle.hx_fetch.specs.Names.{header_lines, header_values, cookie_values, param_values}
+use Rattle.hx_lists.specs.NamedValues.{params}
+use Rattle.hx_fetch.specs.Names.{values_by, header_lines, header_values, cookie_values}
 use Rattle.hx_fetch.specs.Picks.{selection, end_of}
 use Rattle.hx_fetch.specs.World.{Context}
-
--- the version's number, as the request line has it after `HTTP/`
-abbrev pub version_text : ℕ → List ℕ
-version_text minor = if minor == 0 then codes "1.0" else codes "1.1"
-
--- the first of some texts, or the empty text where there is none
-abbrev pub first_text : List (List ℕ) → List ℕ
-first_text [] = []
-first_text (text ∷ texts) = text
 
 -- the whole value of the first `Host` line, or nothing, and the path after it; none without a path
 abbrev pub base_of : Parts → Option (List ℕ)
 base_of message =
-    let host = first_text (header_lines (Some (codes "Host")) message.headers) in
+    let host = unwrap_or (slice_get (header_lines (Some (codes "Host")) message) 0) [] in
     option_map (λ path. host ++ path) (path_of message.target)
 
--- how many there are, as an integer of 64 bits with a sign, which saturates
-abbrev pub count_of : {A : Type 0} → List A → Value
-count_of xs = value.Int (pos (min (length xs) (2 ^ 63 - 1)))
+-- the occurrence of a count: how many there are, as an integer of 64 bits with a sign, which
+-- saturates
+abbrev pub count_of : {A : Type 0} → List A → Option Value
+count_of xs = Some (value.Int (pos (min (length xs) (2 ^ 63 - 1))))
 
 -- each text as a value of a kind, or none where it writes none
 abbrev pub text_occurrences : Kind → List (List ℕ) → List (Option Value)
 text_occurrences kind texts = map (λ text. cast_of (value.Str text) kind) texts
 
--- The occurrences of a fetch. One that isn't about many lines, values, cookies or parameters has
--- one.
+-- The texts that a fetch finds, where it is about lines, values, cookies or parameters. The case
+-- of letters counts in the name of a parameter (`url_param`).
+abbrev pub texts_of : Fetch → Parts → List (List ℕ)
+texts_of (fetch.ReqHdr name at) message = selection at (header_values (Some name) message)
+texts_of (fetch.ReqFhdr name at) message = selection at (header_lines (Some name) message)
+texts_of (fetch.ReqHdrIp name at) message = selection at (header_values (Some name) message)
+texts_of (fetch.ReqHdrVal name at) message = selection at (header_values (Some name) message)
+texts_of (fetch.ReqCook name) message = cookie_values name message
+texts_of (fetch.UrlParam name delim) message =
+    values_by bytes_eq name (params message.target delim)
+texts_of _ message = []
+
+-- The occurrences of a fetch: of one that is about lines, values, cookies or parameters, its texts
+-- as values of its type, and of any other, one occurrence. The version is its number, as the
+-- request line has it after `HTTP/`.
 abbrev pub occurrences_of : Fetch → Context → List (Option Value)
 occurrences_of fetch.AlwaysTrue context = Some (value.Bool true) ∷ []
 occurrences_of fetch.AlwaysFalse context = Some (value.Bool false) ∷ []
@@ -55,27 +62,15 @@ occurrences_of fetch.Dst context = Some (value.Ip context.conn.dst) ∷ []
 occurrences_of fetch.SrcPort context = Some (value.Int (pos context.conn.src_port)) ∷ []
 occurrences_of fetch.DstPort context = Some (value.Int (pos context.conn.dst_port)) ∷ []
 occurrences_of fetch.Method context = Some (value.Method context.message.method) ∷ []
-occurrences_of fetch.ReqVer context = Some (value.Str (version_text context.message.minor)) ∷ []
+occurrences_of fetch.ReqVer context =
+    Some (value.Str (if context.message.minor == 0 then codes "1.0" else codes "1.1")) ∷ []
 occurrences_of fetch.Path context = option_map value.Str (path_of context.message.target) ∷ []
 occurrences_of fetch.Query context = option_map value.Str (query_of context.message.target) ∷ []
 occurrences_of fetch.Url context = Some (value.Str context.message.target) ∷ []
 occurrences_of fetch.Base context = option_map value.Str (base_of context.message) ∷ []
-occurrences_of (fetch.ReqHdr name at) context =
-    text_occurrences kind.Str (selection at (header_values (Some name) context.message.headers))
-occurrences_of (fetch.ReqFhdr name at) context =
-    text_occurrences kind.Str (selection at (header_lines (Some name) context.message.headers))
-occurrences_of (fetch.ReqHdrIp name at) context =
-    text_occurrences kind.Ip (selection at (header_values (Some name) context.message.headers))
-occurrences_of (fetch.ReqHdrVal name at) context =
-    text_occurrences kind.Int (selection at (header_values (Some name) context.message.headers))
-occurrences_of (fetch.ReqHdrCnt name) context =
-    Some (count_of (header_values name context.message.headers)) ∷ []
-occurrences_of (fetch.ReqCook name) context =
-    text_occurrences kind.Str (cookie_values name context.message.headers)
-occurrences_of (fetch.ReqCookCnt name) context =
-    Some (count_of (cookie_values name context.message.headers)) ∷ []
-occurrences_of (fetch.UrlParam name delim) context =
-    text_occurrences kind.Str (param_values name delim context.message.target)
+occurrences_of (fetch.ReqHdrCnt name) context = count_of (header_values name context.message) ∷ []
+occurrences_of (fetch.ReqCookCnt name) context = count_of (cookie_values name context.message) ∷ []
+occurrences_of fetch context = text_occurrences (fetch_kind fetch) (texts_of fetch context.message)
 
 -- Whether an expression takes the last occurrence of a fetch, and not the first: of the values and
 -- lines of a header, and of the cookies of a name.

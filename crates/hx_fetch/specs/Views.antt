@@ -3,8 +3,9 @@
 use Rattle.std.specs.Prelude.{ℕ, List, [], ◌∷◌, ◌++◌, Option}
 use Rattle.std.specs.List.{flat_map}
 use Rattle.std.specs.Option.{option_copied, option_to_list}
+use Rattle.std.specs.Str.{bytes_eq, str_eq_ignore_ascii_case}
 use Rattle.hx_lists.specs.HeaderValues.{hdr_values}
-use Rattle.hx_lists.specs.NamedValues.{cookies}
+use Rattle.hx_lists.specs.NamedValues.{NamedValue, cookies, params}
 use Rattle.hx_sample.specs.declared.sample.Value.{Value}
 use Rattle.hx_sample.specs.Seen.{occurrence_value}
 use Rattle.hx_fetch.specs.declared.lookup.Found.{Found}
@@ -17,15 +18,23 @@ use Rattle.hx_fetch.specs.declared.texts.TextSource.{TextSource}
 use Rattle.hx_fetch.specs.declared.texts.TextSource.TheVariants as source
 use Rattle.hx_fetch.specs.Fetches.{text_occurrences}
 use Rattle.hx_fetch.specs.Picks.{selection}
-use Rattle.hx_fetch.specs.Names.{header_lines, header_values, values_under, cookie_values, param_values}
+use Rattle.hx_fetch.specs.Names.{values_by, header_lines, header_values, cookie_values}
+
+-- the lines of a header among these, each as what follows the name
+abbrev pub lines_under : Option (List ℕ) → List NamedValue → List (List ℕ)
+lines_under name lines = values_by str_eq_ignore_ascii_case name lines
+
+-- the values of the cookies or parameters of a name among these
+abbrev pub values_under : Option (List ℕ) → List NamedValue → List (List ℕ)
+values_under name pairs = values_by bytes_eq name pairs
 
 -- the texts of a source
 abbrev pub source_texts : TextSource → List (List ℕ)
-source_texts (source.Lines message name) = header_lines (option_copied name) message.now.headers
-source_texts (source.Values message name) = header_values (option_copied name) message.now.headers
-source_texts (source.Cookies message name) = cookie_values (option_copied name) message.now.headers
+source_texts (source.Lines message name) = header_lines (option_copied name) message.now
+source_texts (source.Values message name) = header_values (option_copied name) message.now
+source_texts (source.Cookies message name) = cookie_values (option_copied name) message.now
 source_texts (source.Params message name delim) =
-    param_values (option_copied name) delim message.now.target
+    values_under (option_copied name) (params message.now.target delim)
 
 -- the texts that a header line is cut into; of cookies, those of the name
 abbrev pub texts_of_line : LineForm → Option (List ℕ) → List ℕ → List (List ℕ)

@@ -1,13 +1,16 @@
-ghost use Rattle.std.specs.Prelude.{◌≡◌, ℕ, List, [], ◌∷◌, drop, IfSome, IfNone};
+ghost use Rattle.std.specs.Prelude.{◌≡◌, ℕ, List, [], ◌∷◌, drop, true, IfSome, IfNone};
 ghost use Rattle.std.specs.Iterator.{YieldsFirstBy, item_count};
-ghost use Rattle.std.specs.Option.{option_copied};
-ghost use Rattle.hx_fetch.specs.Names.{is_header_name, header_lines};
+ghost use Rattle.std.specs.Option.{option_copied, option_map_or};
+ghost use Rattle.std.specs.Str.{str_eq_ignore_ascii_case};
+ghost use Rattle.hx_fetch.specs.Names.{header_lines};
+ghost use Rattle.hx_fetch.specs.Views.{lines_under};
 
 use hx_http::Message;
 use std::marker::Model;
 
 fn is_header_name(line_name: &[u8], name: Option<&[u8]>) -> bool
-    ensures { result ≡ is_header_name (option_copied name.entry) line_name.now }
+    ensures { result ≡ option_map_or (str_eq_ignore_ascii_case line_name.now)
+        (option_copied name.entry) true }
 {
     match name {
         Some(name) => line_name.eq_ignore_ascii_case(name),
@@ -28,12 +31,12 @@ impl<'f, 'w> Model for Lines<'f, 'w> {
     ghost Value = { List (List ℕ) };
 
     ghost view = { λ lines.
-        header_lines (option_copied lines.name) (drop lines.at lines.message.now.headers) };
+        lines_under (option_copied lines.name) (drop lines.at lines.message.now.headers) };
 }
 
 impl<'f, 'w> Lines<'f, 'w> {
     pub(crate) fn new(message: &'w Message, name: Option<&'f [u8]>) -> Lines<'f, 'w>
-        ensures { result ≡ header_lines (option_copied name.entry) message.now.headers }
+        ensures { result ≡ header_lines (option_copied name.entry) message.now }
     {
         Lines {
             message,
@@ -76,11 +79,11 @@ fn next_line<'w>(
     start: usize,
 ) -> Option<(&'w [u8], usize)>
     ensures none { IfNone result
-        (header_lines (option_copied name.entry) (drop start message.now.headers) ≡ []) }
+        (lines_under (option_copied name.entry) (drop start message.now.headers) ≡ []) }
     ensures some { IfSome result (λ found.
-        header_lines (option_copied name.entry) (drop start message.now.headers)
+        lines_under (option_copied name.entry) (drop start message.now.headers)
         ≡ found.0.now
-        ∷ header_lines (option_copied name.entry) (drop found.1 message.now.headers)) }
+        ∷ lines_under (option_copied name.entry) (drop found.1 message.now.headers)) }
 {
     for at in start..message.len() {
         if let Some((line_name, line)) = message.header(at) {

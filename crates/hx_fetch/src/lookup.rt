@@ -1,9 +1,9 @@
-ghost use Rattle.std.specs.Prelude.{◌≡◌, ◌++◌, IfOk, Some, codes, option_map};
+ghost use Rattle.std.specs.Prelude.{◌≡◌, ◌==◌, [], ◌++◌, IfOk, Some, codes, option_map, slice_get, unwrap_or, if◌then◌else◌};
 ghost use Rattle.std.specs.Option.{option_copied};
 ghost use Rattle.hx_sample.specs.declared.sample.Value.TheVariants as value;
 ghost use Rattle.hx_sample.specs.Seen.{bytes_of, occurrence_value};
 ghost use Rattle.hx_sample.specs.Vars.{var_of};
-ghost use Rattle.hx_fetch.specs.Fetches.{base_of, first_text, occurrences_of, version_text};
+ghost use Rattle.hx_fetch.specs.Fetches.{base_of, occurrences_of};
 ghost use Rattle.hx_fetch.specs.Names.{cookie_values, header_lines, header_values};
 ghost use Rattle.hx_fetch.specs.Views.{found_occurrences, source_texts};
 ghost use Rattle.hx_fetch.specs.World.{context_of};
@@ -27,13 +27,14 @@ pub(crate) enum Found<'f, 'w> {
 }
 
 fn version_text(minor: u8) -> &'static [u8]
-    ensures { result.now ≡ version_text minor }
+    ensures { result.now ≡ (if minor == 0 then codes "1.0" else codes "1.1") }
 {
     if minor == 0 { b"1.0" } else { b"1.1" }
 }
 
 fn host<'w>(message: &'w Message) -> &'w [u8]
-    ensures { result.now ≡ first_text (header_lines (Some (codes "Host")) message.now.headers) }
+    ensures { result.now
+        ≡ unwrap_or (slice_get (header_lines (Some (codes "Host")) message.now) 0) [] }
 {
     match Lines::new(message, Some(b"Host")).next() {
         Some(line) => line,
@@ -88,19 +89,19 @@ fn given_name(name: &Option<Octets>) -> Option<&[u8]>
 }
 
 fn values<'f, 'w>(message: &'w Message, name: &'f Octets) -> TextSource<'f, 'w>
-    ensures { source_texts result ≡ header_values (Some name.now) message.now.headers }
+    ensures { source_texts result ≡ header_values (Some name.now) message.now }
 {
     TextSource::Values(message, Some(name.as_slice()))
 }
 
 fn lines<'f, 'w>(message: &'w Message, name: &'f Octets) -> TextSource<'f, 'w>
-    ensures { source_texts result ≡ header_lines (Some name.now) message.now.headers }
+    ensures { source_texts result ≡ header_lines (Some name.now) message.now }
 {
     TextSource::Lines(message, Some(name.as_slice()))
 }
 
 fn cookies<'f, 'w>(message: &'w Message, name: &'f Option<Octets>) -> TextSource<'f, 'w>
-    ensures { source_texts result ≡ cookie_values name.now message.now.headers }
+    ensures { source_texts result ≡ cookie_values name.now message.now }
 {
     TextSource::Cookies(message, given_name(name))
 }

@@ -1,9 +1,9 @@
-ghost use Rattle.std.specs.Prelude.{◌≡◌, ℕ, Option, List, [], ◌∷◌, ◌++◌, IfSome, IfNone};
+ghost use Rattle.std.specs.Prelude.{◌≡◌, ℕ, Option, List, [], ◌∷◌, ◌++◌, true, IfSome, IfNone};
 ghost use Rattle.std.specs.Iterator.{YieldsFirstBy, item_count};
-ghost use Rattle.std.specs.Option.{option_copied};
-ghost use Rattle.hx_fetch.specs.Names.{is_pair_name, values_under};
 ghost use Rattle.std.specs.List.{flat_map};
-ghost use Rattle.hx_fetch.specs.Views.{source_texts, texts_of_line, texts_of_rest};
+ghost use Rattle.std.specs.Option.{option_copied, option_map_or};
+ghost use Rattle.std.specs.Str.{bytes_eq};
+ghost use Rattle.hx_fetch.specs.Views.{source_texts, texts_of_line, texts_of_rest, values_under};
 
 use crate::lines::Lines;
 use hx_http::Message;
@@ -38,7 +38,7 @@ pub(crate) enum LineRest<'w> {
 }
 
 fn is_pair_name(pair_name: &[u8], name: Option<&[u8]>) -> bool
-    ensures { result ≡ is_pair_name (option_copied name.entry) pair_name.now }
+    ensures { result ≡ option_map_or (bytes_eq pair_name.now) (option_copied name.entry) true }
 {
     match name {
         Some(name) => pair_name == name,

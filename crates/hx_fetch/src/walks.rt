@@ -1,4 +1,4 @@
-ghost use Rattle.std.specs.Prelude.{◌≡◌, ◌+◌, ◌-◌, ◌^◌, ◌≤◌, ◌<◌, ◌↔◌, min, pos, IsTrue, IfOk, length, drop, reverse, slice_get};
+ghost use Rattle.std.specs.Prelude.{◌≡◌, ◌+◌, ◌-◌, ◌^◌, ◌≤◌, ◌<◌, ◌↔◌, min, pos, Some, IsTrue, IfOk, length, drop, reverse, slice_get};
 ghost use Rattle.std.specs.Bool.{OnTrue};
 ghost use Rattle.std.specs.Option.{option_copied};
 ghost use Rattle.hx_sample.specs.Seen.{value_of};
@@ -113,7 +113,7 @@ fn text_count(source: TextSource<'_, '_>) -> u64
 
 /// How many texts there are. It saturates.
 pub(crate) fn count<'w>(source: TextSource<'_, '_>) -> Sample<'w>
-    ensures { value_of result ≡ count_of (source_texts source.entry) }
+    ensures { Some (value_of result) ≡ count_of (source_texts source.entry) }
 {
     Sample::Int(text_count(source).min(i64::MAX as u64) as i64)
 }

@@ -1,8 +1,11 @@
 use Rattle.std.proofs.Common.{◌≡◌, ◌++◌, take, drop, sym, ap, ◌∙◌}
+use Rattle.std.proofs.lemmas.Result.{IfOk-weaker}
 use Rattle.regex.specs.Bytes.{match_span}
 use Rattle.regex.specs.Patterns.{Re, find}
-use Rattle.hx_conv_text.specs.Substitution.{expansion_at, with_replaced}
-use Rattle.hx_conv_text.proofs.SubstitutionLemmas.{expansion-captured, first_made, whole_span}
+use Rattle.std.specs.Option.{option_to_list}
+use Rattle.regex.specs.Replace.{replaced_by}
+use Rattle.hx_conv_text.specs.Substitution.{expansion_at}
+use Rattle.hx_conv_text.proofs.SubstitutionLemmas.{expansion-captured, first_made, none_made, whole_span}
 use Rattle.hx_conv_text.proofs.substitution.with_first_replaced.Goals as goal
 
 pub returns-in-Some : goal.returns-in-Some
@@ -21,5 +24,14 @@ returns-in-Some c =
     ∙ ap (λ n. take n input ++ replacement ++ drop c.end.result input) c.start.ensures
     ∙ ap (λ n. take found.start input ++ replacement ++ drop n input) c.end.ensures
     ∙ first_made sub input replacement m (match_span found) whole (c.deref.ensures.value ∙ written)
-    ∙ ap (with_replaced (expansion_at sub input) input) (sym is)
-    ∙ ap (λ (re : Re). with_replaced (expansion_at sub input) input (find re input 0)) c.in_ok-matcher.ensures.pattern
+    ∙ ap (λ o. replaced_by (expansion_at sub input) input 0 (option_to_list o)) (sym is)
+    ∙ ap (λ (re : Re). replaced_by (expansion_at sub input) input 0 (option_to_list (find re input 0))) c.in_ok-matcher.ensures.pattern
+
+pub returns : goal.returns
+returns c =
+    let sub = c.args.sub.now in
+    let input = c.args.input.now in
+    let none = none_made (expansion_at sub input) input
+    ∙ ap (λ o. replaced_by (expansion_at sub input) input 0 (option_to_list o)) (sym c.in-None.ensures.found)
+    ∙ ap (λ (re : Re). replaced_by (expansion_at sub input) input 0 (option_to_list (find re input 0))) c.in_ok-matcher.ensures.pattern in
+    IfOk-weaker c.copy.result _ _ (λ made h. h ∙ none) c.copy.ensures

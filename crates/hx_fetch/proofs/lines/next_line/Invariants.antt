@@ -1,8 +1,8 @@
 use Rattle.std.proofs.Common.{◌≡◌, drop}
 use Rattle.std.specs.Option.{option_copied}
-use Rattle.hx_fetch.specs.Names.{header_lines}
+use Rattle.hx_fetch.specs.Views.{lines_under}
 use Rattle.hx_fetch.proofs.lines.next_line.Given as goal
 
 abbrev pub invariant-loop-at : goal.invariant-loop-at
 invariant-loop-at l =
-    header_lines (option_copied l.name) (drop l.at l.message.headers) ≡ header_lines (option_copied l.name) (drop l.fn.start l.message.headers)
+    lines_under (option_copied l.name) (drop l.at l.message.headers) ≡ lines_under (option_copied l.name) (drop l.fn.start l.message.headers)

@@ -1,6 +1,6 @@
 use Rattle.std.proofs.Common.{◌≡◌}
 use Rattle.std.specs.Option.{option_copied}
-use Rattle.hx_fetch.specs.Names.{values_under}
+use Rattle.hx_fetch.specs.Views.{values_under}
 use Rattle.hx_fetch.proofs.texts.next_param.Given as goal
 
 abbrev pub invariant-loop-found : goal.invariant-loop-found

@@ -1,6 +1,5 @@
 use Rattle.std.proofs.Common.{◌≡◌, ◌<◌, ◌-◌, ◌+◌, take, sym, ap, ◌∙◌, arith}
-use Rattle.hx_conv_text.specs.Pieces.{last_end}
-use Rattle.hx_conv_text.specs.Scanning.{pieces_left}
+use Rattle.hx_conv_text.specs.Scanning.{last_end, pieces_left}
 use Rattle.hx_conv_text.proofs.PieceLemmas.{take_next}
 use Rattle.hx_conv_text.proofs.pieces.Pieces.end_after.Goals as goal
 

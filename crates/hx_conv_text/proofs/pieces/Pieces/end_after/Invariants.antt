@@ -1,6 +1,5 @@
 use Rattle.std.proofs.Common.{◌≡◌, ◌+◌, ◌-◌, ◌≤◌, length, take}
-use Rattle.hx_conv_text.specs.Pieces.{last_end}
-use Rattle.hx_conv_text.specs.Scanning.{pieces_left}
+use Rattle.hx_conv_text.specs.Scanning.{last_end, pieces_left}
 use Rattle.hx_conv_text.proofs.pieces.Pieces.end_after.Given as goal
 
 abbrev pub invariant-loop-i : goal.invariant-loop-i

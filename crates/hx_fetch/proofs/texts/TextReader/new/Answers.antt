@@ -14,4 +14,4 @@ returns-in-Lines c = rw c.in-Lines.is (c.of_lines.ensures ∙ joined_alone c.new
 pub returns-in-Cookies : goal.returns-in-Cookies
 returns-in-Cookies c =
     let name = option_copied c.in-Cookies.name in
-    rw c.in-Cookies.is (c.of_lines-in-Cookies.ensures ∙ ap (flat_map (texts_of_line form.Cookies name)) c.new-in-Cookies.ensures ∙ cookies_by_line name (header_lines (Some (codes "Cookie")) c.in-Cookies.message.now.headers))
+    rw c.in-Cookies.is (c.of_lines-in-Cookies.ensures ∙ ap (flat_map (texts_of_line form.Cookies name)) c.new-in-Cookies.ensures ∙ cookies_by_line name (header_lines (Some (codes "Cookie")) c.in-Cookies.message.now))
