@@ -4,8 +4,8 @@ use Rattle.std.specs.Prelude.{Option, Some, slice_get, slice_index_or, Result, O
 use Rattle.std.proofs.lemmas.Option.{slice_get-map, slice_get_read}
 use Rattle.hx_outside.specs.Makers.{ExpressionText, MakerState}
 use Rattle.hx_sample.specs.Tables.{TableHead}
-use Rattle.hx_refs.specs.Additions.{addition_fault, version_fault, AdditionAsksFor, CountsLarge, Pair, VersionAsksFor}
-use Rattle.hx_refs.specs.Kept.{kept_demands, shown_references, AreKept, AreRead, Kept}
+use Rattle.hx_refs.specs.Additions.{addition_fault, AdditionAsksFor, CountsLarge, Pair, VersionAsksFor}
+use Rattle.hx_refs.specs.Kept.{kept_demands, shown_references, version_fault, AreKept, AreRead, Kept}
 use Rattle.hx_refs.specs.References.{version_of, Reference}
 use Rattle.hx_refs.specs.Uses.{uses_of, Use}
 use Rattle.hx_refs.specs.declared.fault.RefFault.{RefFault}

@@ -79,8 +79,8 @@ resolution_from number word side position (reference ∷ references) =
     (resolution_from number word side (position + 1) references)
 
 resolved_from : (number : Option ℕ) (word : List ℕ) (side : Side) (position : ℕ) (references : List Reference)
-    → option_map_or (λ reference. answer (position + position_or_len (is_named number word) references) (side_fault side reference))
-    (slice_get references (position_or_len (is_named number word) references)) (Err UnknownRef)
+    → answer (position + position_or_len (is_named number word) references)
+    (option_map_or (side_fault side) (slice_get references (position_or_len (is_named number word) references)) (Some UnknownRef))
     ≡ resolution_from number word side position references
 resolved_from number word side position [] = refl
 resolved_from number word side position (reference ∷ references) = elim (cases_Bool (is_named number word reference)) [

@@ -3,12 +3,12 @@ use Rattle.std.proofs.Common.{◌≡◌, ℕ, suc, ◌+◌, ◌-◌, ◌≤◌, 
 use Rattle.std.specs.Prelude.{Option, None, Some, Result, Ok, Err, IfOk, sum, map}
 use Rattle.std.proofs.lemmas.Bool.{cases_Bool, cases_eq, le-leb}
 use Rattle.std.proofs.lemmas.List.{length-map}
-use Rattle.hx_refs.specs.Additions.{new_entries, with_entries, with_pairs, Pair}
+use Rattle.hx_refs.specs.Additions.{new_entries, with_pairs, Pair}
 use Rattle.hx_refs.specs.Changes.{with_version}
 use Rattle.hx_refs.specs.Kept.{shown_entries, shown_entry}
 use Rattle.hx_refs.specs.References.{version_entries, version_of, version_place, Reference, Version}
 use Rattle.hx_refs.specs.Uses.{Use}
-use Rattle.hx_refs.specs.Versions.{total_count, version_numbered, versions_between, with_added, AreCounted, AreNumbered, AreReadEach, Changes, ChangesVersion, HasVersion, IsDropped, IsKept}
+use Rattle.hx_refs.specs.Versions.{total_count, version_numbered, versions_between, with_added, with_new_entries, AreCounted, AreNumbered, AreReadEach, Changes, ChangesVersion, HasVersion, IsDropped, IsKept}
 use Rattle.hx_refs.specs.declared.judging.Added.{Added}
 use Rattle.hx_refs.specs.declared.versions.KeptVersion.{KeptVersion}
 use Rattle.hx_refs.proofs.VersionLemmas.{changed_between, committed_between, counted_drop, dropped_numbers, entries_counted, numbered_to, read_drop, same_versions, version_at}
@@ -66,16 +66,15 @@ pub pairs_shown : (reference : Reference) (number : ℕ) (pairs : List Pair) (ad
     → added.serial ≡ (version_numbered number old).serial + length pairs
     → record reference { versions = versions_between reference.curr reference.next new } ≡ with_pairs (Some number) pairs reference
 pairs_shown reference number pairs added old new is all has changes entries serial =
-    let same : reference.curr + (number - reference.curr) ≡ number = omega (arith, has.0) in
     let change = changes reference.curr reference.next all has.0 has.1 in
-    let pairs_change : ChangesVersion reference.curr reference.next number (with_entries number pairs) old new = record {
+    let pairs_change : ChangesVersion reference.curr reference.next number (with_new_entries number pairs) old new = record {
       numbers = change.numbers;
       changed = rw (← entries, ← serial) change.changed;
       others = change.others;
     } in
-    rw (place_within reference number has, is, same)
+    rw (place_within reference number has, is)
     (ap (λ (versions : List Version). record reference { versions = versions })
-    (changed_between reference.curr reference.next number (with_entries number pairs) old new has.0 has.1 pairs_change))
+    (changed_between reference.curr reference.next number (with_new_entries number pairs) old new has.0 has.1 pairs_change))
 
 -- what is kept stays so
 pub kept_after : (uses : List Use) (curr next number : ℕ) (change : Version → Version) (old new : List KeptVersion)

@@ -1,21 +1,22 @@
 -- What changes of lists, as rules ask for them, make of the references, and what they answer.
-use Rattle.std.proofs.Common.{◌≡◌, ℕ, ◌+◌, ◌*◌, ◌^◌, ◌<◌, ◌==◌, Bool, true, false, List, [], ◌∷◌, length, refl, ap, sym, arith, inl, inr}
-use Rattle.std.specs.Prelude.{Option, None, Some, slice_get, slice_set, Result, Ok, Err, if◌then◌else◌, ⊤}
+use Rattle.std.proofs.Common.{◌≡◌, ℕ, ◌+◌, ◌*◌, ◌^◌, ◌<◌, ◌==◌, Bool, true, false, List, [], ◌∷◌, length, map, refl, ap, sym, ◌∙◌, arith, inl, inr}
+use Rattle.std.specs.Prelude.{Option, None, Some, slice_get, slice_set, Result, Ok, Err, OnOk, OnErr, if◌then◌else◌, ⊤}
 use Rattle.std.specs.List.{list_any}
 use Rattle.std.specs.Option.{option_map_or}
 use Rattle.std.proofs.lemmas.Bool.{cases_Bool, eqb-true}
 use Rattle.std.proofs.lemmas.List.{map-set, set-get_or}
 use Rattle.std.proofs.lemmas.Option.{slice_get-map, slice_get_cases, get_or_from_slice_get}
 use Rattle.hx_outside.specs.Makers.{ExpressionText, MakerState}
-use Rattle.hx_sample.specs.Changes.{has_key, is_fit, without_chosen, ChangeCountsLarge, ChangesFit, ChangesList, HasNewValue, HasOneMore, IsChanged, IsReadBy, ListChange, Addition, Removal, NewValue}
+use Rattle.hx_sample.specs.Changes.{has_key, is_fit, with_value, without_chosen, ChangeCountsLarge, ChangesFit, ChangesList, HasNewValue, HasOneMore, IsChanged, IsReadBy, ListChange, Addition, Removal, NewValue}
 use Rattle.hx_sample.specs.Find.{Entry}
 use Rattle.hx_sample.specs.Tables.{TableHead}
-use Rattle.hx_refs.specs.Additions.{addition_fault, after_addition, demands_on, with_entries, with_pairs, AdditionAsksFor, CountsLarge, Demands, IsReadAs, Pair, VersionAsksFor}
-use Rattle.hx_refs.specs.Changes.{after_change_of_value, after_deletion, deletion_fault, fault_at, fault_unless, value_fault, with_reference, with_values, with_version, without_entries}
-use Rattle.hx_refs.specs.References.{changed_at, searched_lists, version_entries, version_of, Reference, References, Version}
+use Rattle.hx_refs.specs.Additions.{addition_fault, after_addition, demands_on, with_pairs, AdditionAsksFor, CountsLarge, Demands, IsReadAs, Pair, VersionAsksFor}
+use Rattle.hx_refs.specs.Changes.{after_change_of_value, after_deletion, answer, deletion_fault, fault_at, fault_unless, value_fault, with_entries}
+use Rattle.hx_refs.specs.References.{changed_at, searched_lists, version_entries, version_of, with_reference, Reference, References, Version}
 use Rattle.hx_refs.specs.TableAnswers.{table_answer}
-use Rattle.hx_refs.specs.TableChanges.{after_fit_change, is_key_of, unless_refused, with_new_value, with_pair}
+use Rattle.hx_refs.specs.TableChanges.{after_fit_change, is_key_of, unless_refused, with_pair}
 use Rattle.hx_refs.specs.Uses.{uses_from}
+use Rattle.hx_refs.specs.Versions.{changed_entries, with_new_entries}
 use Rattle.hx_refs.specs.declared.fault.RefFault.{RefFault}
 use Rattle.hx_refs.specs.declared.fault.RefFault.TheVariants.{UnknownRef, BadVersion, KeyNotFound, BadPattern, BadValue, NeedsMap, UsedAsMap, VersionFull, VersionWorn, NoMoreVersions, TooLarge, NoMemory}
 use Rattle.hx_refs.proofs.ListLemmas.{get_set_same}
@@ -108,7 +109,7 @@ lists_with : (refs : References) (r : ℕ) (reference : Reference) (change : Ref
 lists_with refs r reference change is =
     rw is (map-set {A = Reference} {B = List Entry} (λ x. version_entries x None) refs.references r (change reference))
 
-set_same : (xs : List (List Entry)) (r : ℕ) (x : List Entry) → slice_get xs r ≡ Some x → slice_set xs r x ≡ xs
+set_same : {A : Type 0} → (xs : List A) (r : ℕ) (x : A) → slice_get xs r ≡ Some x → slice_set xs r x ≡ xs
 set_same xs r x is = rw (get_or_from_slice_get xs r x x is) at (set-get_or xs r x)
 
 changed_list : (asked : ListChange) (xs : List (List Entry)) (r : ℕ) (before after : List Entry) → slice_get xs r ≡ Some before
@@ -124,17 +125,17 @@ abbrev first_of : List Version → List Entry
 first_of versions = option_map_or (λ version. version.entries) (slice_get versions 0) []
 
 one_more : (number : ℕ) (pair : Pair) (versions : List Version)
-    → HasOneMore pair.key pair.value (first_of versions) (first_of (changed_at 0 (with_entries number (pair ∷ [])) versions))
+    → HasOneMore pair.key pair.value (first_of versions) (first_of (changed_at 0 (with_new_entries number (pair ∷ [])) versions))
 one_more number pair [] = inl refl
 one_more number pair (version ∷ versions) = inr (number * 2 ^ 32 + (version.serial + 1), refl)
 
 new_values : (key value : List ℕ) (versions : List Version)
-    → HasNewValue key value (first_of versions) (first_of (changed_at 0 (with_values (has_key key) value) versions))
+    → HasNewValue key value (first_of versions) (first_of (changed_at 0 (changed_entries (map (with_value (has_key key) value))) versions))
 new_values key value [] = inl refl
 new_values key value (version ∷ versions) = inr refl
 
 fewer : (key : List ℕ) (versions : List Version)
-    → first_of (changed_at 0 (without_entries (has_key key)) versions) ≡ without_chosen (has_key key) (first_of versions)
+    → first_of (changed_at 0 (changed_entries (without_chosen (has_key key))) versions) ≡ without_chosen (has_key key) (first_of versions)
 fewer key [] = refl
 fewer key (version ∷ versions) = refl
 
@@ -171,7 +172,7 @@ paired refs r asked pair reference is suits = go (addition_fault refs r None (pa
         (changed_list asked (searched_lists refs) r (version_entries reference None)
         (version_entries (with_pairs None (pair ∷ []) reference) None) (list_at refs r reference is)
         (suits (version_entries (with_pairs None (pair ∷ []) reference) None)
-        (one_more (reference.curr + 0) pair reference.versions)))
+        (one_more reference.curr pair reference.versions)))
 
 -- an entry has the key where one of the reference has it
 key_here : (refs : References) (r : ℕ) (key : List ℕ) (reference : Reference) → slice_get refs.references r ≡ Some reference
@@ -195,28 +196,47 @@ none_by : (here : Bool) (fault : RefFault) → Some fault ≡ fault_unless here 
 none_by true fault is = absurd (cc)
 none_by false fault is = refl
 
+-- a removal that chooses no entry changes nothing
+none_deleted : (test : Entry → Bool) (versions : List Version) → list_any test (first_of versions) ≡ false
+    → changed_at 0 (changed_entries (without_chosen test)) versions ≡ versions
+none_deleted test [] none = refl
+none_deleted test (version ∷ versions) none =
+    ap (λ (entries : List Entry). record version { entries = entries } ∷ versions) (sym (none_chosen test version.entries none))
+
+unchanged : (refs : References) (r : ℕ) (test : Entry → Bool) (found : Option Reference) (fault : RefFault) → slice_get refs.references r ≡ found
+    → Some fault ≡ fault_at refs r (deletion_fault test) → refs ≡ after_deletion refs r test
+unchanged refs r test None fault is refused = absurd (cc (rw is at refused))
+unchanged refs r test (Some reference) fault is refused =
+    let none = none_by (list_any test (version_entries reference None)) fault (rw is at refused) in
+    let same : with_entries None (without_chosen test) reference ≡ reference =
+    ap (λ (versions : List Version). record reference { versions = versions }) (none_deleted test reference.versions none) in
+    rw (is, same) (ap (λ (references : List Reference). record refs { references = references }) (sym (set_same refs.references r reference is)))
+
+refusal : {T : Type 0} (x : T) (own : Option RefFault) (fault : RefFault) → Err fault ≡ answer x own → Some fault ≡ own
+refusal x None fault is = absurd (cc)
+refusal x (Some other) fault is = cc
+
+-- so a removal is done, whatever is answered
+pub deleted : (a : Result ⊤ RefFault) (old new : References) (r : ℕ) (test : Entry → Bool)
+    → a ≡ answer tt (fault_at old r (deletion_fault test)) → OnOk a (new ≡ after_deletion old r test) → OnErr a (new ≡ old)
+    → new ≡ after_deletion old r test
+deleted (Ok x) old new r test is done kept = done
+deleted (Err fault) old new r test is done kept =
+    let x : ⊤ = tt in
+    kept ∙ unchanged old r test (slice_get old.references r) fault refl (refusal x (fault_at old r (deletion_fault test)) fault is)
+
 removed : (refs : References) (r : ℕ) (key : List ℕ) (reference : Reference) → slice_get refs.references r ≡ Some reference
     → ChangesFit true r (Removal key) (searched_lists refs) (searched_lists (after_fit_change refs r (Removal key)))
 removed refs r key reference is =
-    let same : fault_at refs r (deletion_fault (has_key key)) ≡ deletion_fault (has_key key) reference = rw is refl in
-    go (fault_at refs r (deletion_fault (has_key key))) same
-  where
-    go : (own : Option RefFault) → own ≡ deletion_fault (has_key key) reference
-        → ChangesFit true r (Removal key) (searched_lists refs)
-        (searched_lists (unless_refused own (after_deletion refs r (has_key key)) refs))
-    go (Some fault) own =
-        same_list (Removal key) (searched_lists refs) r (version_entries reference None) (list_at refs r reference is)
-        (none_chosen (has_key key) (version_entries reference None)
-        (none_by (list_any (has_key key) (version_entries reference None)) fault own))
-    go None own =
-        rw (lists_with refs r reference (with_version None (without_entries (has_key key))) is)
-        (changed_list (Removal key) (searched_lists refs) r (version_entries reference None)
-        (version_entries (with_version None (without_entries (has_key key)) reference) None) (list_at refs r reference is)
-        (fewer key reference.versions))
+    rw (lists_with refs r reference (with_entries None (without_chosen (has_key key))) is)
+    (changed_list (Removal key) (searched_lists refs) r (version_entries reference None)
+    (version_entries (with_entries None (without_chosen (has_key key)) reference) None) (list_at refs r reference is)
+    (fewer key reference.versions))
 
 valued : (refs : References) (r : ℕ) (key value : List ℕ) (reference : Reference) → slice_get refs.references r ≡ Some reference
     → list_any (has_key key) (version_entries reference None) ≡ true
-    → ChangesFit true r (NewValue key value) (searched_lists refs) (searched_lists (with_new_value refs r key value))
+    → ChangesFit true r (NewValue key value) (searched_lists refs)
+    (searched_lists (unless_refused (fault_at refs r (value_fault (has_key key) value)) (after_change_of_value refs r (has_key key) value) refs))
 valued refs r key value reference is here = go (fault_at refs r (value_fault (has_key key) value))
   where
     go : (own : Option RefFault)
@@ -226,9 +246,9 @@ valued refs r key value reference is here = go (fault_at refs r (value_fault (ha
         same_list (NewValue key value) (searched_lists refs) r (version_entries reference None) (list_at refs r reference is)
         (rw here (inl refl))
     go None =
-        rw (lists_with refs r reference (with_version None (with_values (has_key key) value)) is)
+        rw (lists_with refs r reference (with_entries None (map (with_value (has_key key) value))) is)
         (changed_list (NewValue key value) (searched_lists refs) r (version_entries reference None)
-        (version_entries (with_version None (with_values (has_key key) value) reference) None) (list_at refs r reference is)
+        (version_entries (with_entries None (map (with_value (has_key key) value)) reference) None) (list_at refs r reference is)
         (rw here (new_values key value reference.versions)))
 
 set_or_added : (refs : References) (r : ℕ) (key value : List ℕ) (reference : Reference) → slice_get refs.references r ≡ Some reference
@@ -237,7 +257,8 @@ set_or_added refs r key value reference is = go (is_key_of refs r key) (key_here
   where
     go : (here : Bool) → here ≡ list_any (has_key key) (version_entries reference None)
         → ChangesFit true r (NewValue key value) (searched_lists refs)
-        (searched_lists (if here then with_new_value refs r key value else with_pair refs r (record { key = key; value = value })))
+        (searched_lists (if here then unless_refused (fault_at refs r (value_fault (has_key key) value)) (after_change_of_value refs r (has_key key) value) refs
+        else with_pair refs r (record { key = key; value = value })))
     go true here = valued refs r key value reference is (sym here)
     go false none =
         paired refs r (NewValue key value) (record { key = key; value = value }) reference is (λ after more. rw (← none) more)

@@ -4,9 +4,9 @@ use Rattle.std.specs.Prelude.{Some, is_some, slice_get, slice_index_or, if◌the
 use Rattle.std.proofs.lemmas.Bool.{cases_Bool, eqb-true, eq-eqb}
 use Rattle.std.proofs.lemmas.Option.{slice_get_read}
 use Rattle.hx_text.specs.declared.kinds.By.{By}
-use Rattle.hx_text.specs.declared.kinds.By.TheVariants as by
+use Rattle.hx_text.proofs.MethodLemmas.{same_method}
 use Rattle.hx_sample.specs.Tables.{TableHead}
-use Rattle.hx_refs.specs.Uses.{Use, is_use, method_place, ordered_methods, use_place, use_with, uses_from, uses_of}
+use Rattle.hx_refs.specs.Uses.{Use, is_use, use_place, use_with, uses_from, uses_of}
 
 -- ---- one more head
 
@@ -71,31 +71,6 @@ known_use number (g ∷ heads) (suc i) h is =
     ]
 
 -- ---- a use is by the method and the case that it is looked for by
-
-abbrev methods_in_places : List By
-methods_in_places = ordered_methods ++ by.Found ∷ by.Bool ∷ []
-
-method_in_place : (method : By) → slice_get methods_in_places (method_place method) ≡ Some method
-method_in_place by.Found = refl
-method_in_place by.Bool = refl
-method_in_place by.Int = refl
-method_in_place by.Ip = refl
-method_in_place by.Bin = refl
-method_in_place by.Len = refl
-method_in_place by.Str = refl
-method_in_place by.Beg = refl
-method_in_place by.End = refl
-method_in_place by.Sub = refl
-method_in_place by.Dir = refl
-method_in_place by.Dom = refl
-method_in_place by.Reg = refl
-
-same_method : (a b : By) → method_place a ≡ method_place b → a ≡ b
-same_method a b same =
-    let first : slice_get methods_in_places (method_place a) ≡ Some a = method_in_place a in
-    let second : slice_get methods_in_places (method_place b) ≡ Some b = method_in_place b in
-    let both : Some a ≡ Some b = sym first ∙ ap (λ n. slice_get methods_in_places n) same ∙ second in
-    cc
 
 same_place : (a b : By) (c d : Bool) → use_place a c ≡ use_place b d → (a ≡ b) × (c ≡ d)
 same_place a b true true same = (same_method a b (omega arith), refl)

@@ -3,81 +3,57 @@
 -- `prepare map`, `commit map`, and the same of `acl`).
 use Rattle.std.specs.Prelude.{◌≡◌, ℕ, ◌+◌, ◌-◌, ◌==◌, ◌&&◌, nat_le, nat_lt, Bool, not, List, [], ◌∷◌, ◌++◌, map, drop, slice_get, Option, None, Some, Result, Ok, Err, if◌then◌else◌, ⊤}
 use Rattle.std.specs.List.{list_any}
-use Rattle.std.specs.Option.{option_map_or}
+use Rattle.std.specs.Option.{option_map_or, option_or}
 use Rattle.hx_sample.specs.Find.{Entry}
 use Rattle.hx_sample.specs.Changes.{with_value, without_chosen}
 use Rattle.hx_refs.specs.declared.fault.RefFault.{RefFault}
 use Rattle.hx_refs.specs.declared.fault.RefFault.TheVariants.{BadVersion, KeyNotFound, BadValue, NoMoreVersions, NoMemory}
 use Rattle.hx_refs.specs.declared.limits.Limits.{Limits}
-use Rattle.hx_refs.specs.Additions.{first_fault, refuses_value}
-use Rattle.hx_refs.specs.References.{changed_at, empty_version, version_entries, version_place, Reference, References, Version}
-
--- ---- entries
+use Rattle.hx_refs.specs.References.{changed_at, empty_version, refuses_value, version_entries, version_place, with_reference, Reference, References, Version}
 
 -- the entry has the number
 abbrev pub has_number : ℕ → Entry → Bool
 has_number number entry = entry.number == number
-
--- ---- a version
-
--- the version without the entries that a test chooses; its serial number stays
-abbrev pub without_entries : (Entry → Bool) → Version → Version
-without_entries test version =
-    record version { entries = without_chosen test version.entries }
-
--- the version in which the entries that a test chooses have the value
-abbrev pub with_values : (Entry → Bool) → List ℕ → Version → Version
-with_values test value version =
-    record version { entries = map (with_value test value) version.entries }
-
--- the version without entries; its serial number stays
-abbrev pub cleared : Version → Version
-cleared version = record version { entries = [] }
 
 -- ---- a reference
 
 -- The reference, with a change of one of its versions: that of a number, or without one that which
 -- is searched. A number outside those of its versions changes nothing.
 abbrev pub with_version : Option ℕ → (Version → Version) → Reference → Reference
-with_version number change reference =
-    option_map_or
-    (λ place. record reference { versions = changed_at place change reference.versions })
-    (version_place reference number) reference
+with_version number change old =
+    option_map_or (λ place. record old { versions = changed_at place change old.versions })
+    (version_place old number) old
+
+-- the same, with a change of the entries of the version; its serial number stays
+abbrev pub with_entries : Option ℕ → (List Entry → List Entry) → Reference → Reference
+with_entries number change reference =
+    with_version number (λ version. record version { entries = change version.entries }) reference
 
 -- the reference, with one version more, to which nothing was added
 abbrev pub with_new_version : Reference → Reference
-with_new_version reference = record reference {
-  next = reference.next + 1;
-  versions = reference.versions ++ empty_version ∷ [];
-}
+with_new_version old =
+    record old { next = old.next + 1; versions = old.versions ++ empty_version ∷ [] }
 
 -- the reference, with the version of a number as the one that is searched; those below it are
 -- dropped
 abbrev pub with_current_version : ℕ → Reference → Reference
-with_current_version number reference = record reference {
-  curr = number;
-  versions = drop (number - reference.curr) reference.versions;
-}
+with_current_version number old =
+    record old { curr = number; versions = drop (number - old.curr) old.versions }
 
 -- ---- the references
 
--- the references, with a change of the one at a position
-abbrev pub with_reference : ℕ → (Reference → Reference) → References → References
-with_reference r change refs =
-    record refs { references = changed_at r change refs.references }
-
 -- without the entries that a test chooses in the version that is searched
 abbrev pub after_deletion : References → ℕ → (Entry → Bool) → References
-after_deletion refs r test = with_reference r (with_version None (without_entries test)) refs
+after_deletion refs r test = with_reference r (with_entries None (without_chosen test)) refs
 
 -- with the value in the entries that a test chooses in the version that is searched
 abbrev pub after_change_of_value : References → ℕ → (Entry → Bool) → List ℕ → References
 after_change_of_value refs r test value =
-    with_reference r (with_version None (with_values test value)) refs
+    with_reference r (with_entries None (map (with_value test value))) refs
 
 -- without the entries of a version
 abbrev pub after_clearing : References → ℕ → Option ℕ → References
-after_clearing refs r number = with_reference r (with_version number cleared) refs
+after_clearing refs r number = with_reference r (with_entries number (λ _. [])) refs
 
 abbrev pub after_preparation : References → ℕ → References
 after_preparation refs r = with_reference r with_new_version refs
@@ -99,7 +75,7 @@ deletion_fault test reference =
 -- a change of a value: the same, or else that an output can't read the value
 abbrev pub value_fault : (Entry → Bool) → List ℕ → Reference → Option RefFault
 value_fault test value reference =
-    first_fault (deletion_fault test reference)
+    option_or (deletion_fault test reference)
     (fault_unless (not (refuses_value reference.outputs value)) BadValue)
 
 -- a preparation: the last version that there may be is prepared
@@ -120,13 +96,11 @@ fault_at refs r fault = option_map_or fault (slice_get refs.references r) None
 
 -- the number of the version that a preparation makes
 abbrev pub prepared_version : References → ℕ → ℕ
-prepared_version refs r =
-    option_map_or (λ reference. reference.next + 1) (slice_get refs.references r) 0
+prepared_version refs r = option_map_or (λ old. old.next + 1) (slice_get refs.references r) 0
 
 -- the fault, if there is one, and else the value
 abbrev pub answer : {T : Type 0} → T → Option RefFault → Result T RefFault
-answer value None = Ok value
-answer value (Some fault) = Err fault
+answer value fault = option_map_or Err fault (Ok value)
 
 -- Whether a fault may come where the change has this fault of its own, or none: its own, or out of
 -- memory.

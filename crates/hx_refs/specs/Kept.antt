@@ -8,11 +8,11 @@ use Rattle.hx_match.specs.Patterns.{PatternText}
 use Rattle.hx_sample.specs.declared.sample.Value.{Value}
 use Rattle.hx_sample.specs.Find.{Entry, by_network, hitting_entries, nearness}
 use Rattle.hx_sample.specs.Tables.{TableHead}
-use Rattle.hx_refs.specs.Additions.{new_entries, Demands, Pair}
+use Rattle.hx_refs.specs.Additions.{new_entries, pairs_fault, Demands, Pair}
 use Rattle.hx_refs.specs.declared.fault.RefFault.{RefFault}
-use Rattle.hx_refs.specs.declared.fault.RefFault.TheVariants.{BadPattern}
+use Rattle.hx_refs.specs.declared.fault.RefFault.TheVariants.{BadPattern, BadVersion}
 use Rattle.hx_refs.specs.declared.limits.Limits.{Limits}
-use Rattle.hx_refs.specs.References.{version_of, Reference}
+use Rattle.hx_refs.specs.References.{version_of, Reference, Version}
 use Rattle.hx_refs.specs.Uses.{Use, uses_of}
 use Rattle.hx_refs.specs.declared.searching.Search.{Search}
 use Rattle.hx_refs.specs.declared.stored.Stored.{Stored}
@@ -91,6 +91,12 @@ kept_demands kept limits = record {
   outputs = kept.shown.outputs;
   limits = limits;
 }
+
+-- why the pairs aren't added to a version, if there is one
+abbrev pub version_fault : Demands → Option Version → List Pair → Option RefFault
+version_fault demands version pairs =
+    option_map_or (λ v. pairs_fault demands (length v.entries) v.serial pairs) version
+    (Some BadVersion)
 
 -- entries and a serial number are those that the pairs become in the version of a number
 abbrev pub IsAdded : Kept → ℕ → List Pair → List Entry → ℕ → Type 0

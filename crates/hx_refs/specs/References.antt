@@ -1,9 +1,11 @@
 -- What the references of a configuration are: lists of patterns and maps, with their versions and
 -- entries (HAProxy management guide 2.4, section 9.3, `add acl`, `add map`, `prepare acl`).
-use Rattle.std.specs.Prelude.{◌≡◌, ℕ, ◌+◌, ◌-◌, ◌*◌, ◌^◌, ◌&&◌, nat_le, Bool, true, false, List, [], ◌∷◌, ◌++◌, length, map, sum, slice_get, slice_set, Option, None, Some, IfSome, option_and_then, if◌then◌else◌, ⊤}
+use Rattle.std.specs.Prelude.{◌≡◌, ℕ, ◌-◌, ◌&&◌, ◌||◌, nat_le, Bool, true, false, List, [], ◌∷◌, ◌++◌, length, map, sum, slice_get, slice_set, Option, None, Some, is_none, IfSome, option_and_then, if◌then◌else◌, ⊤}
 use Rattle.std.specs.Option.{option_map_or}
 use Rattle.hx_text.specs.declared.kinds.Out.{Out}
 use Rattle.hx_text.specs.declared.kinds.Out.TheVariants as out
+use Rattle.hx_text.specs.Address.{ip_of}
+use Rattle.hx_text.specs.Number.{int_of}
 use Rattle.hx_sample.specs.Find.{Entry}
 use Rattle.hx_sample.specs.Tables.{TableHead}
 use Rattle.hx_refs.specs.declared.limits.Limits.{Limits}
@@ -41,9 +43,6 @@ pub record References : Type 0 where
 
 -- ---- parts of a reference
 
-abbrev pub no_outputs : Outputs
-no_outputs = record { as_int = false; as_ip = false }
-
 -- a version to which nothing was added
 abbrev pub empty_version : Version
 empty_version = record { serial = 0; entries = [] }
@@ -52,10 +51,6 @@ empty_version = record { serial = 0; entries = [] }
 abbrev pub AreEmpty : List Version → Type 0
 AreEmpty [] = ⊤
 AreEmpty (version ∷ versions) = (version ≡ empty_version) × AreEmpty versions
-
--- the number of an entry, of its version and its serial number
-abbrev pub entry_number : ℕ → ℕ → ℕ
-entry_number version serial = version * 2 ^ 32 + serial
 
 -- where a version stands among those of a reference: that of a number, or without one that which is
 -- searched; none for a number outside those of its versions
@@ -67,12 +62,17 @@ version_place reference (Some number) =
 
 abbrev pub version_of : Reference → Option ℕ → Option Version
 version_of reference number =
-    option_and_then (λ place. slice_get reference.versions place) (version_place reference number)
+    option_and_then (slice_get reference.versions) (version_place reference number)
 
 -- the entries of a version, and none where the reference has no such version
 abbrev pub version_entries : Reference → Option ℕ → List Entry
 version_entries reference number =
     option_map_or (λ version. version.entries) (version_of reference number) []
+
+-- an output can't read the value
+abbrev pub refuses_value : Outputs → List ℕ → Bool
+refuses_value outputs value =
+    outputs.as_int && is_none (int_of value) || outputs.as_ip && is_none (ip_of value)
 
 -- what is told of a reference; its entries are counted in all versions
 abbrev pub info_of : Reference → RefInfo
@@ -118,7 +118,7 @@ new_reference id file two_column acl = record {
   file = file;
   two_column = two_column;
   acl = acl;
-  outputs = no_outputs;
+  outputs = record { as_int = false; as_ip = false };
   curr = 0;
   next = 0;
   versions = empty_version ∷ [];
@@ -133,6 +133,10 @@ with_new refs id file two_column acl =
 abbrev pub changed_at : {A : Type 0} → ℕ → (A → A) → List A → List A
 changed_at at change xs = option_map_or (λ x. slice_set xs at (change x)) (slice_get xs at) xs
 
+-- the references, with a change of the one at a position
+abbrev pub with_reference : ℕ → (Reference → Reference) → References → References
+with_reference r change refs = record refs { references = changed_at r change refs.references }
+
 -- the outputs with one more
 abbrev pub with_output : Out → Outputs → Outputs
 with_output out.Str outputs = outputs
@@ -142,8 +146,4 @@ with_output out.Ip outputs = record outputs { as_ip = true }
 -- the references, with one more output of the one at a position
 abbrev pub after_output : References → ℕ → Out → References
 after_output refs r out =
-    record refs {
-      references = changed_at r
-          (λ reference. record reference { outputs = with_output out reference.outputs })
-          refs.references;
-    }
+    with_reference r (λ old. record old { outputs = with_output out old.outputs }) refs

@@ -2,6 +2,7 @@
 use Rattle.std.specs.Prelude.{◌≡◌, ◌≢◌, ℕ, zero, suc, ◌+◌, ◌-◌, ◌≤◌, ◌<◌, ◌==◌, Bool, List, [], ◌∷◌, ◌++◌, length, drop, slice_get, Option, Some, if◌then◌else◌, ⊤}
 use Rattle.std.specs.Option.{option_map_or}
 use Rattle.hx_sample.specs.Find.{Entry}
+use Rattle.hx_refs.specs.Additions.{new_entries, Pair}
 use Rattle.hx_refs.specs.Changes.{has_number}
 use Rattle.hx_sample.specs.Changes.{has_key}
 use Rattle.hx_refs.specs.Kept.{shown_entries, AreRead, TakePatterns}
@@ -125,6 +126,17 @@ abbrev pub Changes : ℕ → (Version → Version) → List KeptVersion → List
 Changes number change old new =
     (first last : ℕ) → AreNumbered first last old → first ≤ number → number ≤ last
     → ChangesVersion first last number change old new
+
+-- the version, with a change of its entries; its serial number stays
+abbrev pub changed_entries : (List Entry → List Entry) → Version → Version
+changed_entries change version = record version { entries = change version.entries }
+
+-- a version, with the pairs as its last entries; `number` is its number
+abbrev pub with_new_entries : ℕ → List Pair → Version → Version
+with_new_entries number pairs version = record {
+  serial = version.serial + length pairs;
+  entries = version.entries ++ new_entries number version.serial pairs;
+}
 
 -- so many of the versions have smaller numbers, and they are dropped
 abbrev pub IsDropped : ℕ → List KeptVersion → List KeptVersion → Type 0

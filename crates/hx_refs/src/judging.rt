@@ -1,7 +1,8 @@
 ghost use Rattle.std.specs.Prelude.{◌≡◌, ◌≢◌, ◌+◌, List, [], ◌∷◌, ◌++◌, false, None, is_some, length, IfOk, IfErr, OnOk};
 ghost use Rattle.hx_match.specs.Patterns.{text_fault};
-ghost use Rattle.hx_refs.specs.Additions.{new_entries, pairs_fault, refuses_key, refuses_value, CountsLarge, IsReadAs, MayRefuse, PairsAskFor};
+ghost use Rattle.hx_refs.specs.Additions.{new_entries, pairs_fault, refuses_key, CountsLarge, IsReadAs, MayRefuse, PairsAskFor};
 ghost use Rattle.hx_refs.specs.Kept.{key_fault, kept_demands, pattern_texts, shown_entries, shown_entry, AreRead, TakePatterns};
+ghost use Rattle.hx_refs.specs.References.{refuses_value};
 ghost use Rattle.hx_refs.specs.Uses.{Use};
 
 use crate::fault::RefFault;
@@ -116,11 +117,11 @@ pub(crate) fn new_entries<M: ReMaker>(
     ensures serial { IfOk result (λ added. added.serial ≡ serial + length pairs.now) }
     ensures read { IfOk result (λ added. AreRead reference.now.uses added.entries.items) }
     ensures none { OnOk result (pairs_fault (kept_demands reference.now limits)
-        (record { count = count; serial = serial }) pairs.now ≡ None) }
+        count serial pairs.now ≡ None) }
     ensures refused { IfErr result (MayRefuse (pairs_fault (kept_demands reference.now limits)
-        (record { count = count; serial = serial }) pairs.now)) }
+        count serial pairs.now)) }
     ensures large { CountsLarge result (PairsAskFor (kept_demands reference.now limits)
-        (record { count = count; serial = serial }) pairs.now)
+        count serial pairs.now)
         (record { too_large = M.too_large maker.old; large = M.large maker.old })
         (record { too_large = M.too_large maker.new; large = M.large maker.new }) }
 {

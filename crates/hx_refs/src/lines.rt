@@ -1,8 +1,8 @@
-ghost use Rattle.std.specs.Prelude.{◌≡◌, ◌≤◌, [], ◌∷◌, ◌++◌, length, IfOk, OnOk, OnErr, option_to_list, not};
+ghost use Rattle.std.specs.Prelude.{◌≡◌, ◌≤◌, ◌==◌, ◌||◌, [], ◌∷◌, ◌++◌, length, IfOk, OnOk, OnErr, option_to_list, not, if◌then◌else◌};
 ghost use Rattle.std.specs.List.{prefix_len, suffix_len};
-ghost use Rattle.hx_base.specs.Bytes.{is_blank};
-ghost use Rattle.hx_refs.specs.FileLines.{after_blanks, before_line_end, is_lost_at_end};
-ghost use Rattle.hx_refs.specs.FileLines.{key_length, line_pair, pair_of, text_pairs};
+ghost use Rattle.hx_base.specs.Bytes.{ascii, is_blank};
+ghost use Rattle.hx_refs.specs.FileLines.{after_blanks, before_line_end, key_alone, key_and_value};
+ghost use Rattle.hx_refs.specs.FileLines.{key_end, line_pair, text_pairs};
 
 use crate::pairs::Pairs;
 use hx_text::{NoMemory, cut_at};
@@ -15,7 +15,7 @@ fn is_blank(byte: u8) -> bool
 }
 
 fn is_lost_at_end(byte: u8) -> bool
-    ensures { result ≡ is_lost_at_end byte }
+    ensures { result ≡ (is_blank byte || byte == ascii "\r") }
 {
     is_blank(byte) || byte == b'\r'
 }
@@ -30,7 +30,7 @@ fn leading_blanks(text: &[u8]) -> usize
 
 #[tactic(auto, using(std::proofs::lemmas::Grind::common_steps, crate::proofs::LineLemmas::ends))]
 fn trailing_bytes(text: &[u8]) -> usize
-    ensures value { result ≡ suffix_len is_lost_at_end text.now }
+    ensures value { result ≡ suffix_len (λ b. is_blank b || b == ascii "\r") text.now }
     ensures within { result ≤ length text.now }
 {
     text.iter()
@@ -41,7 +41,7 @@ fn trailing_bytes(text: &[u8]) -> usize
 
 #[tactic(auto, using(std::proofs::lemmas::Grind::common_steps, crate::proofs::LineLemmas::ends))]
 fn key_length(text: &[u8]) -> usize
-    ensures value { result ≡ key_length text.now }
+    ensures value { result ≡ key_end text.now }
     ensures within { result ≤ length text.now }
 {
     text.iter().take_while(|b| !is_blank(**b)).count()
@@ -99,7 +99,8 @@ impl Pairs {
     }
 
     fn push_columns(&mut self, text: &[u8], two_column: bool) -> Result<(), NoMemory>
-        ensures ok { OnOk result (self.new ≡ self.old ++ pair_of two_column text.now ∷ []) }
+        ensures ok { OnOk result (self.new ≡ self.old
+            ++ (if two_column then key_and_value text.now else key_alone text.now) ∷ []) }
         ensures err { OnErr result (self.new ≡ self.old) }
     {
         if two_column {

@@ -1,14 +1,15 @@
-ghost use Rattle.std.specs.Prelude.{◌≡◌, ◌≢◌, ℕ, ◌+◌, ◌^◌, ◌<◌, ◌++◌, min, [], ◌∷◌, List, slice_get, true, Option, Some, None, is_some, IfOk, IfErr, IfSome, IfNone, OnOk, OnErr, option_map};
+ghost use Rattle.std.specs.Prelude.{◌≡◌, ◌≢◌, ℕ, ◌+◌, ◌^◌, ◌<◌, ◌++◌, map, min, unwrap_or, [], ◌∷◌, List, slice_get, true, false, Option, Some, None, is_some, IfOk, IfErr, IfSome, IfNone, OnOk, OnErr, option_map};
 ghost use Rattle.std.specs.List.{list_any};
-ghost use Rattle.std.specs.Option.{option_copied};
-ghost use Rattle.hx_sample.specs.Changes.{has_key};
+ghost use Rattle.std.specs.Option.{option_copied, option_map_or};
+ghost use Rattle.std.specs.Str.{bytes_eq};
+ghost use Rattle.hx_sample.specs.Changes.{has_key, with_value, without_chosen};
 ghost use Rattle.hx_sample.specs.Find.{found_entry};
 ghost use Rattle.hx_sample.specs.Seen.{value_of};
-ghost use Rattle.hx_refs.specs.Additions.{pair_fault, version_fault, with_pairs, CountsLarge, IsReadAs, MayRefuse, Pair, VersionAsksFor};
-ghost use Rattle.hx_refs.specs.Changes.{answer, cleared, commit_fault, deletion_fault, preparation_fault, value_fault, with_current_version, with_new_version, with_values, with_version, without_entries, MayFail};
-ghost use Rattle.hx_refs.specs.Kept.{kept_demands, pattern_texts, shown_entries, shown_entry, AreRead, IsAdded};
-ghost use Rattle.hx_refs.specs.Naming.{has_file, is_named, side_fault};
-ghost use Rattle.hx_refs.specs.References.{entry_number, info_of, new_reference, version_entries, version_of, version_place, with_output, AreEmpty};
+ghost use Rattle.hx_refs.specs.Additions.{new_entry, pair_fault, with_pairs, CountsLarge, IsReadAs, MayRefuse, Pair, VersionAsksFor};
+ghost use Rattle.hx_refs.specs.Changes.{answer, commit_fault, deletion_fault, preparation_fault, value_fault, with_current_version, with_entries, with_new_version, MayFail};
+ghost use Rattle.hx_refs.specs.Kept.{kept_demands, pattern_texts, shown_entries, shown_entry, version_fault, AreRead, IsAdded};
+ghost use Rattle.hx_refs.specs.Naming.{is_named, side_fault};
+ghost use Rattle.hx_refs.specs.References.{info_of, new_reference, version_entries, version_of, version_place, with_output, AreEmpty};
 ghost use Rattle.hx_refs.specs.Uses.{use_parts, use_with, uses_in_order};
 ghost use Rattle.hx_refs.specs.Versions.{is_chosen, HasVersion};
 
@@ -176,6 +177,8 @@ impl KeptReference {
         ensures place { IfSome result (λ number. version_place self.now.shown ver
             ≡ version_place self.now.shown (Some number)) }
         ensures version { IfSome result (HasVersion self.now.shown) }
+        ensures given { IfSome result (λ number.
+            unwrap_or ver self.now.shown.curr ≡ number) }
     {
         match ver {
             None => Some(self.curr),
@@ -245,19 +248,16 @@ impl KeptReference {
         pair: &KeptPair,
         maker: &mut M,
     ) -> Result<Stored, RefFault>
-        ensures entry { IfOk result (λ stored. shown_entry stored ≡ record {
-          number = entry_number version (serial + 1);
-          key = pair.now.key;
-          value = pair.now.value;
-        }) }
+        ensures entry { IfOk result (λ stored.
+            shown_entry stored ≡ new_entry version (serial + 1, pair.now)) }
         ensures read { IfOk result (λ stored.
             stored.patterns.items ≡ pattern_texts self.now.uses stored.key) }
         ensures none { OnOk result (pair_fault (kept_demands self.now limits)
-            (record { count = count; serial = serial }) pair.now ≡ None) }
+            count serial pair.now ≡ None) }
         ensures count { OnOk result (count < limits.entries) }
         ensures serial { OnOk result (serial < limits.adds) }
         ensures refused { IfErr result (MayRefuse (pair_fault (kept_demands self.now limits)
-            (record { count = count; serial = serial }) pair.now)) }
+            count serial pair.now)) }
         ensures large { CountsLarge result (IsReadAs self.now.uses pair.now.key)
             (record { too_large = M.too_large maker.old; large = M.large maker.old })
             (record { too_large = M.too_large maker.new; large = M.large maker.new }) }
@@ -359,7 +359,7 @@ impl KeptReference {
         ensures answer { result
             ≡ answer tt (deletion_fault (is_chosen choice.now) self.old.shown) }
         ensures ok { OnOk result (self.new ≡ record self.old {
-          shown = with_version None (without_entries (is_chosen choice.now)) self.old.shown;
+          shown = with_entries None (without_chosen (is_chosen choice.now)) self.old.shown;
         }) }
         ensures err { OnErr result (self.new ≡ self.old) }
     {
@@ -379,7 +379,7 @@ impl KeptReference {
         value: &[u8],
     ) -> Result<(), RefFault>
         ensures ok { OnOk result (self.new ≡ record self.old {
-          shown = with_version None (with_values (is_chosen choice.now) value.now)
+          shown = with_entries None (map (with_value (is_chosen choice.now) value.now))
               self.old.shown;
         }) }
         ensures none { OnOk result
@@ -405,7 +405,7 @@ impl KeptReference {
         value: &[u8],
     ) -> Result<(), NoMemory>
         ensures ok { OnOk result (self.new ≡ record self.old {
-          shown = with_version None (with_values (is_chosen choice.now) value.now)
+          shown = with_entries None (map (with_value (is_chosen choice.now) value.now))
               self.old.shown;
         }) }
         ensures err { OnErr result (self.new ≡ self.old) }
@@ -416,7 +416,7 @@ impl KeptReference {
     /// Removes the entries of a version. One that the reference hasn't changes nothing.
     pub(crate) fn clear(&mut self, ver: Option<u32>)
         ensures { self.new
-            ≡ record self.old { shown = with_version ver cleared self.old.shown } }
+            ≡ record self.old { shown = with_entries ver (λ _. []) self.old.shown } }
     {
         if let Some(number) = self.number(ver) {
             clear(&mut self.versions, number);
@@ -473,7 +473,8 @@ impl KeptReference {
     }
 
     fn has_file(&self, name: &[u8]) -> bool
-        ensures { result ≡ has_file name.now self.now.shown }
+        ensures { result
+            ≡ option_map_or (λ file. bytes_eq file name.now) self.now.shown.file false }
     {
         match &self.file {
             Some(file) => file.as_slice() == name,

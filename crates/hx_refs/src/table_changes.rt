@@ -1,7 +1,8 @@
 ghost use Rattle.std.specs.Prelude.{◌≡◌, ◌<◌, [], length, OnOk, OnErr};
-ghost use Rattle.hx_sample.specs.Changes.{change_of, is_entry_key, is_entry_text, is_fit, Addition, ChangeAsksFor, ChangeCountsLarge, IsReadBy, NewValue, Removal};
+ghost use Rattle.hx_sample.specs.Changes.{change_of, has_key, is_entry_key, is_entry_text, is_fit, Addition, ChangeAsksFor, ChangeCountsLarge, IsReadBy, NewValue, Removal};
+ghost use Rattle.hx_refs.specs.Changes.{after_deletion};
 ghost use Rattle.hx_refs.specs.TableAnswers.{table_answer};
-ghost use Rattle.hx_refs.specs.TableChanges.{after_fit_change, with_pair, without_key};
+ghost use Rattle.hx_refs.specs.TableChanges.{after_fit_change, with_pair};
 
 use crate::fault::RefFault;
 use crate::refs::Refs;
@@ -88,7 +89,7 @@ impl Refs {
     /// Removes all entries with the key from the version that is searched.
     fn delete_all(&mut self, r: u32, key: &[u8])
         requires { r < length self.old.references }
-        ensures { self.new ≡ without_key self.old r key.now }
+        ensures { self.new ≡ after_deletion self.old r (has_key key.now) }
     {
         // Where no entry has the key there is nothing to remove.
         let _ = self.del_key(r, key);

@@ -26,22 +26,11 @@ impl Model for KeptUse {
 fn use_place(by: By, ci: bool) -> u32
     ensures { result ≡ use_place by ci }
 {
-    let method = match by {
-        By::Int => 0,
-        By::Ip => 1,
-        By::Bin => 2,
-        By::Len => 3,
-        By::Str => 4,
-        By::Beg => 5,
-        By::End => 6,
-        By::Sub => 7,
-        By::Dir => 8,
-        By::Dom => 9,
-        By::Reg => 10,
-        By::Found => 11,
-        By::Bool => 12,
-    };
-    if ci { 2 * method + 1 } else { 2 * method }
+    if ci {
+        2 * by.number() + 1
+    } else {
+        2 * by.number()
+    }
 }
 
 /// The use by a method and a case.

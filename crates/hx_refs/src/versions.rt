@@ -1,9 +1,9 @@
-ghost use Rattle.std.specs.Prelude.{◌≡◌, ℕ, ◌+◌, ◌<◌, ◌≤◌, ◌^◌, ◌++◌, List, length, OnOk, OnErr, IfSome, MatchOption};
+ghost use Rattle.std.specs.Prelude.{◌≡◌, ℕ, ◌+◌, ◌<◌, ◌≤◌, ◌^◌, ◌++◌, List, [], length, map, OnOk, OnErr, IfSome, MatchOption};
 ghost use Rattle.std.specs.Option.{option_copied};
-ghost use Rattle.hx_refs.specs.Changes.{cleared, with_values, without_entries};
+ghost use Rattle.hx_sample.specs.Changes.{with_value, without_chosen};
 ghost use Rattle.hx_refs.specs.Kept.{shown_entries, AreRead};
 ghost use Rattle.hx_refs.specs.Uses.{Use};
-ghost use Rattle.hx_refs.specs.Versions.{is_chosen, shown_or_empty, shown_version, total_count, version_numbered, with_added, AreCounted, AreNumbered, AreReadEach, Changes, IsAbsent, IsDropped, IsPlace, StandsAt};
+ghost use Rattle.hx_refs.specs.Versions.{changed_entries, is_chosen, shown_or_empty, shown_version, total_count, version_numbered, with_added, AreCounted, AreNumbered, AreReadEach, Changes, IsAbsent, IsDropped, IsPlace, StandsAt};
 
 use crate::choice::{Choice, delete_chosen, set_chosen};
 use crate::judging::Added;
@@ -192,7 +192,8 @@ pub(crate) fn append(
 
 /// Removes the entries of the version of a number.
 pub(crate) fn clear(versions: &mut Vec<KeptVersion>, number: u32)
-    ensures changes { Changes number cleared versions.old.items versions.new.items }
+    ensures changes { Changes number (changed_entries (λ _. []))
+        versions.old.items versions.new.items }
     ensures read { (uses : List Use) → AreReadEach uses versions.old.items
         → AreReadEach uses versions.new.items }
     ensures counted { AreCounted versions.old.items → AreCounted versions.new.items }
@@ -205,7 +206,7 @@ pub(crate) fn clear(versions: &mut Vec<KeptVersion>, number: u32)
 
 /// Removes the entries that are chosen from the version of a number.
 pub(crate) fn delete(versions: &mut Vec<KeptVersion>, number: u32, choice: &Choice<'_>)
-    ensures changes { Changes number (without_entries (is_chosen choice.now))
+    ensures changes { Changes number (changed_entries (without_chosen (is_chosen choice.now)))
         versions.old.items versions.new.items }
     ensures read { (uses : List Use) → AreReadEach uses versions.old.items
         → AreReadEach uses versions.new.items }
@@ -225,7 +226,8 @@ pub(crate) fn set(
     choice: &Choice<'_>,
     value: &[u8],
 ) -> Result<(), NoMemory>
-    ensures ok { OnOk result (Changes number (with_values (is_chosen choice.now) value.now)
+    ensures ok { OnOk result (Changes number
+        (changed_entries (map (with_value (is_chosen choice.now) value.now)))
         versions.old.items versions.new.items) }
     ensures err { OnErr result
         (Changes number (λ version. version) versions.old.items versions.new.items) }

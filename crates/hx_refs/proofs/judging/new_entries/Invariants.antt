@@ -12,11 +12,11 @@ invariant-loop-rest g l =
       serial : l.serial + length l.rest ≡ l.fn.serial + length l.pairs;
       read : AreRead l.reference.uses l.entries.items;
       fault :
-          pairs_fault demands (record { count = l.count; serial = l.serial }) l.rest
-          ≡ pairs_fault demands (record { count = l.fn.count; serial = l.fn.serial }) l.pairs;
+          pairs_fault demands l.count l.serial l.rest
+          ≡ pairs_fault demands l.fn.count l.fn.serial l.pairs;
       asked : (text : ExpressionText)
-          → PairsAskFor demands (record { count = l.count; serial = l.serial }) l.rest text
-          → PairsAskFor demands (record { count = l.fn.count; serial = l.fn.serial }) l.pairs text;
+          → PairsAskFor demands l.count l.serial l.rest text
+          → PairsAskFor demands l.fn.count l.fn.serial l.pairs text;
       too_large : g.M.ReMaker.too_large l.maker ≡ g.M.ReMaker.too_large l.fn.maker;
       large : g.M.ReMaker.large l.maker ≡ g.M.ReMaker.large l.fn.maker;
     }

@@ -1,6 +1,6 @@
 use Rattle.std.proofs.Common.{arith, refl}
-use Rattle.hx_refs.specs.Changes.{without_entries}
-use Rattle.hx_refs.specs.Versions.{is_chosen}
+use Rattle.hx_sample.specs.Changes.{without_chosen}
+use Rattle.hx_refs.specs.Versions.{changed_entries, is_chosen}
 use Rattle.hx_refs.proofs.VersionLemmas.{changed_at_place, changes_none, counted_set, read_set}
 use Rattle.hx_refs.proofs.versions.delete.Goals as goal
 
@@ -8,7 +8,7 @@ pub returns-in-Some-clause-changes : goal.returns-in-Some-clause-changes
 returns-in-Some-clause-changes c =
     let v = c.index_mut-version.result.now in
     changed_at_place c.args.number c.in-Some.place c.args.versions.now.items v
-    (record { number = v.number; serial = v.serial; entries = c.delete_chosen.new.entries }) (without_entries (is_chosen c.args.choice.now))
+    (record { number = v.number; serial = v.serial; entries = c.delete_chosen.new.entries }) (changed_entries (without_chosen (is_chosen c.args.choice.now)))
     (rw c.as_slice.ensures.value at c.in-Some.ensures.stands) c.index_mut-version.ensures.value refl
     (rw c.delete_chosen.ensures.shown refl)
 
@@ -30,5 +30,5 @@ returns-in-Some-clause-counted c =
 
 pub returns-in_default-clause-changes : goal.returns-in_default-clause-changes
 returns-in_default-clause-changes c =
-    changes_none c.args.number c.args.versions.now.items (without_entries (is_chosen c.args.choice.now))
+    changes_none c.args.number c.args.versions.now.items (changed_entries (without_chosen (is_chosen c.args.choice.now)))
     (rw c.as_slice.ensures.value at c.in_default.ensures.stands) refl

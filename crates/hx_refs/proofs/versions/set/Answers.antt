@@ -1,7 +1,7 @@
-use Rattle.std.proofs.Common.{refl}
+use Rattle.std.proofs.Common.{map, refl}
 use Rattle.std.proofs.lemmas.Result.{on_ok_weaker}
-use Rattle.hx_refs.specs.Changes.{with_values}
-use Rattle.hx_refs.specs.Versions.{is_chosen}
+use Rattle.hx_sample.specs.Changes.{with_value}
+use Rattle.hx_refs.specs.Versions.{changed_entries, is_chosen}
 use Rattle.hx_refs.proofs.VersionLemmas.{changed_at_place, changes_none, counted_set, either, on_err, read_set}
 use Rattle.hx_refs.proofs.versions.set.Goals as goal
 
@@ -11,7 +11,7 @@ returns-in-Some-clause-ok c =
     on_ok_weaker c.set_chosen.result
     (λ shown. changed_at_place c.args.number c.in-Some.place c.args.versions.now.items v
     (record { number = v.number; serial = v.serial; entries = c.set_chosen.new.entries })
-    (with_values (is_chosen c.args.choice.now) c.args.value.now)
+    (changed_entries (map (with_value (is_chosen c.args.choice.now) c.args.value.now)))
     (rw c.as_slice.ensures.value at c.in-Some.ensures.stands) c.index_mut-version.ensures.value refl
     (rw shown refl))
     c.set_chosen.ensures.ok
@@ -46,5 +46,5 @@ returns-in-Some-clause-counted c =
 
 pub returns-clause-ok : goal.returns-clause-ok
 returns-clause-ok c =
-    changes_none c.args.number c.args.versions.now.items (with_values (is_chosen c.args.choice.now) c.args.value.now)
+    changes_none c.args.number c.args.versions.now.items (changed_entries (map (with_value (is_chosen c.args.choice.now) c.args.value.now)))
     (rw c.as_slice.ensures.value at c.in_default.ensures.stands) refl

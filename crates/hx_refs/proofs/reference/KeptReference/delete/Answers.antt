@@ -1,8 +1,8 @@
 use Rattle.std.proofs.Common.{ap, arith, refl}
 use Rattle.std.specs.Prelude.{None}
-use Rattle.hx_refs.specs.Changes.{without_entries}
+use Rattle.hx_sample.specs.Changes.{without_chosen}
 use Rattle.hx_refs.specs.References.{Reference}
-use Rattle.hx_refs.specs.Versions.{is_chosen}
+use Rattle.hx_refs.specs.Versions.{changed_entries, is_chosen}
 use Rattle.hx_refs.specs.contracts.reference.KeptReference.{the_view}
 use Rattle.hx_refs.proofs.ReferenceLemmas.{change_shown, kept_after, searched_place}
 use Rattle.hx_refs.proofs.reference.KeptReference.delete.Goals as goal
@@ -10,7 +10,7 @@ use Rattle.hx_refs.proofs.reference.KeptReference.delete.Goals as goal
 pub invariant_of-self : goal.invariant_of-self
 invariant_of-self c =
     let inside = c.self.inside in
-    kept_after inside.uses.items inside.curr inside.next inside.curr (without_entries (is_chosen c.args.choice.now)) inside.versions.items
+    kept_after inside.uses.items inside.curr inside.next inside.curr (changed_entries (without_chosen (is_chosen c.args.choice.now))) inside.versions.items
     c.delete.new.versions.items c.self.invariant (omega arith) c.self.invariant.order c.delete.ensures.changes
     (c.delete.ensures.read inside.uses.items c.self.invariant.read) (c.delete.ensures.counted c.self.invariant.counted)
 
@@ -19,6 +19,6 @@ returns-clause-ok c =
     let inside = c.self.inside in
     rw (← c.self.view_is)
     (ap (λ (s : Reference). record { shown = s; uses = inside.uses.items })
-    (change_shown (the_view inside).shown None inside.curr (without_entries (is_chosen c.args.choice.now)) inside.versions.items
+    (change_shown (the_view inside).shown None inside.curr (changed_entries (without_chosen (is_chosen c.args.choice.now))) inside.versions.items
     c.delete.new.versions.items refl c.self.invariant.numbers (omega arith, c.self.invariant.order)
     (searched_place (the_view inside).shown c.self.invariant.order) c.delete.ensures.changes))

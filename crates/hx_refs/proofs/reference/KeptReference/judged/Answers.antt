@@ -49,6 +49,6 @@ returns-clause-large g c =
     let serial = (rw c.as_slice.ensures.value at c.filling_of-count.ensures.serial) c.self.inside.curr c.self.inside.next c.self.invariant.numbers in
     let demands = kept_demands c.args.self.now c.args.limits in
     asked_wider c.new_entries.result
-    (PairsAskFor demands (record { count = c.filling_of-count.result.0; serial = c.filling_of-count.result.1 }) c.args.pairs.now)
+    (PairsAskFor demands c.filling_of-count.result.0 c.filling_of-count.result.1 c.args.pairs.now)
     (VersionAsksFor demands (version_of reference (Some c.args.number)) c.args.pairs.now)
     _ _ (λ text asked. rw (here, ← count, ← serial) asked) c.new_entries.ensures.large

@@ -1,9 +1,9 @@
-use Rattle.std.proofs.Common.{ap, arith, refl}
+use Rattle.std.proofs.Common.{ap, arith, map, refl}
 use Rattle.std.specs.Prelude.{None}
 use Rattle.std.proofs.lemmas.Result.{on_ok_weaker}
-use Rattle.hx_refs.specs.Changes.{with_values}
+use Rattle.hx_sample.specs.Changes.{with_value}
 use Rattle.hx_refs.specs.References.{Reference}
-use Rattle.hx_refs.specs.Versions.{is_chosen}
+use Rattle.hx_refs.specs.Versions.{changed_entries, is_chosen}
 use Rattle.hx_refs.specs.contracts.reference.KeptReference.{the_view}
 use Rattle.hx_refs.proofs.ReferenceLemmas.{change_shown, kept_after, searched_place, unchanged_between}
 use Rattle.hx_refs.proofs.VersionLemmas.{either, on_err}
@@ -16,7 +16,7 @@ invariant_of-self c =
     let counted = c.set.ensures.counted c.self.invariant.counted in
     either c.set.result
     (λ changes. kept_after inside.uses.items inside.curr inside.next inside.curr
-    (with_values (is_chosen c.args.choice.now) c.args.value.now) inside.versions.items c.set.new.versions.items c.self.invariant
+    (changed_entries (map (with_value (is_chosen c.args.choice.now) c.args.value.now))) inside.versions.items c.set.new.versions.items c.self.invariant
     (omega arith) c.self.invariant.order changes read counted)
     (λ same. kept_after inside.uses.items inside.curr inside.next inside.curr (λ version. version) inside.versions.items
     c.set.new.versions.items c.self.invariant (omega arith) c.self.invariant.order same read counted)
@@ -28,7 +28,7 @@ returns-clause-ok c =
     rw (← c.self.view_is)
     (on_ok_weaker c.set.result
     (λ changes. ap (λ (s : Reference). record { shown = s; uses = inside.uses.items })
-    (change_shown (the_view inside).shown None inside.curr (with_values (is_chosen c.args.choice.now) c.args.value.now)
+    (change_shown (the_view inside).shown None inside.curr (changed_entries (map (with_value (is_chosen c.args.choice.now) c.args.value.now)))
     inside.versions.items c.set.new.versions.items refl c.self.invariant.numbers (omega arith, c.self.invariant.order)
     (searched_place (the_view inside).shown c.self.invariant.order) changes))
     c.set.ensures.ok)

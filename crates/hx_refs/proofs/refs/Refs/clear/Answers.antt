@@ -1,6 +1,6 @@
-use Rattle.std.proofs.Common.{ap}
+use Rattle.std.proofs.Common.{[], ap}
 use Rattle.std.proofs.lemmas.List.{length-map}
-use Rattle.hx_refs.specs.Changes.{cleared, with_version}
+use Rattle.hx_refs.specs.Changes.{with_entries}
 use Rattle.hx_refs.proofs.KeptLemmas.{changed_shown}
 use Rattle.hx_refs.proofs.refs.Refs.clear.Goals as goal
 
@@ -10,5 +10,5 @@ returns c =
     let within = rw (length-map kept (λ k. k.shown)) at (rw (← c.self.view_is) at c.requires) in
     rw (← c.self.view_is)
     (ap (λ references. record { limits = c.self.inside.limits; heads = c.self.inside.heads.items; references = references })
-    (changed_shown kept c.args.r c.index_mut-reference.result.now c.clear.new.self (with_version c.args.ver cleared)
+    (changed_shown kept c.args.r c.index_mut-reference.result.now c.clear.new.self (with_entries c.args.ver (λ _. []))
     within c.index_mut-reference.ensures.value (ap (λ k. k.shown) c.clear.ensures)))

@@ -2,7 +2,8 @@ use Rattle.std.proofs.Common.{ap}
 use Rattle.std.proofs.lemmas.List.{length-map}
 use Rattle.std.proofs.lemmas.Result.{on_ok_weaker}
 use Rattle.std.specs.Prelude.{None}
-use Rattle.hx_refs.specs.Changes.{with_version, without_entries}
+use Rattle.hx_sample.specs.Changes.{without_chosen}
+use Rattle.hx_refs.specs.Changes.{with_entries}
 use Rattle.hx_refs.specs.Versions.{is_chosen}
 use Rattle.hx_refs.proofs.KeptLemmas.{changed_shown}
 use Rattle.hx_refs.proofs.refs.Refs.delete.Goals as goal
@@ -14,6 +15,6 @@ returns-clause-ok c =
     rw (← c.self.view_is)
     (on_ok_weaker c.delete.result
     (λ same. ap (λ references. record { limits = c.self.inside.limits; heads = c.self.inside.heads.items; references = references })
-    (changed_shown kept c.args.r c.index_mut-reference.result.now c.delete.new.self (with_version None (without_entries (is_chosen c.args.choice.now)))
+    (changed_shown kept c.args.r c.index_mut-reference.result.now c.delete.new.self (with_entries None (without_chosen (is_chosen c.args.choice.now)))
     within c.index_mut-reference.ensures.value (ap (λ k. k.shown) same)))
     c.delete.ensures.ok)

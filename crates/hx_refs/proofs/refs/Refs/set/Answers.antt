@@ -1,8 +1,9 @@
-use Rattle.std.proofs.Common.{ap}
+use Rattle.std.proofs.Common.{ap, map}
 use Rattle.std.proofs.lemmas.List.{length-map}
 use Rattle.std.proofs.lemmas.Result.{on_ok_weaker}
 use Rattle.std.specs.Prelude.{None}
-use Rattle.hx_refs.specs.Changes.{value_fault, with_values, with_version}
+use Rattle.hx_sample.specs.Changes.{with_value}
+use Rattle.hx_refs.specs.Changes.{value_fault, with_entries}
 use Rattle.hx_refs.specs.Versions.{is_chosen}
 use Rattle.hx_refs.proofs.KeptLemmas.{changed_shown, fault_here}
 use Rattle.hx_refs.proofs.refs.Refs.set.Goals as goal
@@ -14,7 +15,7 @@ returns-clause-ok c =
     rw (← c.self.view_is)
     (on_ok_weaker c.set.result
     (λ same. ap (λ references. record { limits = c.self.inside.limits; heads = c.self.inside.heads.items; references = references })
-    (changed_shown kept c.args.r c.index_mut-reference.result.now c.set.new.self (with_version None (with_values (is_chosen c.args.choice.now) c.args.value.now))
+    (changed_shown kept c.args.r c.index_mut-reference.result.now c.set.new.self (with_entries None (map (with_value (is_chosen c.args.choice.now) c.args.value.now)))
     within c.index_mut-reference.ensures.value (ap (λ k. k.shown) same)))
     c.set.ensures.ok)
 
