@@ -16,7 +16,7 @@ use Rattle.hx_spell.specs.declared.action_table.BareAction.TheVariants as bare
 use Rattle.hx_spell.specs.declared.action_table.FileAction.TheVariants as file
 use Rattle.hx_spell.specs.declared.action_table.VariableAction.TheVariants as variable
 use Rattle.hx_spell.specs.declared.fault.SpellFault.{SpellFault}
-use Rattle.hx_spell.specs.ActionRelation.{IsCall, IsName, IsStatusWord, SpellAction, SpellNumber, SpellRedirect, TakesFileFormat, TakesFormat, TakesHeaderFormat, TakesReplacement, kind_text, switch_text, word_if}
+use Rattle.hx_spell.specs.ActionRelation.{IsCall, IsName, IsStatusWord, SpellAction, SpellNumber, SpellRedirect, TakesFileFormat, TakesFormat, TakesHeaderFormat, TakesReplacement, kind_text}
 use Rattle.hx_spell.specs.ActionRelation.SpellAction.{AllowWords, DenyWords, FormatWords, HeaderFormatWords, DelHeaderWords, ReplacementWords, SetVarWords, UnsetVarWords, FileFormatWords, SetMapWords, RedirectWords, StrictModeWords}
 use Rattle.hx_spell.specs.Actions.{ActionHead, BareAction, FileAction, Bare, OfFile, OfVariable, action_words, bare_words, changes_map, expr_word, file_words, first_word, format_word, head_of_step, head_reading, header_word, is_status_word, kind_table, kind_word, optional_word, plain_word, redirect_status_of, redirect_taken, status_of, switch_table, taken, text_word, with_format, with_header_format, with_redirect, with_replacement, with_status, with_two_formats, word_and_value}
 use Rattle.hx_spell.specs.Arguments.{◌>>=◌}
@@ -32,6 +32,14 @@ use Rattle.hx_spell.proofs.ActionSteps.{IsCodeWord, after_format, after_header, 
 use Rattle.hx_spell.proofs.ExpressionLemmas.{expr_law}
 use Rattle.hx_spell.proofs.FormatReadLemmas.{format_read}
 use Rattle.hx_spell.proofs.ResultLemmas.{then_ok}
+
+-- ---- words that may be there
+
+abbrev pub word_if : Bool → List ℕ → List (List ℕ)
+word_if there word = if there then word ∷ [] else []
+
+abbrev pub switch_text : Bool → List ℕ
+switch_text on = if on then codes "on" else codes "off"
 
 -- ---- words that may follow an action
 

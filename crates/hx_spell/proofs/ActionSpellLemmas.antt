@@ -16,7 +16,7 @@ use Rattle.hx_spell.specs.declared.action_table.BareAction.TheVariants as bare
 use Rattle.hx_spell.specs.declared.action_table.FileAction.TheVariants as file
 use Rattle.hx_spell.specs.declared.action_table.VariableAction.TheVariants as variable
 use Rattle.hx_spell.specs.declared.fault.SpellFault.{SpellFault}
-use Rattle.hx_spell.specs.ActionRelation.{IsCall, IsName, IsStatusWord, SpellAction, SpellNumber, SpellRedirect, TakesFileFormat, TakesFormat, TakesHeaderFormat, TakesReplacement, kind_text, spelled, switch_text, word_if}
+use Rattle.hx_spell.specs.ActionRelation.{IsCall, IsName, IsStatusWord, SpellAction, SpellNumber, SpellRedirect, TakesFileFormat, TakesFormat, TakesHeaderFormat, TakesReplacement, kind_text}
 use Rattle.hx_spell.specs.ActionRelation.SpellAction.{AllowWords, DenyWords, FormatWords, HeaderFormatWords, DelHeaderWords, ReplacementWords, SetVarWords, UnsetVarWords, FileFormatWords, SetMapWords, RedirectWords, StrictModeWords}
 use Rattle.hx_spell.specs.Actions.{ActionHead, BareAction, Bare, OfFile, OfVariable, Taken, action_words, bare_words, first_word, head_of_step, is_status_word, kind_table, optional_word, plain_word, redirect_status_of, redirect_taken, status_of, switch_table, taken, with_expr, with_format, with_header_format, with_name_of_header, with_redirect, with_replacement, with_status, with_switch, with_two_formats, word_and_value, format_word}
 use Rattle.hx_spell.specs.Arguments.{◌>>=◌}
@@ -24,10 +24,11 @@ use Rattle.hx_spell.specs.Codes.{bad_argument, bad_name}
 use Rattle.hx_spell.specs.Criteria.{expr_of}
 use Rattle.hx_spell.specs.FormatRelation.{WritesFormat}
 use Rattle.hx_spell.specs.Formats.{format_of}
-use Rattle.hx_spell.specs.Known.{Known, Reading, with_file}
+use Rattle.hx_spell.specs.Known.{Known, Reading, reading, with_file}
 use Rattle.hx_spell.specs.Tables.{entry_at}
 use Rattle.hx_spell.specs.Values.{header_of, variable_name_of}
 use Rattle.hx_spell.proofs.ActionHeadLemmas.{HeadSpelled, bare_text, head_spells}
+use Rattle.hx_spell.proofs.ActionReadLemmas.{switch_text, word_if}
 use Rattle.hx_spell.proofs.ActionSteps.{IsCodeWord, after_format, after_header, after_kind, after_status, drop_query}
 use Rattle.hx_spell.proofs.ConditionWordLemmas.{same_bytes}
 use Rattle.hx_spell.proofs.ExpressionLemmas.{expr_law}
@@ -42,11 +43,11 @@ pub record ActionSpelled (IsActionOf : List (List ℕ) → Reading Action → Ty
     (words : List (List ℕ)) (act : Reading (Taken Action)) : Type 0 where
   pub own : List (List ℕ)
   pub words_are : words ≡ own ++ act.value.words
-  pub such : IsActionOf own (spelled act.known act.value.item)
+  pub such : IsActionOf own (reading act.value.item act.known)
 
 spelled_as : (IsActionOf : List (List ℕ) → Reading Action → Type 0) (own rest words : List (List ℕ))
     (item : Action) (known : Known) (act : Reading (Taken Action)) → taken item rest known ≡ act
-    → words ≡ own ++ rest → IsActionOf own (spelled known item) → ActionSpelled IsActionOf words act
+    → words ≡ own ++ rest → IsActionOf own (reading item known) → ActionSpelled IsActionOf words act
 spelled_as IsActionOf own rest words item known act same words_are is =
     subst (λ (a : Reading (Taken Action)). ActionSpelled IsActionOf words a) same
     (record { own = own; words_are = words_are; such = is })
@@ -424,7 +425,7 @@ redirect_spelled : (line : ℕ) (before : Known) (kind : RedirectKind) (text : L
     → SpellNumber IsCodeWord redirect_status_of status status_words
     → SpellRedirect line before
     ((kind_text kind ∷ text ∷ status_words) ++ word_if drops drop_query)
-    (spelled format.known (action.Redirect kind format.value status drops))
+    (reading (action.Redirect kind format.value status drops) format.known)
 redirect_spelled line before kind text format status status_words drops writes such = record {
   kind = kind;
   text = text;
@@ -469,7 +470,7 @@ redirect_action_spells line before word words act named is =
     record {
       own = word ∷ r.own;
       words_are = ap (λ w. word ∷ w) r.words_are;
-      such = RedirectWords word r.own (spelled act.known act.value.item) named r.such;
+      such = RedirectWords word r.own (reading act.value.item act.known) named r.such;
     }
 
 -- ---- all actions

@@ -2,7 +2,7 @@
 -- stop byte, if there is one.
 use Rattle.std.proofs.Common.{◌≡◌, ◌≢◌, ℕ, zero, suc, ◌-◌, List, [], ◌∷◌, ◌++◌, length, Option, None, Ok, Err, refl, sym, ◌∙◌, ap, subst, append-nil, append_assoc}
 use Rattle.std.specs.Prelude.{option_to_list}
-use Rattle.hx_base.specs.Bytes.{comma}
+use Rattle.hx_base.specs.Bytes.{ascii}
 use Rattle.hx_words.specs.CallForm.{CallForm, CallList}
 use Rattle.hx_words.specs.Calls.{Step, step_of, steps_of, steps_within, further_steps, calls_of, calls_of_steps, longer_calls, call_list, CallsAndRest}
 use Rattle.hx_words.specs.Calls.Step.{Last, More, Faulty}
@@ -90,9 +90,9 @@ spelled_read stop _ _ (LastCall call text spelled) rest to_end =
     (sym (last_only stop (text ++ option_to_list stop ++ rest) call rest
     (text, spelled, append_assoc text (option_to_list stop) rest, to_end)))
 spelled_read stop _ _ (FirstCall call calls text later spelled no_stop follows) rest to_end =
-    calls_of_steps-by stop ((text ++ comma ∷ later) ++ rest) (More call (later ++ rest))
-    (sym (more_only stop ((text ++ comma ∷ later) ++ rest) call (later ++ rest)
-    (text, spelled, append_assoc text (comma ∷ later) rest, no_stop)))
+    calls_of_steps-by stop ((text ++ ascii "," ∷ later) ++ rest) (More call (later ++ rest))
+    (sym (more_only stop ((text ++ ascii "," ∷ later) ++ rest) call (later ++ rest)
+    (text, spelled, append_assoc text (ascii "," ∷ later) rest, no_stop)))
     ∙ ap (longer_calls call) (spelled_read stop calls later follows rest to_end)
 
 -- what is read before a rest

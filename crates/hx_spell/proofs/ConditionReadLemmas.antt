@@ -1,5 +1,5 @@
 -- Words that spell a condition are read as it.
-use Rattle.std.proofs.Common.{◌≡◌, ◌≢◌, ℕ, zero, suc, ◌+◌, ◌<◌, Bool, true, false, List, [], ◌∷◌, ◌++◌, length, drop, map, position, None, Some, Ok, refl, sym, ◌∙◌, ap, subst, inl, inr, append_assoc, append-nil, arith}
+use Rattle.std.proofs.Common.{◌≡◌, ◌≢◌, ℕ, zero, suc, ◌+◌, ◌<◌, Bool, true, false, List, [], ◌∷◌, ◌++◌, length, drop, map, position, None, Some, Ok, refl, sym, ◌∙◌, ap, subst, append_assoc, append-nil, arith}
 use Rattle.std.specs.Prelude.{◌||◌, codes, option_map, sum}
 use Rattle.std.specs.List.{list_any}
 use Rattle.std.specs.Str.{bytes_eq}
@@ -14,11 +14,12 @@ use Rattle.hx_spell.specs.Arguments.{◌>>=◌}
 use Rattle.hx_spell.specs.ConditionView.{is_closing, marked, opened}
 use Rattle.hx_spell.specs.Conditions.{Marks, Terms, after_marks_word, cond_from, is_known_acl, is_odd, is_or, no_marks, turned, with_marks, with_term, word_outside}
 use Rattle.hx_spell.specs.Known.{Known, Reading}
-use Rattle.hx_spell.specs.ConditionRelation.{AreMarks, SpellCond, SpellConj, SpellNamed, SpellOwn, SpellTerm, marks}
+use Rattle.hx_spell.specs.ConditionRelation.{SpellCond, SpellConj, SpellTerm, SpellUse, marks}
 use Rattle.hx_spell.specs.ConditionRelation.SpellCond.{LastConj, NextConj}
 use Rattle.hx_spell.specs.ConditionRelation.SpellConj.{LastTerm, NextTerm}
+use Rattle.hx_spell.specs.ConditionRelation.SpellUse.{NamedUse, OwnUse}
 use Rattle.hx_spell.proofs.ConditionStepLemmas.{after_braces, in_braces, position_first, position_later}
-use Rattle.hx_spell.proofs.ConditionWordLemmas.{BeginsUnmarked, after_written, counted, equal_bytes, is_or_of, marks_written, name_reads, name_unmarked, negated_by, odd_sum, other_bytes}
+use Rattle.hx_spell.proofs.ConditionWordLemmas.{AreMarks, BeginsUnmarked, after_written, counted, equal_bytes, is_or_of, marks_written, name_reads, name_unmarked, negated_by, odd_sum, other_bytes}
 use Rattle.hx_spell.proofs.DeclarationLemmas.{decl_law}
 
 -- ---- the terms outside braces
@@ -158,55 +159,51 @@ negated_whole counts last =
 abbrev term_by : Bool → AclUse → Term
 term_by negated acl = record { negated = negated; acl = acl }
 
-named_read : (line : ℕ) (known : Known) (tw words : List (List ℕ)) (t : Reading Term)
-    (before : List (List Term)) (conj : List Term) → SpellNamed known tw t
-    → cond_from line (tw ++ words) (outside before conj no_marks) known
-    ≡ cond_from line words (outside before (conj ++ t.value ∷ []) no_marks) t.known
-named_read line known tw words t before conj s =
-    let m = counted no_marks s.counts in
-    rw (s.words_are, s.is, append_assoc (map marks s.counts) ((marks s.last ++ s.name) ∷ []) words)
-    (marks_read line s.counts ((marks s.last ++ s.name) ∷ words) before conj no_marks known s.each
+-- words of marks, and a word of marks and of the first of an ACL
+use_read : (line : ℕ) (known : Known) (counts : List ℕ) (last : ℕ) (first : List ℕ)
+    (others words : List (List ℕ)) (acl : Reading AclUse) (before : List (List Term))
+    (conj : List Term) → AreMarks counts → SpellUse line known first others acl
+    → cond_from line (map marks counts ++ (marks last ++ first) ∷ (others ++ words))
+    (outside before conj no_marks) known
+    ≡ cond_from line words
+    (outside before (conj ++ term_by (is_odd (sum counts + last)) acl.value ∷ []) no_marks) acl.known
+use_read line known counts last _ _ words _ before conj each (NamedUse name named is_known) =
+    let m = counted no_marks counts in
+    marks_read line counts ((marks last ++ name) ∷ words) before conj no_marks known each
     ∙ (ap (λ r. r >>= (λ r. cond_from line words r.value r.known))
-    (word_read line s.last s.name (outside before conj m) known (name_unmarked s.name s.named)
-    (name_no_or s.last s.name s.named)
-    ∙ name_read s.last s.name (marked s.last (outside before conj m)) known s.named s.is_known)
+    (word_read line last name (outside before conj m) known (name_unmarked name named)
+    (name_no_or last name named)
+    ∙ name_read last name (marked last (outside before conj m)) known named is_known)
     ∙ ap (λ b. cond_from line words
-    (outside before (conj ++ term_by b (Named s.name) ∷ []) no_marks) known)
-    (negated_whole s.counts s.last)))
-
-own_read : (line : ℕ) (known : Known) (tw words : List (List ℕ)) (t : Reading Term)
-    (before : List (List Term)) (conj : List Term) → SpellOwn line known tw t
-    → cond_from line (tw ++ words) (outside before conj no_marks) known
-    ≡ cond_from line words (outside before (conj ++ t.value ∷ []) no_marks) t.known
-own_read line known tw words t before conj s =
-    let m = counted no_marks s.counts in
-    let brace = marks s.last ++ codes "{" in
-    let inside = s.text ∷ s.inside in
-    rw (
-      s.words_are,
-      s.is,
-      append_assoc (map marks s.counts) (brace ∷ (inside ++ codes "}" ∷ [])) words,
-      append_assoc inside (codes "}" ∷ []) words,
-    )
-    (marks_read line s.counts (brace ∷ (inside ++ codes "}" ∷ words)) before conj no_marks known s.each
+    (outside before (conj ++ term_by b (Named name) ∷ []) no_marks) known)
+    (negated_whole counts last))
+use_read line known counts last _ _ words _ before conj each (OwnUse text others decl unbroken spelled) =
+    let m = counted no_marks counts in
+    let brace = marks last ++ codes "{" in
+    let inside = text ∷ others in
+    rw (append_assoc inside (codes "}" ∷ []) words)
+    (marks_read line counts (brace ∷ (inside ++ codes "}" ∷ words)) before conj no_marks known each
     ∙ (ap (λ r. r >>= (λ r. cond_from line (inside ++ codes "}" ∷ words) r.value r.known))
-    (open_read line s.last (outside before conj m) known)
-    ∙ (inside_read line inside words (marked s.last (outside before conj m)) known s.unbroken
+    (open_read line last (outside before conj m) known)
+    ∙ (inside_read line inside words (marked last (outside before conj m)) known unbroken
     ∙ (ap (λ d. d >>= (λ d. cond_from line words
-    (with_term (Own d.value) (marked s.last (outside before conj m))) d.known))
-    ((decl_law line s.text s.inside known s.decl).1 s.spelled)
+    (with_term (Own d.value) (marked last (outside before conj m))) d.known))
+    ((decl_law line text others known decl).1 spelled)
     ∙ ap (λ b. cond_from line words
-    (outside before (conj ++ term_by b (Own s.decl.value) ∷ []) no_marks) s.decl.known)
-    (negated_whole s.counts s.last)))))
+    (outside before (conj ++ term_by b (Own decl.value) ∷ []) no_marks) decl.known)
+    (negated_whole counts last)))))
 
 term_read : (line : ℕ) (known : Known) (tw words : List (List ℕ)) (t : Reading Term)
     (before : List (List Term)) (conj : List Term) → SpellTerm line known tw t
     → cond_from line (tw ++ words) (outside before conj no_marks) known
     ≡ cond_from line words (outside before (conj ++ t.value ∷ []) no_marks) t.known
-term_read line known tw words t before conj (inl named) =
-    named_read line known tw words t before conj named
-term_read line known tw words t before conj (inr own) =
-    own_read line known tw words t before conj own
+term_read line known tw words t before conj s =
+    rw (
+      s.words_are,
+      s.is,
+      append_assoc (map marks s.counts) ((marks s.last ++ s.first) ∷ s.others) words,
+    )
+    (use_read line known s.counts s.last s.first s.others words s.acl before conj s.each s.spelled)
 
 -- ---- conjunctions
 

@@ -16,12 +16,13 @@ use Rattle.hx_spell.specs.Codes.{bad_condition, unknown_acl}
 use Rattle.hx_spell.specs.ConditionView.{is_closing, marked}
 use Rattle.hx_spell.specs.Conditions.{Marks, Terms, after_marks, after_marks_word, cond_end, cond_from, is_acl_name, is_known_acl, is_odd, is_or, marks_of, named_term, next_conj, no_marks, own_decl, with_marks, with_term}
 use Rattle.hx_spell.specs.Known.{Known, Reading}
-use Rattle.hx_spell.specs.ConditionRelation.{AreMarks, IsOr, SpellCond, SpellConj, SpellNamed, SpellOwn, SpellTerm, marks}
+use Rattle.hx_spell.specs.ConditionRelation.{IsOr, SpellCond, SpellConj, SpellTerm, marks}
 use Rattle.hx_spell.specs.ConditionRelation.SpellCond.{LastConj, NextConj}
 use Rattle.hx_spell.specs.ConditionRelation.SpellConj.{LastTerm, NextTerm}
+use Rattle.hx_spell.specs.ConditionRelation.SpellUse.{NamedUse, OwnUse}
 use Rattle.hx_spell.proofs.ConditionReadLemmas.{negated_whole, outside}
 use Rattle.hx_spell.proofs.ConditionStepLemmas.{own_then, with_inside}
-use Rattle.hx_spell.proofs.ConditionWordLemmas.{counted, counted_last, equal_bytes, marks_split, name_is, none_counted, not_true, or_is, other_bytes, same_bytes}
+use Rattle.hx_spell.proofs.ConditionWordLemmas.{AreMarks, counted, counted_last, equal_bytes, marks_split, name_is, none_counted, not_true, or_is, other_bytes, same_bytes}
 use Rattle.hx_spell.proofs.DeclarationLemmas.{decl_law}
 use Rattle.hx_spell.proofs.ResultLemmas.{and_then_ok, both}
 
@@ -284,16 +285,17 @@ from_known : (line : ℕ) (word : List ℕ) (words : List (List ℕ)) → Outsid
     → Completes line before conj known (map marks counts ++ word ∷ words) read
 from_known line word words out before conj counts n name known read each split named is_known is =
     let term : Term = record { negated = is_odd (sum counts + n); acl = Named name } in
-    let spelled : SpellNamed known (map marks counts ++ (marks n ++ name) ∷ [])
+    let spelled : SpellTerm line known (map marks counts ++ (marks n ++ name) ∷ [])
     (record { value = term; known = known }) =
     record {
       counts = counts;
       each = each;
       last = n;
-      name = name;
+      first = name;
+      others = [];
       words_are = refl;
-      named = name_is name named;
-      is_known = is_known;
+      acl = record { value = Named name; known = known };
+      spelled = NamedUse name (name_is name named) is_known;
       is = refl;
     } in
     let joined : (map marks counts ++ (marks n ++ name) ∷ []) ++ words
@@ -307,7 +309,7 @@ from_known line word words out before conj counts n name known read each split n
     same_words line before conj known ((map marks counts ++ (marks n ++ name) ∷ []) ++ words)
     (map marks counts ++ word ∷ words) read joined
     (term_completes line before conj known (map marks counts ++ (marks n ++ name) ∷ []) words
-    (record { value = term; known = known }) read (inl spelled)
+    (record { value = term; known = known }) read spelled
     (out before (conj ++ term ∷ []) [] known read no_marks_none after))
 
 from_name : (line : ℕ) (word : List ℕ) (words : List (List ℕ)) → Outside line words
@@ -386,17 +388,16 @@ from_own line words out (text ∷ inside) before conj counts last known read dec
     let term : Term = record { negated = is_odd (sum counts + last); acl = Own decl.value } in
     let brace = marks last ++ codes "{" in
     let first = map marks counts ++ brace ∷ ((text ∷ inside) ++ codes "}" ∷ []) in
-    let spelled : SpellOwn line known first (record { value = term; known = decl.known }) =
+    let spelled : SpellTerm line known first (record { value = term; known = decl.known }) =
     record {
       counts = counts;
       each = each;
       last = last;
-      text = text;
-      inside = inside;
+      first = codes "{";
+      others = (text ∷ inside) ++ codes "}" ∷ [];
       words_are = refl;
-      unbroken = unbroken;
-      decl = decl;
-      spelled = (decl_law line text inside known decl).0 own;
+      acl = record { value = Own decl.value; known = decl.known };
+      spelled = OwnUse text inside decl unbroken ((decl_law line text inside known decl).0 own);
       is = refl;
     } in
     let joined : first ++ words
@@ -411,7 +412,7 @@ from_own line words out (text ∷ inside) before conj counts last known read dec
     same_words line before conj known (first ++ words)
     (map marks counts ++ brace ∷ ((text ∷ inside) ++ codes "}" ∷ words)) read joined
     (term_completes line before conj known first words
-    (record { value = term; known = decl.known }) read (inr spelled)
+    (record { value = term; known = decl.known }) read spelled
     (out before (conj ++ term ∷ []) [] decl.known read no_marks_none after))
 
 closing_other : (word : List ℕ) → is_closing word ≡ false → bytes_eq (codes "}") word ≡ false

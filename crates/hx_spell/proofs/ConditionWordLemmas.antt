@@ -1,7 +1,7 @@
 -- The words of conditions: marks, names, and what stands between conjunctions.
 use Rattle.std.proofs.Common.{◌≡◌, ◌≢◌, ℕ, zero, suc, ◌+◌, ◌<◌, ◌%◌, Bool, true, false, List, [], ◌∷◌, ◌++◌, length, drop, refl, sym, ◌∙◌, ap, subst, arith, inl, inr}
 use Rattle.std.specs.Prelude.{◌==◌, ◌||◌, ◌⊎◌, codes, nat_lt, not, sum}
-use Rattle.std.specs.List.{list_all}
+use Rattle.std.specs.List.{All, list_all}
 use Rattle.std.specs.Str.{bytes_eq}
 use Rattle.std.proofs.Math.Numerals.{one-add}
 use Rattle.std.proofs.lemmas.Bool.{eqb-true, lt-ltb, ltb-true}
@@ -9,9 +9,10 @@ use Rattle.std.proofs.lemmas.Bool.Decides.{eqb_tells}
 use Rattle.std.proofs.lemmas.List.Elements.{All-head}
 use Rattle.std.proofs.lemmas.List.Sums.{AllPass-from_list_all, list_all-from_AllPass, sum_by-cons}
 use Rattle.std.proofs.lemmas.Slice.Eq.{bytes_eq-Decides}
+use Rattle.hx_base.specs.Bytes.{ascii}
 use Rattle.hx_ast.specs.Acls.{IsAclName, is_name_byte}
-use Rattle.hx_spell.specs.Conditions.{Marks, after_marks, exclamation_mark, is_acl_name, is_name, is_odd, is_or, marks_of, no_marks, turned, with_marks}
-use Rattle.hx_spell.specs.ConditionRelation.{AreMarks, IsOr, marks}
+use Rattle.hx_spell.specs.Conditions.{Marks, after_marks, is_acl_name, is_name, is_odd, is_or, marks_of, no_marks, turned, with_marks}
+use Rattle.hx_spell.specs.ConditionRelation.{IsOr, marks}
 use Rattle.hx_spell.proofs.ResultLemmas.{both}
 
 -- ---- bytes
@@ -74,21 +75,21 @@ is_or_of word (inr is) = rw is refl
 -- a word doesn't begin with a mark
 abbrev pub BeginsUnmarked : List ℕ → Type 0
 BeginsUnmarked [] = Unit {0}
-BeginsUnmarked (b ∷ bs) = (b == exclamation_mark) ≡ false
+BeginsUnmarked (b ∷ bs) = (b == ascii "!") ≡ false
 
 -- a byte of a name is no mark
-name_byte : (b : ℕ) (same : Bool) → (b == exclamation_mark) ≡ same → is_name_byte b ≡ true
+name_byte : (b : ℕ) (same : Bool) → (b == ascii "!") ≡ same → is_name_byte b ≡ true
     → same ≡ false
 name_byte b true is name =
-    let no : is_name_byte exclamation_mark ≡ true =
-    subst (λ (c : ℕ). is_name_byte c ≡ true) (eqb-true b exclamation_mark is) name in
+    let no : is_name_byte (ascii "!") ≡ true =
+    subst (λ (c : ℕ). is_name_byte c ≡ true) (eqb-true b (ascii "!") is) name in
     absurd (let bad : ⊥ = cc in bad)
 name_byte b false is name = refl
 
 pub name_unmarked : (name : List ℕ) → IsAclName name → BeginsUnmarked name
 name_unmarked [] named = tt
 name_unmarked (b ∷ bs) named =
-    name_byte b (b == exclamation_mark) refl (All-head (λ c. is_name_byte c ≡ true) b bs named.bytes)
+    name_byte b (b == ascii "!") refl (All-head (λ c. is_name_byte c ≡ true) b bs named.bytes)
 
 -- so many marks, and what doesn't begin with one
 pub marks_written : (n : ℕ) (rest : List ℕ) → BeginsUnmarked rest → marks_of (marks n ++ rest) ≡ n
@@ -102,26 +103,30 @@ after_written zero rest = refl
 after_written (suc n) rest = after_written n rest
 
 -- a word is its marks and what follows them
-marks_by : (b : ℕ) (bs : List ℕ) (same : Bool) → (b == exclamation_mark) ≡ same
+marks_by : (b : ℕ) (bs : List ℕ) (same : Bool) → (b == ascii "!") ≡ same
     → marks (marks_of bs) ++ after_marks bs ≡ bs
     → marks (marks_of (b ∷ bs)) ++ after_marks (b ∷ bs) ≡ b ∷ bs
 marks_by b bs true is split =
     let one : 1 + marks_of bs ≡ suc (marks_of bs) = one-add (marks_of bs) in
     rw (is, one) (
     ap (λ c. c ∷ (marks (marks_of bs) ++ after_marks bs))
-    (sym (eqb-true b exclamation_mark is)) ∙ ap (λ l. b ∷ l) split
+    (sym (eqb-true b (ascii "!") is)) ∙ ap (λ l. b ∷ l) split
     )
 marks_by b bs false is split = rw is refl
 
 pub marks_split : (word : List ℕ) → marks (marks_of word) ++ after_marks word ≡ word
 marks_split [] = refl
-marks_split (b ∷ bs) = marks_by b bs (b == exclamation_mark) refl (marks_split bs)
+marks_split (b ∷ bs) = marks_by b bs (b == ascii "!") refl (marks_split bs)
 
 -- a word that begins with a mark isn't `or`, nor is a name or a brace
 pub marked_no_or : (n : ℕ) (rest : List ℕ) → is_or (marks (suc n) ++ rest) ≡ false
 marked_no_or n rest = refl
 
 -- ---- the marks before a term
+
+-- words of marks, each with one at least
+abbrev pub AreMarks : List ℕ → Type 0
+AreMarks counts = All (λ n. 0 < n) counts
 
 -- the marks after so many in each of further words
 abbrev pub counted : Marks → List ℕ → Marks

@@ -2,10 +2,10 @@
 use Rattle.std.proofs.Common.{◌≡◌, ◌≢◌, ℕ, Bool, true, false, cond, List, [], ◌∷◌, length, Option, None, Some, Ok, Err, refl, sym, ap, subst}
 use Rattle.std.specs.Prelude.{Result, IfSome, IsSome, nat_lt, codes, option_map, option_and_then, slice_get}
 use Rattle.std.specs.List.{AllByRecursion, list_all}
-use Rattle.std.specs.Option.{option_or}
+use Rattle.std.specs.Option.{ok_or, option_or}
 use Rattle.std.specs.Str.{bytes_eq}
 use Rattle.std.proofs.lemmas.List.Elements.{All-from_recursion}
-use Rattle.hx_base.specs.Bytes.{underscore}
+use Rattle.hx_base.specs.Bytes.{ascii}
 use Rattle.hx_text.specs.Address.{ip_of}
 use Rattle.hx_text.specs.Cut.{cut_of}
 use Rattle.hx_text.specs.Number.{int_of}
@@ -26,11 +26,12 @@ use Rattle.hx_spell.specs.declared.fault.SpellFault.{SpellFault}
 use Rattle.hx_spell.specs.declared.fault.SpellFault.TheVariants as spell
 use Rattle.hx_spell.specs.Arguments.{◌>>=◌, optional}
 use Rattle.hx_spell.specs.Codes.{bad_argument, form_fault}
-use Rattle.hx_spell.specs.Criteria.{Criterion, FetchWay, MapWay, MethodFetch, conv_by, conv_call, conv_fault_by, convs_after, criterion, criterion_of_steps, derived_fetches, derived_methods, derived_of_parts, derived_way, fetch_by, fetch_fault_by, fetch_way, map_arguments, map_file, map_table, plain_conv, plain_way, value_of_map}
+use Rattle.hx_spell.specs.Criteria.{Criterion, FetchWay, MapWay, MethodFetch, conv_by, conv_call, conv_fault_by, convs_after, criterion, criterion_of_steps, derived_fetches, derived_methods, derived_of_parts, fetch_by, fetch_fault_by, fetch_way, map_arguments, map_table, value_of_map, way_with}
 use Rattle.hx_spell.specs.Expressions.{call_meaning, fault_of, made_of}
-use Rattle.hx_spell.specs.Known.{Known, Reading, ReferenceForm, file_form, file_or_new, has_columns, most_references, named_reading, nothing_known, with_file, with_named_file, with_reference}
+use Rattle.hx_spell.specs.Known.{Known, Reading, ReferenceForm, has_columns, most_references, nothing_known, reference_form, with_file, with_named, with_named_file, with_reference, reading}
 use Rattle.hx_spell.specs.Tables.{Maker, Table, conv_table, entry_at, fetch_table}
 use Rattle.hx_spell.proofs.CallTextLemmas.{IsReading}
+use Rattle.hx_spell.proofs.KnownLemmas.{file_or_new}
 use Rattle.hx_spell.proofs.ResultLemmas.{Gives, both, some_map, then_gives}
 use Rattle.hx_spell.proofs.TableFormLemmas.{◌&◌, IsPlainConv, MakesSuch, ReadsSuch, conv_gives, counted_gives, fetch_gives, optional_gives}
 
@@ -57,14 +58,16 @@ found_coded form known None = reference_coded form known
 
 pub file_coded : (line : ℕ) (name : List ℕ) (two : Bool) (known : Known)
     → IsCoded (with_file line name two known)
-file_coded line name two known = found_coded (file_form line name two) known _
+file_coded line name two known =
+    found_coded (reference_form (Some name) None two line []) known _
 
 -- the same of a file that `-f` or a map converter names
 pub named_file_coded : (line : ℕ) (name : List ℕ) (two : Bool) (known : Known)
     → IsCoded (with_named_file line name two known)
 named_file_coded line name two known =
     then_gives (λ file. Unit {0}) (λ file. Unit {0}) (with_file line name two known)
-    (λ file. Ok (named_reading file)) (file_coded line name two known) (λ file any. tt)
+    (λ file. Ok (reading file.value (with_named file.value file.known)))
+    (file_coded line name two known) (λ file any. tt)
 
 -- ---- tables
 
@@ -119,7 +122,7 @@ abbrev pub ReadsConv : Reading Conv → Type 0
 ReadsConv read = IsConv read.value
 
 map_file_coded : (line : ℕ) (name : Option (List ℕ)) (known : Known)
-    → IsCoded (map_file line name known)
+    → IsCoded (ok_or name bad_argument >>= (λ name. with_named_file line name true known))
 map_file_coded line None known = tt
 map_file_coded line (Some name) known = named_file_coded line name true known
 
@@ -127,7 +130,8 @@ map_gives : (line : ℕ) (way : MapWay) → IsMapWay way → (args : List (List 
     → Gives ReadsConv (map_arguments line way args known)
 map_gives line way such args known =
     counted_gives ReadsConv 1 2 args _
-    (then_gives (λ file. Unit {0}) ReadsConv (map_file line (slice_get args 0) known) _
+    (then_gives (λ file. Unit {0}) ReadsConv
+    (ok_or (slice_get args 0) bad_argument >>= (λ name. with_named_file line name true known)) _
     (map_file_coded line (slice_get args 0) known)
     (λ file any. then_gives (λ v. IfSome v (IsReadableAs way.out)) ReadsConv
     (optional (value_of_map way.out) bad_argument (slice_get args 1)) _
@@ -141,7 +145,7 @@ conv_by_gives : (line : ℕ) (way : Option MapWay) → IfSome way IsMapWay → (
     (known : Known) → Gives ReadsConv (conv_by line way call known)
 conv_by_gives line (Some way) such call known = map_gives line way such call.args known
 conv_by_gives line None such call known =
-    then_gives IsPlainConv ReadsConv (call_meaning conv_table call) (λ c. Ok (plain_conv known c))
+    then_gives IsPlainConv ReadsConv (call_meaning conv_table call) (λ c. Ok (reading c known))
     (conv_gives call) (λ c plain. plain.0)
 
 conv_call_gives : (line : ℕ) (call : CallForm) (known : Known)
@@ -169,7 +173,7 @@ conv_fault_gives : (way : Option MapWay) (name : List ℕ) (fault : ArgFault)
 conv_fault_gives (Some way) name fault never = fault_gives (λ (c : Reading Conv). ⊥) fault never
 conv_fault_gives None name fault never =
     plain_fault_gives (λ c. ⊥) (entry_at conv_table name) fault
-    (λ c. Ok (plain_conv nothing_known c)) never
+    (λ c. Ok (reading c nothing_known)) never
 
 abbrev pub ReadsConvs : Reading (List Conv) → Type 0
 ReadsConvs read = AllByRecursion IsConv read.value
@@ -237,7 +241,7 @@ each_method = each_passes takes_patterns derived_methods refl
 
 both_such : (make : Option (Maker Fetch)) (by : Option By) → IfSome make (MakesSuch IsFetch)
     → IfSome by TakesPatterns
-    → IfSome (option_and_then (λ make. option_map (derived_way make) by) make) IsFetchWay
+    → IfSome (option_and_then (λ make. option_map (λ by. way_with (Some by) make) by) make) IsFetchWay
 both_such None by makes takes = tt
 both_such (Some make) None makes takes = tt
 both_such (Some make) (Some by) makes takes = (makes, takes)
@@ -251,9 +255,9 @@ parts_such (Some parts) =
     (entry_such TakesPatterns derived_methods each_method parts.1)
 
 way_by : (name : List ℕ) (found : Option (Maker Fetch)) → found ≡ entry_at fetch_table name
-    → IfSome (option_or (option_map plain_way found)
-    (option_and_then derived_of_parts (cut_of underscore name))) IsFetchWay
-way_by name None is = parts_such (cut_of underscore name)
+    → IfSome (option_or (option_map (way_with None) found)
+    (option_and_then derived_of_parts (cut_of (ascii "_") name))) IsFetchWay
+way_by name None is = parts_such (cut_of (ascii "_") name)
 way_by name (Some make) is = (
   subst (λ (m : Option (Maker Fetch)). MakesSuch IsFetch (made_of m)) (sym is) (named_such name),
   tt,

@@ -14,9 +14,9 @@ use Rattle.hx_spell.specs.declared.fault.SpellFault.{SpellFault}
 use Rattle.hx_spell.specs.declared.fault.SpellFault.TheVariants as spell
 use Rattle.hx_spell.specs.Arguments.{◌>>=◌}
 use Rattle.hx_spell.specs.Codes.{unsupported}
-use Rattle.hx_spell.specs.Criteria.{Criterion, FetchWay, MapWay, MethodFetch, conv_call, conv_fault_by, convs_after, criterion, criterion_of, criterion_of_steps, fetch_by, fetch_fault_by, fetch_way, map_table, plain_conv}
+use Rattle.hx_spell.specs.Criteria.{Criterion, FetchWay, MapWay, MethodFetch, conv_call, conv_fault_by, convs_after, criterion, criterion_of, criterion_of_steps, fetch_by, fetch_fault_by, fetch_way, map_table}
 use Rattle.hx_spell.specs.Expressions.{fault_of}
-use Rattle.hx_spell.specs.Known.{Known, Reading, nothing_known}
+use Rattle.hx_spell.specs.Known.{Known, Reading, nothing_known, reading}
 use Rattle.hx_spell.specs.ExpressionRelation.{WriteConvs, WritesCriterion}
 use Rattle.hx_spell.specs.Tables.{Maker, conv_table, entry_at}
 use Rattle.hx_spell.proofs.CallTextLemmas.{AreOf, IsReading, is_reading, longer_is, read_as, same_calls, spelled_steps, steps_never_lack, steps_spelled}
@@ -67,7 +67,7 @@ no_conv : (way : Option MapWay) (name : List ℕ) (fault : ArgFault) (x : Readin
     → conv_fault_by way name fault ≡ Ok x → ⊥
 no_conv (Some way) name fault x is = cc
 no_conv None name fault x is =
-    no_fault (entry_at conv_table name) fault (λ c. Ok (plain_conv nothing_known c)) x is
+    no_fault (entry_at conv_table name) fault (λ c. Ok (reading c nothing_known)) x is
 
 -- the steps are of calls
 abbrev pub Called : List Step → Type 0

@@ -1,8 +1,8 @@
 -- A text and words are read as the ACL that they spell, so they spell one at most; others are
 -- refused by a code.
 use Rattle.std.proofs.Common.{◌≡◌, ◌≢◌, ◌↔◌, ℕ, ◌||◌, Bool, true, false, cond, List, [], ◌∷◌, Option, None, Some, Ok, Err, refl, sym, ◌∙◌, subst}
-use Rattle.std.specs.Prelude.{Result, is_some}
-use Rattle.std.specs.Option.{ok_or}
+use Rattle.std.specs.Prelude.{Result, ◌++◌, if◌then◌else◌, is_some}
+use Rattle.std.specs.Option.{ok_or, option_map_or}
 use Rattle.hx_text.specs.declared.By.{By}
 use Rattle.hx_text.specs.declared.Kind.{Kind}
 use Rattle.hx_text.specs.declared.Kind.TheVariants as kind
@@ -17,10 +17,10 @@ use Rattle.hx_spell.specs.declared.fault.SpellFault.TheVariants as spell
 use Rattle.hx_spell.specs.Arguments.{◌>>=◌}
 use Rattle.hx_spell.specs.Codes.{bad_argument, unsupported}
 use Rattle.hx_spell.specs.Criteria.{Criterion, criterion_of}
-use Rattle.hx_spell.specs.Declarations.{Way, bare_decl, decl_by, decl_of, decl_reading, file_heads, has_no_patterns, heads_of_keys, ignores_case, pattern_decl, unless_fault, way_of, way_of_kind, with_words_head, words_form, words_head}
-use Rattle.hx_spell.specs.Flags.{AfterFlags, Flag, Flags, IgnoreCase, TwoColumns, Numeric, File, Method, Number, End, begins_as_flag, flag_argument, flag_table, flag_word, flags_end, flags_from, may_stand, method_table, no_flags, with_searched}
-use Rattle.hx_spell.specs.Known.{Known, Reading, with_named_file, with_reference}
-use Rattle.hx_spell.specs.Patterns.{Keys, Operator, compares_numbers, key_or_fault, keys_of, number_keys, operator_or_key, operator_table, word_key}
+use Rattle.hx_spell.specs.Declarations.{Way, decl_by, decl_of, decl_reading, file_heads, has_no_patterns, heads_of_keys, ignores_case, pattern_decl, way_of, way_of_kind, words_head}
+use Rattle.hx_spell.specs.Flags.{AfterFlags, Flag, Flags, IgnoreCase, TwoColumns, Numeric, File, Method, Number, End, begins_as_flag, flag_argument, flag_table, flag_word, flags_end, flags_from, may_stand, method_table, no_flags}
+use Rattle.hx_spell.specs.Known.{Known, Reading, reading, reference_form, with_named_file, with_reference}
+use Rattle.hx_spell.specs.Patterns.{Keys, Operator, compares_numbers, key_or_fault, keys_of, number_keys, operator_table, word_key}
 use Rattle.hx_spell.specs.AclRelation.{SpellDecl}
 use Rattle.hx_spell.specs.Tables.{entry_at}
 use Rattle.hx_spell.proofs.CriterionFormLemmas.{named_file_coded, reference_coded}
@@ -152,7 +152,7 @@ argument_coded line IgnoreCase text flags known = tt
 argument_coded line TwoColumns text flags known = tt
 argument_coded line Numeric text flags known = tt
 argument_coded line File text flags known =
-    then_coded (with_named_file line text flags.two known) (λ file. Ok (with_searched flags file))
+    then_coded (with_named_file line text flags.two known) _
     (named_file_coded line text flags.two known) (λ file. tt)
 argument_coded line Method text flags known =
     then_coded (ok_or (entry_at method_table text) unsupported) _
@@ -223,19 +223,20 @@ key_coded : (key : Option (List ℕ)) (more : Keys) → IsCode more.fault
 key_coded (Some key) more coded = coded
 key_coded None more coded = tt
 
-next_coded : (next : Option Operator) (operator : Operator) (word : List ℕ)
-    (more : Operator → Keys) → ((o : Operator) → IsCode (more o).fault)
-    → IsCode (operator_or_key next operator word more).fault
-next_coded (Some next) operator word more coded = coded next
-next_coded None operator word more coded =
-    key_coded (word_key operator word) (more operator) (coded operator)
+next_coded : (next : Option Operator) (more : Operator → Keys) (keys : Keys)
+    → ((o : Operator) → IsCode (more o).fault) → IsCode keys.fault
+    → IsCode (option_map_or more next keys).fault
+next_coded (Some next) more keys coded other = coded next
+next_coded None more keys coded other = other
 
 numbers_coded : (operator : Operator) (words : List (List ℕ))
     → IsCode (number_keys operator words).fault
 numbers_coded operator [] = tt
 numbers_coded operator (word ∷ words) =
-    next_coded (entry_at operator_table word) operator word (λ next. number_keys next words)
+    next_coded (entry_at operator_table word) (λ next. number_keys next words)
+    (key_or_fault (word_key operator word) (number_keys operator words))
     (λ next. numbers_coded next words)
+    (key_coded (word_key operator word) (number_keys operator words) (numbers_coded operator words))
 
 keys_tested : (b : Bool) (first second : Keys) → IsCode first.fault → IsCode second.fault
     → IsCode (cond b first second).fault
@@ -247,25 +248,26 @@ keys_coded by words =
     keys_tested (compares_numbers by) _ (record { keys = words; fault = None })
     (numbers_coded _ words) tt
 
-fault_coded : {A : Type 0} (fault : Option SpellFault) (x : A) → IsCode fault
-    → IsCoded (unless_fault fault x)
-fault_coded None x coded = tt
-fault_coded (Some (spell.Code n)) x coded = tt
-fault_coded (Some spell.NoMemory) x coded = coded
+fault_coded : {A : Type 0} (fault : Option SpellFault) (r : Result A SpellFault) → IsCode fault
+    → IsCoded r → IsCoded (option_map_or Err fault r)
+fault_coded None r coded other = other
+fault_coded (Some (spell.Code n)) r coded other = tt
+fault_coded (Some spell.NoMemory) r coded other = coded
 
 heads_coded : (line : ℕ) (way : Way) (flags : Flags) (keys : List (List ℕ))
     (fault : Option SpellFault) (files : Reading (List ℕ)) → IsCode fault
     → IsCoded (heads_of_keys line way flags keys fault files)
-heads_coded line way flags [] (Some (spell.Code n)) files coded = tt
-heads_coded line way flags [] (Some spell.NoMemory) files coded = coded
-heads_coded line way flags [] None files coded =
-    coded_tested (is_some flags.given) (Err bad_argument) (Ok files) tt tt
+heads_coded line way flags [] fault files coded =
+    fault_coded fault (if is_some flags.given then Err bad_argument else Ok files) coded
+    (coded_tested (is_some flags.given) (Err bad_argument) (Ok files) tt tt)
 heads_coded line way flags (key ∷ keys) fault files coded =
-    let form = words_form line flags.given (key ∷ keys) in
+    let form = reference_form None flags.given false line (key ∷ keys) in
     then_coded (with_reference form files.known)
-    (λ place. unless_fault fault (with_words_head files.value (words_head way flags.ci place)))
+    (λ place. let last = words_head way flags.ci place in
+    option_map_or Err fault (Ok (reading (files.value ++ last.value ∷ []) last.known)))
     (reference_coded form files.known)
-    (λ place. fault_coded fault (with_words_head files.value (words_head way flags.ci place)) coded)
+    (λ place. let last = words_head way flags.ci place in
+    fault_coded fault (Ok (reading (files.value ++ last.value ∷ []) last.known)) coded tt)
 
 -- ---- the ACL
 
@@ -293,6 +295,12 @@ pattern_gives line expr way after known such takes =
     (λ heads. Ok (decl_reading expr way (ignores_case way after.flags.ci) keys.keys heads))
     (heads_coded line way after.flags keys.keys keys.fault files (keys_coded way.by after.words))
     (λ heads any. pattern_such expr way after.flags.ci keys.keys heads such takes)
+
+-- an ACL without patterns
+abbrev pub bare_decl : Expr → Way → AfterFlags → Known → Result (Reading Decl) SpellFault
+bare_decl expr way after known =
+    if has_no_patterns after then Ok (decl_reading expr way false [] (reading [] known))
+    else Err bad_argument
 
 bare_gives : (expr : Expr) (way : Way) (after : AfterFlags) (known : Known) → IsExpr expr
     → Gives ReadsDecl (bare_decl expr way after known)

@@ -1,16 +1,16 @@
 -- References keep files of their own, and heads stay of one kind each, where what is added is like
 -- none of those that are there.
-use Rattle.std.proofs.Common.{◌≡◌, ◌≢◌, ℕ, ◌+◌, ◌≤◌, Bool, true, false, cond, List, [], ◌∷◌, ◌++◌, ◌&&◌, ◌==◌, length, suc, Option, None, Some, arith, refl, sym, ◌∙◌, ap, subst, inl, inr}
+use Rattle.std.proofs.Common.{◌≡◌, ◌≢◌, ℕ, ◌+◌, ◌≤◌, Bool, true, false, cond, List, [], ◌∷◌, ◌++◌, ◌&&◌, ◌==◌, length, suc, Option, None, Some, arith, refl, sym, subst, inl, inr}
 use Rattle.std.specs.Prelude.{IfSome, nat_lt, not, position}
 use Rattle.std.specs.Bool.{beq}
 use Rattle.std.specs.List.{All, prefix_len}
 use Rattle.std.proofs.lemmas.Bool.{both_ways, cases_Bool, eqb-true, le-ltb, lt-ltb, ltb-false}
 use Rattle.std.proofs.lemmas.List.Elements.{All-cons, All-head, All-nil, All-push, All-tail}
 use Rattle.std.proofs.lemmas.Slice.Eq.{bytes_eq-Decides}
-use Rattle.hx_text.specs.declared.By.{By}
-use Rattle.hx_text.specs.declared.By.TheVariants as method
+use Rattle.hx_text.specs.Methods.{method_number}
+use Rattle.hx_text.proofs.MethodLemmas.{same_method}
 use Rattle.hx_spell.specs.declared.table_specs.HeadSpec.{HeadSpec}
-use Rattle.hx_spell.specs.Known.{ReferenceForm, is_head, is_of_file, method_number}
+use Rattle.hx_spell.specs.Known.{ReferenceForm, is_head, is_of_file}
 use Rattle.hx_spell.specs.Sound.{HaveOwnFiles}
 use Rattle.hx_spell.specs.TableSpecs.{HaveDistinctHeads}
 use Rattle.hx_spell.proofs.ResultLemmas.{both}
@@ -93,42 +93,6 @@ own_added (first ∷ forms) form other (own, others) = (
 
 -- ---- heads
 
-abbrev method_of : ℕ → By
-method_of n =
-    cond (n == 1) method.Bool (
-    cond (n == 2) method.Int (
-    cond (n == 3) method.Ip (
-    cond (n == 4) method.Bin (
-    cond (n == 5) method.Len (
-    cond (n == 6) method.Str (
-    cond (n == 7) method.Beg (
-    cond (n == 8) method.End (
-    cond (n == 9) method.Sub (
-    cond (n == 10) method.Dir (
-    cond (n == 11) method.Dom (
-    cond (n == 12) method.Reg (
-    method.Found))))))))))))
-
-of_its_number : (by : By) → method_of (method_number by) ≡ by
-of_its_number method.Found = refl
-of_its_number method.Bool = refl
-of_its_number method.Int = refl
-of_its_number method.Ip = refl
-of_its_number method.Bin = refl
-of_its_number method.Len = refl
-of_its_number method.Str = refl
-of_its_number method.Beg = refl
-of_its_number method.End = refl
-of_its_number method.Sub = refl
-of_its_number method.Dir = refl
-of_its_number method.Dom = refl
-of_its_number method.Reg = refl
-
-same_method : (a b : By) → (method_number a == method_number b) ≡ true → a ≡ b
-same_method a b same =
-    sym (of_its_number a)
-    ∙ (ap method_of (eqb-true (method_number a) (method_number b) same) ∙ of_its_number b)
-
 same_case : (a b : Bool) → beq a b ≡ true → a ≡ b
 same_case true true same = refl
 same_case false false same = refl
@@ -144,7 +108,7 @@ same_head head other is =
     let (table, by) =
     both (other.table == head.table) (method_number other.by == method_number head.by) both_are in
     let tables = eqb-true other.table head.table table in
-    let methods = same_method other.by head.by by in
+    let methods = same_method other.by head.by (eqb-true (method_number other.by) (method_number head.by) by) in
     let cases = same_case other.ci head.ci ci in
     λ i. record { table = tables i; by = methods i; ci = cases i }
 

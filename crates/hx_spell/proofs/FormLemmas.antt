@@ -1,6 +1,7 @@
 -- What the arguments of calls write is of the form that the syntax allows.
 use Rattle.std.proofs.Common.{◌≡◌, ℕ, zero, suc, ◌<◌, ◌≤◌, Bool, true, false, cond, List, [], ◌∷◌, length, Option, None, Some, arith, sym, subst}
-use Rattle.std.specs.Prelude.{ℤ, pos, negsuc, nat_lt, nat_le, IsTrue, IfSome}
+use Rattle.std.specs.Option.{option_or}
+use Rattle.std.specs.Prelude.{ℤ, pos, negsuc, nat_lt, nat_le, IsTrue, IfSome, option_and_then, option_map}
 use Rattle.std.specs.List.{list_all}
 use Rattle.std.proofs.lemmas.Bool.{ltb-true, leb-true}
 use Rattle.std.proofs.lemmas.Int.{ints}
@@ -15,13 +16,13 @@ use Rattle.hx_text.specs.Address.{ip_of}
 use Rattle.hx_text.specs.Cut.{cut_of}
 use Rattle.hx_text.specs.Network.{width_of}
 use Rattle.hx_text.specs.Number.{int_of, number_of, number_up_to}
-use Rattle.hx_base.specs.Bytes.{full_stop}
+use Rattle.hx_base.specs.Bytes.{ascii}
 use Rattle.hx_ast.specs.declared.Val.{Val}
 use Rattle.hx_ast.specs.declared.Val.TheVariants as val
 use Rattle.hx_ast.specs.Names.{IsVariable, is_variable_byte}
 use Rattle.hx_ast.specs.Fetches.{IsIpv4, IsIpv6}
 use Rattle.hx_ast.specs.Convs.{IsNotNegative, IsOperand, is_digest_length}
-use Rattle.hx_spell.specs.Values.{nonzero, index_of, nonnegative, amount_of, digest_length, digest_length_of, delimiters_of, header_of, only_ipv4, ipv4_address_of, only_ipv6, ipv6_address_of, is_variable_text, variable_with, variable_of_parts, variable_name_of, variable_or_nothing_of, operand_or_variable, operand_written, scope_of}
+use Rattle.hx_spell.specs.Values.{nonzero, index_of, nonnegative, amount_of, digest_length_of, delimiters_of, header_of, ipv4_number, ipv4_address_of, ipv6_number, ipv6_address_of, is_variable_text, variable_with, variable_name_of, variable_or_nothing_of, operand_written, scope_of}
 use Rattle.hx_spell.proofs.ResultLemmas.{both, some_and_then, some_map}
 
 -- ---- numbers
@@ -43,7 +44,8 @@ pub count_such : (text : List ℕ) (n : ℤ) → amount_of text ≡ Some n → I
 count_such text n is =
     let (z, read, same) = some_and_then nonnegative (int_of text) n is in nonnegative_is z n same
 
-digest_length_is : (k n : ℕ) → digest_length k ≡ Some n → IsTrue (is_digest_length n)
+digest_length_is : (k n : ℕ) → cond (is_digest_length k) (Some k) None ≡ Some n
+    → IsTrue (is_digest_length n)
 digest_length_is k n is =
     let (test, same) = cond_some (is_digest_length k) k n is in
     subst (λ (m : ℕ). IsTrue (is_digest_length m)) same test
@@ -51,7 +53,8 @@ digest_length_is k n is =
 pub digest_such : (text : List ℕ) (n : ℕ) → digest_length_of text ≡ Some n → IsTrue (is_digest_length n)
 digest_such text n is =
     let (k, read, same) =
-    some_and_then digest_length (width_of 512 text) n is in digest_length_is k n same
+    some_and_then (λ k. cond (is_digest_length k) (Some k) None) (width_of 512 text) n is in
+    digest_length_is k n same
 
 up_to_is : (most k n : ℕ) → cond (nat_le k most) (Some k) None ≡ Some n → n ≤ most
 up_to_is most k n is =
@@ -96,21 +99,15 @@ header_such text found is =
 
 -- ---- addresses
 
-only_ipv4_is : (a ip : Ip) → only_ipv4 a ≡ Some ip → IsIpv4 ip
-only_ipv4_is (V4 n) ip is = (n, sym (same_Some (V4 n) ip is))
-only_ipv4_is (V6 n) ip is = absurd (none-some ip is)
-
 pub ipv4_such : (text : List ℕ) (ip : Ip) → ipv4_address_of text ≡ Some ip → IsIpv4 ip
 ipv4_such text ip is =
-    let (a, read, same) = some_and_then only_ipv4 (ip_of text) ip is in only_ipv4_is a ip same
-
-only_ipv6_is : (a ip : Ip) → only_ipv6 a ≡ Some ip → IsIpv6 ip
-only_ipv6_is (V4 n) ip is = absurd (none-some ip is)
-only_ipv6_is (V6 n) ip is = (n, sym (same_Some (V6 n) ip is))
+    let (n, read, same) =
+    some_map (λ n. V4 n) (option_and_then ipv4_number (ip_of text)) ip is in (n, sym same)
 
 pub ipv6_such : (text : List ℕ) (ip : Ip) → ipv6_address_of text ≡ Some ip → IsIpv6 ip
 ipv6_such text ip is =
-    let (a, read, same) = some_and_then only_ipv6 (ip_of text) ip is in only_ipv6_is a ip same
+    let (n, read, same) =
+    some_map (λ n. V6 n) (option_and_then ipv6_number (ip_of text)) ip is in (n, sym same)
 
 -- ---- variables
 
@@ -134,7 +131,9 @@ variable_with_is name (Some scope) v is =
 pub variable_such : (text : List ℕ) (v : VarName) → variable_name_of text ≡ Some v → IsVariable v
 unfolding variable_name_of
 variable_such text v is =
-    let (parts, cut, same) = some_and_then variable_of_parts (cut_of full_stop text) v is in
+    let (parts, cut, same) =
+    some_and_then (λ parts. variable_with parts.1 (scope_of parts.0)) (cut_of (ascii ".") text) v
+    is in
     variable_with_is parts.1 (scope_of parts.0) v same
 
 pub variable_or_nothing_such : (text : List ℕ) (v : Option VarName)
@@ -147,7 +146,7 @@ variable_or_nothing_such (b ∷ text) v is =
 
 operand_is : (n : Option ℤ) (name : Option VarName) (v : Val)
     → ((w : VarName) → name ≡ Some w → IsVariable w)
-    → operand_or_variable n name ≡ Some v → IsOperand v
+    → option_or (option_map val.Number n) (option_map val.Var name) ≡ Some v → IsOperand v
 operand_is (Some n) name v such is = subst IsOperand (same_Some (val.Number n) v is) tt
 operand_is None name v such is =
     let (w, read, same) = some_map val.Var name v is in subst IsOperand same (such w read)

@@ -11,7 +11,7 @@ use Rattle.hx_spell.specs.declared.fault.SpellFault.{SpellFault}
 use Rattle.hx_spell.specs.Arguments.{◌>>=◌}
 use Rattle.hx_spell.specs.Codes.{bad_format}
 use Rattle.hx_spell.specs.Criteria.{expr_of}
-use Rattle.hx_base.specs.Bytes.{close_bracket, open_bracket, percent_sign}
+use Rattle.hx_base.specs.Bytes.{ascii}
 use Rattle.hx_spell.specs.Formats.{FormatReader, after_percent, byte_before, format_of, format_within, rest_after, value_part, with_byte, with_value}
 use Rattle.hx_spell.specs.Known.{Known, Reading}
 use Rattle.hx_spell.proofs.ExpressionFormLemmas.{ReadsExpr, expr_gives}
@@ -42,10 +42,10 @@ byte_gives b read such =
 value_gives : (next : FormatReader) → ReadsOnlyParts next → (line : ℕ) (text : List ℕ)
     (known : Known) → Gives ReadsParts (value_part next line text known)
 value_gives next such line text known =
-    let rest = rest_after (steps_of (Some close_bracket) text) in
-    then_gives ReadsExpr ReadsParts (expr_of (Some close_bracket) line text known)
+    let rest = rest_after (steps_of (Some (ascii "]")) text) in
+    then_gives ReadsExpr ReadsParts (expr_of (Some (ascii "]")) line text known)
     (λ expr. next rest expr.known >>= (λ others. Ok (with_value expr.value others)))
-    (expr_gives (Some close_bracket) line text known)
+    (expr_gives (Some (ascii "]")) line text known)
     (λ expr is. then_gives ReadsParts ReadsParts (next rest expr.known)
     (λ others. Ok (with_value expr.value others)) (such rest expr.known)
     (λ others all. (is, all)))
@@ -59,17 +59,17 @@ percent_gives : (next : FormatReader) → ReadsOnlyParts next → (line : ℕ) (
     (known : Known) → Gives ReadsParts (after_percent next line text known)
 percent_gives next such line [] known = tt
 percent_gives next such line (b ∷ text) known =
-    tested (b == percent_sign) (next text known >>= (λ others. Ok (with_byte percent_sign others)))
-    (if b == open_bracket then value_part next line text known else Err bad_format)
-    (byte_gives percent_sign (next text known) (such text known))
-    (tested (b == open_bracket) (value_part next line text known) (Err bad_format)
+    tested (b == ascii "%") (next text known >>= (λ others. Ok (with_byte (ascii "%") others)))
+    (if b == ascii "[" then value_part next line text known else Err bad_format)
+    (byte_gives (ascii "%") (next text known) (such text known))
+    (tested (b == ascii "[") (value_part next line text known) (Err bad_format)
     (value_gives next such line text known) tt)
 
 within_gives : (n line : ℕ) → ReadsOnlyParts (format_within n line)
 within_gives zero line text known = tt
 within_gives (suc n) line [] known = tt
 within_gives (suc n) line (b ∷ text) known =
-    tested (b == percent_sign) (after_percent (format_within n line) line text known)
+    tested (b == ascii "%") (after_percent (format_within n line) line text known)
     (format_within n line text known >>= (λ others. Ok (with_byte b others)))
     (percent_gives (format_within n line) (within_gives n line) line text known)
     (byte_gives b (format_within n line text known) (within_gives n line text known))

@@ -10,33 +10,33 @@ use Rattle.hx_spell.specs.Criteria.{expr_of}
 use Rattle.hx_spell.specs.ExpressionRelation.{WritesExpr}
 use Rattle.hx_spell.specs.FormatRelation.{WritesFormat}
 use Rattle.hx_spell.specs.FormatRelation.WritesFormat.{Nothing, PlainByte, PercentSign, ValueInBrackets}
-use Rattle.hx_base.specs.Bytes.{close_bracket, percent_sign}
+use Rattle.hx_base.specs.Bytes.{ascii}
 use Rattle.hx_spell.specs.Formats.{after_percent, format_of, format_within, rest_after, value_part, with_byte, with_value}
 use Rattle.hx_spell.specs.Known.{Known, Reading}
 use Rattle.hx_spell.proofs.ExpressionLemmas.{expr_read}
 use Rattle.hx_spell.proofs.ResultLemmas.{then_ok}
 
 byte_read : (n line : ℕ) (before : Known) (b : ℕ) (text : List ℕ) (others : Reading (List Part))
-    → b ≢ percent_sign → format_within n line text before ≡ Ok others
+    → b ≢ ascii "%" → format_within n line text before ≡ Ok others
     → format_within (suc n) line (b ∷ text) before ≡ Ok (with_byte b others)
 byte_read n line before b text others other is =
     ap (λ (c : Bool). if c then after_percent (format_within n line) line text before
     else format_within n line text before >>= (λ rest. Ok (with_byte b rest)))
-    (ne_eqb b percent_sign other)
+    (ne_eqb b (ascii "%") other)
     ∙ then_ok (format_within n line text before) (λ rest. Ok (with_byte b rest)) others
     (with_byte b others) is refl
 
 value_read : (n line : ℕ) (before : Known) (inside text : List ℕ) (expr : Reading Expr)
-    (others : Reading (List Part)) → WritesExpr (Some close_bracket) line before inside expr
+    (others : Reading (List Part)) → WritesExpr (Some (ascii "]")) line before inside expr
     → format_within n line text expr.known ≡ Ok others
     → value_part (format_within n line) line (inside ++ text) before
     ≡ Ok (with_value expr.value others)
 value_read n line before inside text expr others writes is =
     let (read, left) =
-    expr_read (Some close_bracket) line before inside expr writes text
+    expr_read (Some (ascii "]")) line before inside expr writes text
     (λ none. absurd (let no : ⊥ = cc in no)) in
-    then_ok (expr_of (Some close_bracket) line (inside ++ text) before)
-    (λ found. format_within n line (rest_after (steps_of (Some close_bracket) (inside ++ text)))
+    then_ok (expr_of (Some (ascii "]")) line (inside ++ text) before)
+    (λ found. format_within n line (rest_after (steps_of (Some (ascii "]")) (inside ++ text)))
     found.known >>= (λ rest. Ok (with_value found.value rest))) expr (with_value expr.value others)
     read
     (ap (λ rest. format_within n line rest expr.known
@@ -58,8 +58,8 @@ format_reads line _ _ _ (PlainByte before b text others other writes) (suc n) mo
 format_reads line _ _ _ (PercentSign before text others writes) zero most =
     absurd (let no : ⊥ = omega arith in no)
 format_reads line _ _ _ (PercentSign before text others writes) (suc n) most =
-    then_ok (format_within n line text before) (λ rest. Ok (with_byte percent_sign rest)) others
-    (with_byte percent_sign others) (format_reads line before text others writes n (omega arith))
+    then_ok (format_within n line text before) (λ rest. Ok (with_byte (ascii "%") rest)) others
+    (with_byte (ascii "%") others) (format_reads line before text others writes n (omega arith))
     refl
 format_reads line _ _ _ (ValueInBrackets before inside text expr others written writes) zero most =
     absurd (let no : ⊥ = omega arith in no)

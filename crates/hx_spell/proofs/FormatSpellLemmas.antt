@@ -10,7 +10,7 @@ use Rattle.hx_spell.specs.Codes.{bad_format}
 use Rattle.hx_spell.specs.Criteria.{expr_of}
 use Rattle.hx_spell.specs.FormatRelation.{WritesFormat}
 use Rattle.hx_spell.specs.FormatRelation.WritesFormat.{Nothing, PlainByte, PercentSign, ValueInBrackets}
-use Rattle.hx_base.specs.Bytes.{close_bracket, open_bracket, percent_sign}
+use Rattle.hx_base.specs.Bytes.{ascii}
 use Rattle.hx_spell.specs.Formats.{FormatReader, after_percent, format_of, format_within, rest_after, value_part, with_byte, with_value}
 use Rattle.hx_spell.specs.Known.{Known, Reading}
 use Rattle.hx_spell.proofs.ExpressionLemmas.{expr_writes}
@@ -35,7 +35,7 @@ nothing_writes line before read is =
     subst (λ (r : Reading (List Part)). WritesFormat line before [] r) same (Nothing before)
 
 byte_writes : (n line : ℕ) (next : FormatReader) → WritesWithin n line next → (b : ℕ)
-    (text : List ℕ) (before : Known) (read : Reading (List Part)) → b ≢ percent_sign
+    (text : List ℕ) (before : Known) (read : Reading (List Part)) → b ≢ ascii "%"
     → length text ≤ n → (next text before >>= (λ rest. Ok (with_byte b rest))) ≡ Ok read
     → WritesFormat line before (b ∷ text) read
 byte_writes n line next within b text before read other most is =
@@ -47,56 +47,56 @@ byte_writes n line next within b text before read other most is =
 
 sign_writes : (n line : ℕ) (next : FormatReader) → WritesWithin n line next
     → (text : List ℕ) (before : Known) (read : Reading (List Part)) → length text ≤ n
-    → (next text before >>= (λ rest. Ok (with_byte percent_sign rest))) ≡ Ok read
-    → WritesFormat line before (percent_sign ∷ percent_sign ∷ text) read
+    → (next text before >>= (λ rest. Ok (with_byte (ascii "%") rest))) ≡ Ok read
+    → WritesFormat line before (ascii "%" ∷ ascii "%" ∷ text) read
 sign_writes n line next within text before read most is =
     let (others, others_are, whole) =
-    and_then_ok (next text before) (λ rest. Ok (with_byte percent_sign rest)) read is in
-    let same : with_byte percent_sign others ≡ read = cc in
+    and_then_ok (next text before) (λ rest. Ok (with_byte (ascii "%") rest)) read is in
+    let same : with_byte (ascii "%") others ≡ read = cc in
     subst
-    (λ (r : Reading (List Part)). WritesFormat line before (percent_sign ∷ percent_sign ∷ text) r)
+    (λ (r : Reading (List Part)). WritesFormat line before (ascii "%" ∷ ascii "%" ∷ text) r)
     same (PercentSign before text others (within text before others most others_are))
 
 value_writes : (n line : ℕ) (next : FormatReader) → WritesWithin n line next
     → (text : List ℕ) (before : Known) (read : Reading (List Part)) → length text ≤ n
     → value_part next line text before ≡ Ok read
-    → WritesFormat line before (percent_sign ∷ open_bracket ∷ text) read
+    → WritesFormat line before (ascii "%" ∷ ascii "[" ∷ text) read
 value_writes n line next within text before read most is =
-    let rest = rest_after (steps_of (Some close_bracket) text) in
+    let rest = rest_after (steps_of (Some (ascii "]")) text) in
     let (expr, expr_is, after) =
-    and_then_ok (expr_of (Some close_bracket) line text before)
+    and_then_ok (expr_of (Some (ascii "]")) line text before)
     (λ found. next rest found.known >>= (λ others. Ok (with_value found.value others))) read is in
     let (others, others_are, whole) =
     and_then_ok (next rest expr.known) (λ others. Ok (with_value expr.value others)) read after in
-    let w = expr_writes (Some close_bracket) line text before expr expr_is in
+    let w = expr_writes (Some (ascii "]")) line text before expr expr_is in
     let shorter : length rest ≤ n =
     omega (arith, ap length w.whole, length-append w.inside rest) in
     let same : with_value expr.value others ≡ read = cc in
-    let writes : WritesFormat line before (percent_sign ∷ open_bracket ∷ (w.inside ++ rest))
+    let writes : WritesFormat line before (ascii "%" ∷ ascii "[" ∷ (w.inside ++ rest))
     (with_value expr.value others) =
     ValueInBrackets before w.inside rest expr others w.written
     (within rest expr.known others shorter others_are) in
-    subst (λ (t : List ℕ). WritesFormat line before (percent_sign ∷ open_bracket ∷ t) read)
+    subst (λ (t : List ℕ). WritesFormat line before (ascii "%" ∷ ascii "[" ∷ t) read)
     (sym w.whole)
     (subst (λ (r : Reading (List Part)).
-    WritesFormat line before (percent_sign ∷ open_bracket ∷ (w.inside ++ rest)) r) same writes)
+    WritesFormat line before (ascii "%" ∷ ascii "[" ∷ (w.inside ++ rest)) r) same writes)
 
 percent_writes : (n line : ℕ) (next : FormatReader) → WritesWithin n line next
     → (text : List ℕ) (before : Known) (read : Reading (List Part)) → length text ≤ n
     → after_percent next line text before ≡ Ok read
-    → WritesFormat line before (percent_sign ∷ text) read
+    → WritesFormat line before (ascii "%" ∷ text) read
 percent_writes n line next within [] before read most is =
     absurd (let bad : Err bad_format ≡ Ok read = is in cc)
 percent_writes n line next within (b ∷ text) before read most is =
-    elim (cases_Bool (b == percent_sign)) [
+    elim (cases_Bool (b == ascii "%")) [
       | inl sign ↦
-          let same : b ≡ percent_sign = eqb-true b percent_sign sign in
-          subst (λ (c : ℕ). WritesFormat line before (percent_sign ∷ c ∷ text) read) (sym same)
+          let same : b ≡ ascii "%" = eqb-true b (ascii "%") sign in
+          subst (λ (c : ℕ). WritesFormat line before (ascii "%" ∷ c ∷ text) read) (sym same)
           (sign_writes n line next within text before read (omega arith) (rw sign at is))
-      | inr other ↦ elim (cases_Bool (b == open_bracket)) [
+      | inr other ↦ elim (cases_Bool (b == ascii "[")) [
         | inl bracket ↦
-            let same : b ≡ open_bracket = eqb-true b open_bracket bracket in
-            subst (λ (c : ℕ). WritesFormat line before (percent_sign ∷ c ∷ text) read) (sym same)
+            let same : b ≡ ascii "[" = eqb-true b (ascii "[") bracket in
+            subst (λ (c : ℕ). WritesFormat line before (ascii "%" ∷ c ∷ text) read) (sym same)
             (value_writes n line next within text before read (omega arith)
             (rw (other, bracket) at is))
         | inr neither ↦
@@ -110,15 +110,15 @@ within_writes zero line (b ∷ text) before read most is =
     absurd (let no : ⊥ = omega arith in no)
 within_writes (suc n) line [] before read most is = nothing_writes line before read is
 within_writes (suc n) line (b ∷ text) before read most is =
-    elim (cases_Bool (b == percent_sign)) [
+    elim (cases_Bool (b == ascii "%")) [
       | inl sign ↦
-          let same : b ≡ percent_sign = eqb-true b percent_sign sign in
+          let same : b ≡ ascii "%" = eqb-true b (ascii "%") sign in
           subst (λ (c : ℕ). WritesFormat line before (c ∷ text) read) (sym same)
           (percent_writes n line (format_within n line) (within_writes n line) text before read
           (omega arith) (rw sign at is))
       | inr other ↦
           byte_writes n line (format_within n line) (within_writes n line) b text before read
-          (eqb-false b percent_sign other) (omega arith) (rw other at is)
+          (eqb-false b (ascii "%") other) (omega arith) (rw other at is)
     ]
 
 pub format_writes : (line : ℕ) (before : Known) (text : List ℕ) (read : Reading (List Part))

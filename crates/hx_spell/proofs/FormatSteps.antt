@@ -13,7 +13,7 @@ use Rattle.hx_spell.specs.declared.fault.SpellFault.{SpellFault}
 use Rattle.hx_spell.specs.Arguments.{◌>>=◌}
 use Rattle.hx_spell.specs.Criteria.{expr_of}
 use Rattle.hx_spell.specs.FormatView.{bytes_before, text_part, with_read}
-use Rattle.hx_base.specs.Bytes.{close_bracket, open_bracket, percent_sign}
+use Rattle.hx_base.specs.Bytes.{ascii}
 use Rattle.hx_spell.specs.Formats.{FormatReader, after_percent, byte_before, format_of, format_within, rest_after, value_part, with_byte, with_value}
 use Rattle.hx_spell.specs.Known.{Known, Reading}
 use Rattle.hx_spell.proofs.KnownLemmas.{extends_refl, extends_trans}
@@ -59,22 +59,22 @@ Alike n one other =
 
 then_alike : (one other : FormatReader) (line : ℕ) (text : List ℕ)
     (expr : Result (Reading Expr) SpellFault) → Alike (length text) one other
-    → (expr >>= (λ e. one (rest_after (steps_of (Some close_bracket) text)) e.known
+    → (expr >>= (λ e. one (rest_after (steps_of (Some (ascii "]")) text)) e.known
     >>= (λ others. Ok (with_value e.value others))))
-    ≡ (expr >>= (λ e. other (rest_after (steps_of (Some close_bracket) text)) e.known
+    ≡ (expr >>= (λ e. other (rest_after (steps_of (Some (ascii "]")) text)) e.known
     >>= (λ others. Ok (with_value e.value others))))
 then_alike one other line text (Err fault) same = refl
 then_alike one other line text (Ok e) same =
     ap (λ (others : Result (Reading (List Part)) SpellFault).
     others >>= (λ others. Ok (with_value e.value others)))
-    (same (rest_after (steps_of (Some close_bracket) text)) e.known
-    (rest_shorter (Some close_bracket) text))
+    (same (rest_after (steps_of (Some (ascii "]")) text)) e.known
+    (rest_shorter (Some (ascii "]")) text))
 
 value_alike : (one other : FormatReader) (line : ℕ) (text : List ℕ) (known : Known)
     → Alike (length text) one other
     → value_part one line text known ≡ value_part other line text known
 value_alike one other line text known same =
-    then_alike one other line text (expr_of (Some close_bracket) line text known) same
+    then_alike one other line text (expr_of (Some (ascii "]")) line text known) same
 
 either : {A : Type 0} (b : Bool) (x y other_x other_y : A) → x ≡ other_x → y ≡ other_y
     → (if b then x else y) ≡ (if b then other_x else other_y)
@@ -94,9 +94,9 @@ percent_alike : (one other : FormatReader) (line : ℕ) (text : List ℕ) (known
 percent_alike one other line [] known same = refl
 percent_alike one other line (b ∷ text) known same =
     let less : length text ≤ length (b ∷ text) = omega arith in
-    either (b == percent_sign) _ _ _ _
-    (byte_alike percent_sign (one text known) (other text known) (same text known less))
-    (either (b == open_bracket) _ _ _ _
+    either (b == ascii "%") _ _ _ _
+    (byte_alike (ascii "%") (one text known) (other text known) (same text known less))
+    (either (b == ascii "[") _ _ _ _
     (value_alike one other line text known (λ rest after h. same rest after (omega (arith, h))))
     refl)
 
@@ -109,7 +109,7 @@ within_same (suc m) (suc n) line [] known h k = refl
 within_same zero n line (b ∷ text) known h k = absurd (omega arith)
 within_same (suc m) zero line (b ∷ text) known h k = absurd (omega arith)
 within_same (suc m) (suc n) line (b ∷ text) known h k =
-    either (b == percent_sign) _ _ _ _
+    either (b == ascii "%") _ _ _ _
     (percent_alike (format_within m line) (format_within n line) line text known
     (λ rest after less. within_same m n line rest after (omega arith) (omega arith)))
     (byte_alike b (format_within m line text known) (format_within n line text known)
@@ -124,11 +124,11 @@ end_of_format line known = refl
 
 format_by_byte : (line b : ℕ) (text : List ℕ) (known : Known)
     → format_of line (b ∷ text) known
-    ≡ (if b == percent_sign then after_percent (format_of line) line text known
+    ≡ (if b == ascii "%" then after_percent (format_of line) line text known
     else (format_of line text known >>= (λ others. Ok (with_byte b others))))
 unfolding format_of
 format_by_byte line b text known =
-    either (b == percent_sign) _ _ _ _
+    either (b == ascii "%") _ _ _ _
     (percent_alike (format_within (length text) line) (format_of line) line text known
     (λ rest after less.
     within_same (length text) (length rest) line rest after less (omega arith)))
@@ -181,22 +181,22 @@ value_read parts bytes expr (Err fault) = refl
 
 pub percent_read : (parts : List Part) (bytes : List ℕ) (next : FormatReader) (line : ℕ)
     (text : List ℕ) (known : Known)
-    → with_read parts bytes (after_percent next line (percent_sign ∷ text) known)
-    ≡ with_read parts (bytes ++ percent_sign ∷ []) (next text known)
-percent_read parts bytes next line text known = byte_read parts bytes percent_sign (next text known)
+    → with_read parts bytes (after_percent next line (ascii "%" ∷ text) known)
+    ≡ with_read parts (bytes ++ ascii "%" ∷ []) (next text known)
+percent_read parts bytes next line text known = byte_read parts bytes (ascii "%") (next text known)
 
 pub expr_read : (parts : List Part) (bytes : List ℕ) (next : FormatReader) (line : ℕ)
     (text rest : List ℕ) (known after : Known) (expr : Expr)
-    → expr_of (Some close_bracket) line text known ≡ Ok (record { value = expr; known = after })
-    → rest ≡ rest_after (steps_of (Some close_bracket) text)
+    → expr_of (Some (ascii "]")) line text known ≡ Ok (record { value = expr; known = after })
+    → rest ≡ rest_after (steps_of (Some (ascii "]")) text)
     → with_read parts bytes (value_part next line text known)
     ≡ with_read (parts ++ text_part bytes ++ Value expr ∷ []) [] (next rest after)
 expr_read parts bytes next line text rest known after expr is left =
     rw (is, left)
-    (value_read parts bytes expr (next (rest_after (steps_of (Some close_bracket) text)) after))
+    (value_read parts bytes expr (next (rest_after (steps_of (Some (ascii "]")) text)) after))
 
 pub byte_next : (parts : List Part) (bytes : List ℕ) (line b : ℕ) (text : List ℕ) (known : Known)
-    → (b == percent_sign) ≡ false
+    → (b == ascii "%") ≡ false
     → with_read parts bytes (format_of line (b ∷ text) known)
     ≡ with_read parts (bytes ++ b ∷ []) (format_of line text known)
 byte_next parts bytes line b text known other =
@@ -205,7 +205,7 @@ byte_next parts bytes line b text known other =
 
 percent_next : (parts : List Part) (bytes : List ℕ) (line b : ℕ) (text : List ℕ)
     (known : Known)
-    → b ≡ percent_sign
+    → b ≡ ascii "%"
     → with_read parts bytes (format_of line (b ∷ text) known)
     ≡ with_read parts bytes (after_percent (format_of line) line text known)
 percent_next parts bytes line b text known is =
@@ -214,7 +214,7 @@ percent_next parts bytes line b text known is =
 -- the same where what follows the `%` is read on from other parts and bytes, or is refused
 pub percent_step : (parts : List Part) (bytes : List ℕ) (new_parts : List Part)
     (new_bytes : List ℕ) (line b : ℕ) (text rest : List ℕ) (known after : Known)
-    → b ≡ percent_sign
+    → b ≡ ascii "%"
     → ((next : FormatReader)
     → with_read parts bytes (after_percent next line text known)
     ≡ with_read new_parts new_bytes (next rest after))
@@ -225,7 +225,7 @@ percent_step parts bytes new_parts new_bytes line b text rest known after is on 
 
 pub percent_refused : (parts : List Part) (bytes : List ℕ) (line b : ℕ) (text : List ℕ)
     (known : Known) (fault : SpellFault)
-    → b ≡ percent_sign → ((next : FormatReader) → after_percent next line text known ≡ Err fault)
+    → b ≡ ascii "%" → ((next : FormatReader) → after_percent next line text known ≡ Err fault)
     → with_read parts bytes (format_of line (b ∷ text) known) ≡ Err fault
 percent_refused parts bytes line b text known fault is wrong =
     percent_next parts bytes line b text known is
@@ -249,16 +249,16 @@ by_first (first ∷ text) b some is =
 
 -- a `%` that follows another
 pub sign_on : (parts : List Part) (bytes : List ℕ) (next : FormatReader) (line : ℕ)
-    (text : List ℕ) (known : Known) → 1 ≤ length text → get_or text 0 0 ≡ percent_sign
+    (text : List ℕ) (known : Known) → 1 ≤ length text → get_or text 0 0 ≡ ascii "%"
     → with_read parts bytes (after_percent next line text known)
-    ≡ with_read parts (bytes ++ percent_sign ∷ []) (next (take (length text - 1) (drop 1 text)) known)
+    ≡ with_read parts (bytes ++ ascii "%" ∷ []) (next (take (length text - 1) (drop 1 text)) known)
 sign_on parts bytes next line text known some is =
     ap (λ (t : List ℕ). with_read parts bytes (after_percent next line t known))
-    (by_first text percent_sign some is)
+    (by_first text (ascii "%") some is)
     ∙ percent_read parts bytes next line (take (length text - 1) (drop 1 text)) known
 
 pub byte_on : (parts : List Part) (bytes : List ℕ) (line : ℕ) (text : List ℕ) (known : Known)
-    → 1 ≤ length text → get_or text 0 0 ≢ percent_sign
+    → 1 ≤ length text → get_or text 0 0 ≢ ascii "%"
     → with_read parts bytes (format_of line text known)
     ≡ with_read parts (bytes ++ get_or text 0 0 ∷ [])
     (format_of line (take (length text - 1) (drop 1 text)) known)
@@ -266,11 +266,11 @@ byte_on parts bytes line text known some other =
     let b = get_or text 0 0 in
     ap (λ (t : List ℕ). with_read parts bytes (format_of line t known)) (by_first text b some refl)
     ∙ byte_next parts bytes line b (take (length text - 1) (drop 1 text)) known
-    (ne_eqb b percent_sign other)
+    (ne_eqb b (ascii "%") other)
 
 pub percent_on : (parts : List Part) (bytes : List ℕ) (new_parts : List Part)
     (new_bytes : List ℕ) (line : ℕ) (text rest : List ℕ) (known after : Known)
-    → 1 ≤ length text → get_or text 0 0 ≡ percent_sign
+    → 1 ≤ length text → get_or text 0 0 ≡ ascii "%"
     → ((next : FormatReader) → with_read parts bytes
     (after_percent next line (take (length text - 1) (drop 1 text)) known)
     ≡ with_read new_parts new_bytes (next rest after))
@@ -283,7 +283,7 @@ percent_on parts bytes new_parts new_bytes line text rest known after some is on
     rest known after is on
 
 pub refused_on : (parts : List Part) (bytes : List ℕ) (line : ℕ) (text : List ℕ) (known : Known)
-    (fault : SpellFault) → 1 ≤ length text → get_or text 0 0 ≡ percent_sign
+    (fault : SpellFault) → 1 ≤ length text → get_or text 0 0 ≡ ascii "%"
     → ((next : FormatReader)
     → after_percent next line (take (length text - 1) (drop 1 text)) known ≡ Err fault)
     → with_read parts bytes (format_of line text known) ≡ Err fault

@@ -1,8 +1,27 @@
 -- What is known grows: references, heads and what they are used for are added at the end.
-use Rattle.std.proofs.Common.{◌≡◌, List, ◌++◌, length, drop, refl, sym, ◌∙◌, ap, subst, append_assoc}
+use Rattle.std.proofs.Common.{◌≡◌, ℕ, List, [], ◌∷◌, ◌++◌, Option, Ok, Err, length, drop, refl, sym, ◌∙◌, ap, subst, append_assoc}
+use Rattle.std.specs.Prelude.{Result, if◌then◌else◌}
+use Rattle.std.specs.Option.{option_map_or}
 use Rattle.std.proofs.lemmas.List.{take-append-drop}
 use Rattle.std.proofs.Math.Seq.{take-append_seam, take-length}
-use Rattle.hx_spell.specs.Known.{Known, BeginsWith, Extends}
+use Rattle.hx_spell.specs.declared.fault.SpellFault.{SpellFault}
+use Rattle.hx_spell.specs.declared.table_specs.HeadSpec.{HeadSpec}
+use Rattle.hx_spell.specs.Codes.{file_kind}
+use Rattle.hx_spell.specs.Known.{Known, BeginsWith, Extends, Reading, ReferenceForm, has_columns, reading, with_reference}
+
+-- ---- places that are found, or new ones
+
+abbrev pub file_or_new : ReferenceForm → Known → Option ℕ → Result (Reading ℕ) SpellFault
+file_or_new form known place =
+    option_map_or
+    (λ place. if has_columns known place form.two_column then Ok (reading place known)
+    else Err file_kind)
+    place (with_reference form known)
+
+abbrev pub head_or_new : HeadSpec → Known → Option ℕ → Reading ℕ
+head_or_new head known number =
+    option_map_or (λ number. reading number known) number
+    (reading (length known.heads) (record known { heads = known.heads ++ head ∷ [] }))
 
 -- ---- lists
 

@@ -1,6 +1,7 @@
 -- Words that spell a statement are read as it.
 use Rattle.std.proofs.Common.{◌≡◌, ℕ, Bool, true, false, List, [], ◌∷◌, ◌++◌, None, Some, Ok, refl, sym, ap, inl, inr}
 use Rattle.std.specs.Option.{ok_or}
+use Rattle.std.specs.Prelude.{codes, if◌then◌else◌}
 use Rattle.hx_words.specs.Calls.{step_of}
 use Rattle.hx_ast.specs.declared.Action.{Action}
 use Rattle.hx_ast.specs.declared.Rule.{Rule}
@@ -9,13 +10,14 @@ use Rattle.hx_ast.specs.declared.Statement.TheVariants as statement
 use Rattle.hx_spell.specs.Actions.{action_words, format_word, head_of_step, taken, with_redirect}
 use Rattle.hx_spell.specs.Arguments.{◌>>=◌}
 use Rattle.hx_spell.specs.Codes.{bad_argument}
-use Rattle.hx_spell.specs.ConditionRelation.{SpellWhen, polarity_text}
+use Rattle.hx_spell.specs.ConditionRelation.{SpellWhen}
 use Rattle.hx_spell.specs.ConditionRelation.SpellWhen.{Always, Conditionally}
 use Rattle.hx_spell.specs.Conditions.{cond_of}
 use Rattle.hx_spell.specs.Declarations.{decl_of}
 use Rattle.hx_spell.specs.Known.{Known, Reading}
 use Rattle.hx_spell.specs.Lines.{When, acl_statement, keyword_statement, keyword_table, line_of, polarity_table, rule_of, rule_reading, rule_statement, then_begun, when_of, when_reading}
-use Rattle.hx_spell.specs.Relation.{SpellAcl, SpellBackend, SpellFallback, SpellHttpRequest, SpellLine, SpellPlain, SpellRedirectLine, SpellStatement}
+use Rattle.hx_spell.specs.ActionRelation.{SpellAction, SpellRedirect}
+use Rattle.hx_spell.specs.Relation.{SpellAcl, SpellBackend, SpellFallback, SpellLine, SpellPlain, SpellRule, SpellStatement}
 use Rattle.hx_spell.specs.Relation.SpellPlain.{FrontendLine, ModeLine, OptionLine, BindLine, DescriptionLine, LogLine, LogFormatLine, MaxconnLine, TimeoutLine}
 use Rattle.hx_spell.specs.Tables.{entry_at}
 use Rattle.hx_spell.proofs.ActionReadLemmas.{NoOption, ReadsAction, action_reads, format_word_read, redirect_reads}
@@ -55,6 +57,18 @@ acl_reads line known words read s =
     s.decl read ((decl_law line s.text s.others known s.decl).1 s.spelled) (ap Ok (sym s.is)))
 
 -- ---- rules
+
+-- the words of a rule of `http-request`, and of a redirect that is a statement of its own
+abbrev pub SpellHttpRequest : ℕ → Known → List (List ℕ) → Reading Statement → Type 0
+SpellHttpRequest line before words read =
+    SpellRule line before words read (codes "http-request") statement.Rule SpellAction
+
+abbrev pub SpellRedirectLine : ℕ → Known → List (List ℕ) → Reading Statement → Type 0
+SpellRedirectLine line before words read =
+    SpellRule line before words read (codes "redirect") statement.Redirect SpellRedirect
+
+abbrev pub polarity_text : Bool → List ℕ
+polarity_text unless = if unless then codes "unless" else codes "if"
 
 polarity_row : (unless : Bool) → entry_at polarity_table (polarity_text unless) ≡ Some unless
 unfolding polarity_table
@@ -110,8 +124,8 @@ words_read line known (word ∷ words) others action read (head, head_is, words_
 request_reads : (line : ℕ) (known : Known) (words : List (List ℕ)) (read : Reading Statement)
     → SpellHttpRequest line known words read → Reads line known words read
 unfolding keyword_table
-request_reads line known words read (others, rule, words_are, s, is) =
-    rw (words_are, is, s.is, s.words_are)
+request_reads line known words read s =
+    rw (s.words_are, s.is)
     (words_read line known s.action_words s.others s.action
     (made statement.Rule (rule_when line s.action.value s.when))
     (action_reads line known s.action_words s.action s.spelled s.others
@@ -122,8 +136,8 @@ redirect_line_reads : (line : ℕ) (known : Known) (words : List (List ℕ))
     (read : Reading Statement) → SpellRedirectLine line known words read
     → Reads line known words read
 unfolding keyword_table
-redirect_line_reads line known words read (others, rule, words_are, s, is) =
-    rw (words_are, is, s.is, s.words_are)
+redirect_line_reads line known words read s =
+    rw (s.words_are, s.is)
     (then_ok (with_redirect line (s.action_words ++ s.others) known)
     (λ act. rule_statement line statement.Redirect act)
     (taken s.action.value s.others s.action.known)

@@ -1,5 +1,5 @@
 -- Words that are read as a statement spell it.
-use Rattle.std.proofs.Common.{◌≡◌, ℕ, Bool, true, false, List, [], ◌∷◌, Option, None, Some, Ok, Err, refl, sym, ap, subst, inl, inr}
+use Rattle.std.proofs.Common.{◌≡◌, ℕ, Bool, true, false, List, [], ◌∷◌, Option, None, Some, Ok, Err, refl, sym, ◌∙◌, ap, subst, inl, inr}
 use Rattle.std.specs.Prelude.{Result, codes, if◌then◌else◌}
 use Rattle.std.specs.List.{list_any}
 use Rattle.std.specs.Option.{ok_or}
@@ -11,24 +11,25 @@ use Rattle.hx_ast.specs.declared.Rule.{Rule}
 use Rattle.hx_ast.specs.declared.Statement.{Statement}
 use Rattle.hx_ast.specs.declared.Statement.TheVariants as statement
 use Rattle.hx_spell.specs.declared.fault.SpellFault.{SpellFault}
-use Rattle.hx_spell.specs.ActionRelation.{SpellAction, SpellRedirect, spelled}
+use Rattle.hx_spell.specs.ActionRelation.{SpellAction, SpellRedirect}
 use Rattle.hx_spell.specs.Actions.{Taken, action_words, head_of_step, taken, with_redirect}
 use Rattle.hx_spell.specs.Arguments.{◌>>=◌}
 use Rattle.hx_spell.specs.Codes.{bad_argument, bad_name, misplaced, unsupported}
-use Rattle.hx_spell.specs.ConditionRelation.{SpellWhen, polarity_text}
+use Rattle.hx_spell.specs.ConditionRelation.{SpellWhen}
 use Rattle.hx_spell.specs.ConditionRelation.SpellWhen.{Always, Conditionally}
 use Rattle.hx_spell.specs.Conditions.{cond_of, is_acl_name, is_name}
 use Rattle.hx_spell.specs.Declarations.{decl_of}
-use Rattle.hx_spell.specs.Known.{Known, Reading, with_fallback}
+use Rattle.hx_spell.specs.Known.{Known, Reading, reading, with_fallback}
 use Rattle.hx_spell.specs.Lines.{Keyword, When, acl_after_name, acl_of, acl_statement, backend_of, fallback_named, fallback_of, keyword_statement, keyword_table, line_of, mode_fault, option_fault, placed_frontend_fault, plain_options, plain_unless, polarity_table, redirect_of, rule_of, rule_reading, rule_statement, then_begun, when_of, when_reading}
 use Rattle.hx_spell.specs.Lines.Keyword.{Frontend, Mode, Options, Ignored, Acl, HttpRequest, Redirect, UseBackend, DefaultBackend}
-use Rattle.hx_spell.specs.Relation.{SpellAcl, SpellBackend, SpellFallback, SpellHttpRequest, SpellLine, SpellPlain, SpellRedirectLine, SpellRule, SpellStatement}
+use Rattle.hx_spell.specs.Relation.{SpellAcl, SpellBackend, SpellFallback, SpellLine, SpellPlain, SpellRule, SpellStatement}
 use Rattle.hx_spell.specs.Relation.SpellPlain.{FrontendLine, ModeLine, OptionLine, BindLine, DescriptionLine, LogLine, LogFormatLine, MaxconnLine, TimeoutLine}
 use Rattle.hx_spell.specs.Tables.{entry_at}
 use Rattle.hx_spell.proofs.ActionSpellLemmas.{ActionSpelled, action_spells, format_then, redirect_spells}
 use Rattle.hx_spell.proofs.ConditionLemmas.{cond_law}
 use Rattle.hx_spell.proofs.ConditionWordLemmas.{name_is, same_bytes}
 use Rattle.hx_spell.proofs.DeclarationLemmas.{decl_law}
+use Rattle.hx_spell.proofs.LineReadLemmas.{SpellHttpRequest, SpellRedirectLine, polarity_text}
 use Rattle.hx_spell.proofs.LineSteps.{backend_when, made, rule_when}
 use Rattle.hx_spell.proofs.ResultLemmas.{and_then_ok, ok_or_is}
 use Rattle.hx_spell.proofs.RowLemmas.{EachRow, found_row}
@@ -196,19 +197,21 @@ rule_spells line make act read is =
     }
 
 -- words of an action, and those of a condition
-words_spell : (line : ℕ) (before : Known) (words : List (List ℕ)) (make : Rule → Statement)
-    (act : Reading (Taken Action)) (read : Reading Statement)
-    (IsActionOf : List (List ℕ) → Reading Action → Type 0) → ActionSpelled IsActionOf words act
-    → (r : RuleSpelled line make act read) → SpellRule line before words r.rule IsActionOf
-words_spell line before words make act read IsActionOf a r = record {
+words_spell : (line : ℕ) (before : Known) (words : List (List ℕ)) (keyword : List ℕ)
+    (make : Rule → Statement) (act : Reading (Taken Action)) (read : Reading Statement)
+    (IsActionOf : ℕ → Known → List (List ℕ) → Reading Action → Type 0)
+    → ActionSpelled (IsActionOf line before) words act
+    → RuleSpelled line make act read
+    → SpellRule line before (keyword ∷ words) read keyword make IsActionOf
+words_spell line before words keyword make act read IsActionOf a r = record {
   action_words = a.own;
   others = act.value.words;
-  words_are = a.words_are;
-  action = spelled act.known act.value.item;
+  words_are = ap (λ w. keyword ∷ w) a.words_are;
+  action = reading act.value.item act.known;
   spelled = a.such;
   when = r.when;
   with_cond = r.with_cond;
-  is = r.rule_is;
+  is = r.is ∙ ap (λ rule. made make rule) r.rule_is;
 }
 
 request_spells : (line : ℕ) (words : List (List ℕ)) (known : Known) (read : Reading Statement)
@@ -222,13 +225,9 @@ request_spells line (word ∷ words) known read is =
     let (act, act_is, whole) = and_then_ok (action_words line head.value words head.known)
     (λ act. rule_statement line statement.Rule act) read after in
     let a = action_spells line known word words head act head_is act_is in
-    let r = rule_spells line statement.Rule act read whole in (
-      word ∷ words,
-      r.rule,
-      refl,
-      words_spell line known (word ∷ words) statement.Rule act read (SpellAction line known) a r,
-      r.is,
-    )
+    let r = rule_spells line statement.Rule act read whole in
+    words_spell line known (word ∷ words) (codes "http-request") statement.Rule act read
+    SpellAction a r
 
 redirect_line_spells : (line : ℕ) (words : List (List ℕ)) (known : Known)
     (read : Reading Statement) → redirect_of line words known ≡ Ok read
@@ -237,13 +236,9 @@ redirect_line_spells line words known read is =
     let (act, act_is, whole) = and_then_ok (with_redirect line words known)
     (λ act. rule_statement line statement.Redirect act) read is in
     let a = redirect_spells line known words act act_is in
-    let r = rule_spells line statement.Redirect act read whole in (
-      words,
-      r.rule,
-      refl,
-      words_spell line known words statement.Redirect act read (SpellRedirect line known) a r,
-      r.is,
-    )
+    let r = rule_spells line statement.Redirect act read whole in
+    words_spell line known words (codes "redirect") statement.Redirect act read
+    SpellRedirect a r
 
 -- ---- backends
 

@@ -1,8 +1,8 @@
 -- After an ACL what is known is sound, where it was, and the ACL names heads that are known.
 use Rattle.std.proofs.Common.{◌≡◌, ℕ, Bool, true, false, cond, List, [], ◌∷◌, ◌-◌, ◌^◌, ◌&&◌, Option, None, Some, Ok, Err, arith, refl, sym, subst}
-use Rattle.std.specs.Prelude.{is_some, ◌||◌}
+use Rattle.std.specs.Prelude.{Result, is_some, ◌||◌, ◌++◌}
 use Rattle.std.specs.List.{All}
-use Rattle.std.specs.Option.{ok_or}
+use Rattle.std.specs.Option.{ok_or, option_map_or}
 use Rattle.std.proofs.lemmas.List.Elements.{All-cons, All-head, All-nil, All-push, All-tail, All-weaker}
 use Rattle.hx_text.specs.Network.{width_of}
 use Rattle.hx_text.specs.declared.By.{By}
@@ -12,17 +12,17 @@ use Rattle.hx_ast.specs.Acls.{IsDecl, compares_texts, takes_patterns}
 use Rattle.hx_spell.specs.declared.fault.SpellFault.{SpellFault}
 use Rattle.hx_spell.specs.declared.table_specs.HeadSpec.{HeadSpec}
 use Rattle.hx_spell.specs.Codes.{bad_argument, unsupported}
-use Rattle.hx_spell.specs.Declarations.{Way, bare_decl, decl_of, decl_reading, file_heads, has_no_patterns, heads_of_keys, ignores_case, pattern_decl, unless_fault, with_words_head, words_form, words_head}
-use Rattle.hx_spell.specs.Flags.{AfterFlags, Flag, Flags, Searched, flag_argument, method_table, with_searched}
+use Rattle.hx_spell.specs.Declarations.{Way, decl_of, decl_reading, file_heads, has_no_patterns, heads_of_keys, ignores_case, pattern_decl, words_head}
+use Rattle.hx_spell.specs.Flags.{AfterFlags, Flag, Flags, Searched, flag_argument, method_table}
 use Rattle.hx_spell.specs.Flags.{IgnoreCase, TwoColumns, Numeric, File, Method, Number}
 use Rattle.hx_spell.specs.Heads.{DeclNames, IsHeadBy, NamesHead}
-use Rattle.hx_spell.specs.Known.{Known, Reading, with_acl, with_head, with_named_file, with_reference}
+use Rattle.hx_spell.specs.Known.{Known, Reading, reading, reference_form, with_acl, with_head, with_named_file, with_reference}
 use Rattle.hx_spell.specs.Patterns.{keys_of}
 use Rattle.hx_spell.specs.AclRelation.{SpellDecl, SpellFlags, flag_alone}
 use Rattle.hx_spell.specs.AclRelation.SpellFlags.{NoFlags, FlagAlone, FlagWithArgument}
 use Rattle.hx_spell.specs.Sound.{IsReference}
 use Rattle.hx_spell.specs.Tables.{entry_at}
-use Rattle.hx_spell.proofs.DeclarationLemmas.{decl_is_decl, decl_law}
+use Rattle.hx_spell.proofs.DeclarationLemmas.{bare_decl, decl_is_decl, decl_law}
 use Rattle.hx_spell.proofs.HeadLemmas.{later_by, names_later}
 use Rattle.hx_spell.proofs.ResultLemmas.{and_then_ok, both}
 use Rattle.hx_spell.proofs.SoundExprLemmas.{criterion_grown}
@@ -50,6 +50,12 @@ files_more a b flags grown = still_there a b grown flags.files
 
 abbrev FlagsAfter : Known → Reading Flags → Type 0
 FlagsAfter before read = Grown before read.known × HaveFiles read.known read.value
+
+abbrev with_searched : Flags → Reading ℕ → Reading Flags
+with_searched flags file =
+    let searched : Searched = record { table = file.value; ci = flags.ci } in
+    let more = record flags { files = flags.files ++ searched ∷ [] } in
+    reading more (with_acl file.value file.known)
 
 searched_after : (flags : Flags) (before : Known) (file : Reading ℕ) → HaveFiles before flags
     → ReadsReference before file → FlagsAfter before (with_searched flags file)
@@ -175,9 +181,16 @@ words_after way such ci before place (grown, there) =
       names,
     )
 
-unfaulted : {A : Type 0} (fault : Option SpellFault) (x y : A) → unless_fault fault x ≡ Ok y → x ≡ y
-unfaulted None x y is = cc
-unfaulted (Some fault) x y is = absurd (let no : ⊥ = cc in no)
+unfaulted : {A : Type 0} (fault : Option SpellFault) (r : Result A SpellFault) (y : A)
+    → option_map_or Err fault r ≡ Ok y → r ≡ Ok y
+unfaulted None r y is = is
+unfaulted (Some fault) r y is = absurd (let no : ⊥ = cc in no)
+
+abbrev Answer : Type 0
+Answer = Result (Reading (List ℕ)) SpellFault
+
+same_value : (x y : Reading (List ℕ)) (r s : Answer) → r ≡ Ok x → s ≡ Ok y → r ≡ s → x ≡ y
+same_value x y r s first second is = cc
 
 unless_given : (b : Bool) (x y : Reading (List ℕ)) → cond b (Err bad_argument) (Ok x) ≡ Ok y
     → x ≡ y
@@ -188,13 +201,11 @@ keys_after : (line : ℕ) (way : Way) → IsWay way → (flags : Flags) (keys : 
     (fault : Option SpellFault) (before : Known) (files read : Reading (List ℕ))
     → HeadsAfter way.by before files → heads_of_keys line way flags keys fault files ≡ Ok read
     → HeadsAfter way.by before read
-keys_after line way such flags [] (Some fault) before files read all is =
-    absurd (let no : ⊥ = cc in no)
-keys_after line way such flags [] None before files read all is =
+keys_after line way such flags [] fault before files read all is =
     subst (λ (r : Reading (List ℕ)). HeadsAfter way.by before r)
-    (unless_given (is_some flags.given) files read is) all
+    (unless_given (is_some flags.given) files read (unfaulted fault _ read is)) all
 keys_after line way such flags (key ∷ keys) fault before files read (grown, all) is =
-    let form = words_form line flags.given (key ∷ keys) in
+    let form = reference_form None flags.given false line (key ∷ keys) in
     let (place, there, after) =
     and_then_ok (with_reference form files.known) _ read is in
     let last = words_head way flags.ci place in
@@ -206,7 +217,8 @@ keys_after line way such flags (key ∷ keys) fault before files read (grown, al
     All-weaker (IsHeadBy files.known.heads way.by) (IsHeadBy last.known.heads way.by)
     (later_by files.known.heads last.known.heads more.heads way.by) files.value all in
     subst (λ (r : Reading (List ℕ)). HeadsAfter way.by before r)
-    (unfaulted fault (with_words_head files.value last) read after) (
+    (same_value (reading (files.value ++ last.value ∷ []) last.known) read _ (Ok read) refl refl
+    (unfaulted fault (Ok (reading (files.value ++ last.value ∷ []) last.known)) read after)) (
       grown_trans before files.known last.known grown more,
       All-push (IsHeadBy last.known.heads way.by) files.value last.value still names,
     )

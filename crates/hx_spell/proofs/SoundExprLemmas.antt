@@ -3,6 +3,7 @@
 use Rattle.std.proofs.Common.{◌≡◌, ℕ, true, false, zero, suc, List, [], ◌∷◌, ◌==◌, length, Option, None, Some, Ok, arith, refl}
 use Rattle.std.specs.Prelude.{IfSome, Result, slice_get}
 use Rattle.std.specs.List.{All}
+use Rattle.std.specs.Option.{ok_or}
 use Rattle.std.proofs.lemmas.List.Elements.{All-cons, All-nil, All-tail, All-weaker}
 use Rattle.hx_text.specs.declared.By.{By}
 use Rattle.hx_text.specs.declared.By.TheVariants as method
@@ -26,13 +27,13 @@ use Rattle.hx_spell.specs.declared.table_specs.HeadSpec.{HeadSpec}
 use Rattle.hx_spell.specs.declared.table_specs.MapOutput.{MapOutput}
 use Rattle.hx_spell.specs.Arguments.{◌>>=◌, is_count, optional}
 use Rattle.hx_spell.specs.Codes.{bad_argument, bad_format}
-use Rattle.hx_spell.specs.Criteria.{Criterion, MapWay, conv_by, conv_call, conv_fault_by, conv_step, convs_after, criterion_of, criterion_of_steps, expr_fetch, expr_of, expr_of_steps, fetch_step, map_arguments, map_file, map_head, map_table, plain_conv, value_of_map}
+use Rattle.hx_spell.specs.Criteria.{Criterion, MapWay, conv_by, conv_call, conv_fault_by, conv_step, convs_after, criterion_of, criterion_of_steps, expr_fetch, expr_of, expr_of_steps, fetch_step, map_arguments, map_head, map_table, value_of_map}
 use Rattle.hx_spell.specs.Expressions.{call_meaning, fault_of}
 use Rattle.hx_spell.specs.ExpressionRelation.{WritesCriterion}
-use Rattle.hx_base.specs.Bytes.{close_bracket, open_bracket, percent_sign}
+use Rattle.hx_base.specs.Bytes.{ascii}
 use Rattle.hx_spell.specs.Formats.{FormatReader, after_percent, byte_before, format_of, format_within, rest_after, value_part, with_byte}
 use Rattle.hx_spell.specs.Heads.{ExprNames, FormatNames, NamesHead, PartNames}
-use Rattle.hx_spell.specs.Known.{Known, Reading, nothing_known, with_output}
+use Rattle.hx_spell.specs.Known.{Known, Reading, nothing_known, reading, with_named_file, with_output}
 use Rattle.hx_spell.specs.Sound.{IsReference}
 use Rattle.hx_spell.specs.Tables.{Maker, conv_table, entry_at, fetch_table}
 use Rattle.hx_spell.proofs.CriterionFormLemmas.{IsMapWay, map_entry, map_value_such}
@@ -69,7 +70,8 @@ map_head_grown way file such there =
     )
 
 map_file_brings : (line : ℕ) (name : Option (List ℕ)) (known : Known)
-    → Brings IsReference known (map_file line name known)
+    → Brings IsReference known
+    (ok_or name bad_argument >>= (λ name. with_named_file line name true known))
 map_file_brings line None known = tt
 map_file_brings line (Some name) known = named_file_brings line name true known
 
@@ -85,7 +87,8 @@ map_brings : (line : ℕ) (way : MapWay) → IsMapWay way → (args : List (List
     → Brings IsKnownConv known (map_arguments line way args known)
 map_brings line way such args known =
     tested_brings IsKnownConv known (is_count 1 2 (length args)) _ bad_argument
-    (λ counted. then_brings IsReference IsKnownConv known (map_file line (slice_get args 0) known) _
+    (λ counted. then_brings IsReference IsKnownConv known
+    (ok_or (slice_get args 0) bad_argument >>= (λ name. with_named_file line name true known)) _
     (map_file_brings line (slice_get args 0) known)
     (λ file grown there. step_brings IsKnownConv file.known
     (optional (value_of_map way.out) bad_argument (slice_get args 1)) _
@@ -104,7 +107,7 @@ conv_by_brings : (line : ℕ) (way : Option MapWay) → IfSome way IsMapWay → 
     (known : Known) → Brings IsKnownConv known (conv_by line way call known)
 conv_by_brings line (Some way) such call known = map_brings line way such call.args known
 conv_by_brings line None such call known =
-    step_brings IsKnownConv known (call_meaning conv_table call) (λ c. Ok (plain_conv known c))
+    step_brings IsKnownConv known (call_meaning conv_table call) (λ c. Ok (reading c known))
     (λ c meant.
     let plain = given_value IsPlainConv (call_meaning conv_table call) c (conv_gives call) meant in
     (grown_refl known, (plain.0, plain_names known.heads c plain.1)))
@@ -125,7 +128,7 @@ conv_fault_brings : (way : Option MapWay) (name : List ℕ) (fault : ArgFault) (
 conv_fault_brings (Some way) name fault known = tt
 conv_fault_brings None name fault known =
     step_brings IsKnownConv known (fault_of (entry_at conv_table name) fault)
-    (λ c. Ok (plain_conv nothing_known c))
+    (λ c. Ok (reading c nothing_known))
     (λ c is. absurd (never_made (entry_at conv_table name) fault c is))
 
 conv_step_brings : (line : ℕ) (step : Step) (known : Known)
@@ -262,9 +265,9 @@ ReadsParts next =
 value_brings : (next : FormatReader) → ReadsParts next → (line : ℕ) (text : List ℕ) (known : Known)
     → Brings AreKnownParts known (value_part next line text known)
 value_brings next reads line text known =
-    let rest = rest_after (steps_of (Some close_bracket) text) in
-    then_brings IsKnownExpr AreKnownParts known (expr_of (Some close_bracket) line text known) _
-    (expr_brings (Some close_bracket) line text known)
+    let rest = rest_after (steps_of (Some (ascii "]")) text) in
+    then_brings IsKnownExpr AreKnownParts known (expr_of (Some (ascii "]")) line text known) _
+    (expr_brings (Some (ascii "]")) line text known)
     (λ expr grown such. then_brings AreKnownParts AreKnownParts expr.known (next rest expr.known) _
     (reads rest expr.known)
     (λ others more all. (
@@ -277,9 +280,9 @@ percent_brings : (next : FormatReader) → ReadsParts next → (line : ℕ) (tex
     (known : Known) → Brings AreKnownParts known (after_percent next line text known)
 percent_brings next reads line [] known = tt
 percent_brings next reads line (b ∷ text) known =
-    either_brings AreKnownParts known (b == percent_sign) _ _
-    (λ is. byte_brings percent_sign known (next text known) (reads text known))
-    (λ other. tested_brings AreKnownParts known (b == open_bracket) _ bad_format
+    either_brings AreKnownParts known (b == ascii "%") _ _
+    (λ is. byte_brings (ascii "%") known (next text known) (reads text known))
+    (λ other. tested_brings AreKnownParts known (b == ascii "[") _ bad_format
     (λ is. value_brings next reads line text known))
 
 within_brings : (n line : ℕ) (text : List ℕ) (known : Known)
@@ -287,7 +290,7 @@ within_brings : (n line : ℕ) (text : List ℕ) (known : Known)
 within_brings zero line text known = (grown_refl known, All-nil (IsKnownPart known))
 within_brings (suc n) line [] known = (grown_refl known, All-nil (IsKnownPart known))
 within_brings (suc n) line (b ∷ text) known =
-    either_brings AreKnownParts known (b == percent_sign) _ _
+    either_brings AreKnownParts known (b == ascii "%") _ _
     (λ is. percent_brings (format_within n line) (within_brings n line) line text known)
     (λ other. byte_brings b known (format_within n line text known)
     (within_brings n line text known))

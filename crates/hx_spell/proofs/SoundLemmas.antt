@@ -1,8 +1,8 @@
 -- What is known grows, and stays sound: references have files of their own, and heads are of one
 -- kind each and of references that are known.
-use Rattle.std.proofs.Common.{◌≡◌, ℕ, ◌+◌, ◌<◌, ◌≤◌, Bool, true, false, cond, List, [], ◌∷◌, ◌++◌, ◌==◌, length, get_or, Option, None, Some, Ok, Err, arith, refl, sym, ap, subst, length-append}
+use Rattle.std.proofs.Common.{◌≡◌, ℕ, ◌+◌, ◌<◌, ◌≤◌, Bool, true, false, cond, List, [], ◌∷◌, ◌++◌, length, get_or, Option, None, Some, Ok, Err, arith, refl, sym, ap, subst, length-append}
 use Rattle.std.specs.Prelude.{Result, nat_lt, position}
-use Rattle.std.specs.List.{All, list_any}
+use Rattle.std.specs.List.{All}
 use Rattle.std.proofs.Math.Seq.{get_or-append_seam}
 use Rattle.std.proofs.lemmas.Bool.{ltb-true}
 use Rattle.std.proofs.lemmas.List.Elements.{All-nil, All-push, All-weaker}
@@ -15,11 +15,11 @@ use Rattle.hx_spell.specs.declared.table_specs.MapOutput.{MapOutput}
 use Rattle.hx_spell.specs.Arguments.{◌>>=◌}
 use Rattle.hx_spell.specs.Codes.{file_kind, too_many_references}
 use Rattle.hx_spell.specs.Heads.{IsHeadBy}
-use Rattle.hx_spell.specs.Known.{BeginsWith, Known, Reading, ReferenceForm, after_statement, file_form, file_or_new, has_columns, head_or_new, is_head, is_of_file, is_output, most_references, named_reading, nothing_known, with_acl, with_fallback, with_file, with_head, with_name, with_named, with_named_file, with_output, with_reference}
+use Rattle.hx_spell.specs.Known.{BeginsWith, Known, Reading, ReferenceForm, after_statement, has_columns, is_head, is_of_file, most_references, nothing_known, reading, reference_form, with_acl, with_fallback, with_file, with_head, with_name, with_named, with_named_file, with_output, with_reference}
 use Rattle.hx_spell.specs.Sound.{IsReference, IsSound}
 use Rattle.hx_spell.specs.TableSpecs.{IsHeadOf}
 use Rattle.hx_spell.proofs.DistinctLemmas.{HasOtherFile, distinct_added, none_found, own_added, same_head}
-use Rattle.hx_spell.proofs.KnownLemmas.{begins_append, begins_refl, begins_trans}
+use Rattle.hx_spell.proofs.KnownLemmas.{begins_append, begins_refl, begins_trans, file_or_new, head_or_new}
 
 -- nothing is forgotten, and what was sound is so
 pub record Grown (before after : Known) : Type 0 where
@@ -175,7 +175,7 @@ found_brings form known (Some place) below other =
 pub file_brings : (line : ℕ) (name : List ℕ) (two : Bool) (known : Known)
     → Brings IsReference known (with_file line name two known)
 file_brings line name two known =
-    let form = file_form line name two in
+    let form = reference_form (Some name) None two line [] in
     found_brings form known (position (is_of_file name) known.references)
     (λ p at. (position-Some (is_of_file name) known.references p form at).0)
     (none_found (is_of_file name) known.references)
@@ -249,41 +249,22 @@ kept_grown before after references heads = record {
   };
 }
 
-typed_grown : (b : Bool) (output : MapOutput) (known : Known)
-    → Grown known (cond b known (record known { outputs = known.outputs ++ output ∷ [] }))
-typed_grown true output known = grown_refl known
-typed_grown false output known =
-    kept_grown known (record known { outputs = known.outputs ++ output ∷ [] }) refl refl
-
 pub output_grown : (output : MapOutput) (known : Known) → Grown known (with_output output known)
-output_grown output known = typed_grown (list_any (is_output output) known.outputs) output known
-
-marked_grown : (b : Bool) (table : ℕ) (known : Known)
-    → Grown known (cond b known (record known { acls = known.acls ++ table ∷ [] }))
-marked_grown true table known = grown_refl known
-marked_grown false table known =
-    kept_grown known (record known { acls = known.acls ++ table ∷ [] }) refl refl
+output_grown output known = kept_grown known (with_output output known) refl refl
 
 pub acl_grown : (table : ℕ) (known : Known) → Grown known (with_acl table known)
-acl_grown table known =
-    marked_grown (list_any (λ other. other == table) known.acls) table known
-
-added_named : (b : Bool) (table : ℕ) (known : Known)
-    → Grown known (cond b known (record known { named = known.named ++ table ∷ [] }))
-added_named true table known = grown_refl known
-added_named false table known =
-    kept_grown known (record known { named = known.named ++ table ∷ [] }) refl refl
+acl_grown table known = kept_grown known (with_acl table known) refl refl
 
 named_grown : (table : ℕ) (known : Known) → Grown known (with_named table known)
-named_grown table known =
-    added_named (list_any (λ other. other == table) known.named) table known
+named_grown table known = kept_grown known (with_named table known) refl refl
 
 -- the reference of a file that `-f` or a map converter names has a position
 pub named_file_brings : (line : ℕ) (name : List ℕ) (two : Bool) (known : Known)
     → Brings IsReference known (with_named_file line name two known)
 named_file_brings line name two known =
     then_brings IsReference IsReference known (with_file line name two known)
-    (λ file. Ok (named_reading file)) (file_brings line name two known)
+    (λ file. Ok (reading file.value (with_named file.value file.known)))
+    (file_brings line name two known)
     (λ file grown there.
     let marked : Grown file.known (with_named file.value file.known) =
     named_grown file.value file.known in

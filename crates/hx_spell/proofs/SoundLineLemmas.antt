@@ -1,6 +1,6 @@
 -- After a line what is known is sound, where it was, and its statement is one of the syntax, which
 -- names heads and references that are known.
-use Rattle.std.proofs.Common.{◌≡◌, ℕ, Bool, true, false, cond, List, [], ◌∷◌, length, Option, None, Some, Ok, Err, sym, subst, inl, inr}
+use Rattle.std.proofs.Common.{◌≡◌, ℕ, Bool, true, false, cond, List, [], ◌∷◌, length, Option, None, Some, Ok, Err, sym, subst}
 use Rattle.std.specs.Prelude.{IfOk, IfSome, OnErr, Result, nat_lt}
 use Rattle.std.specs.List.{AllByRecursion, list_all}
 use Rattle.std.specs.Option.{ok_or}
@@ -14,18 +14,20 @@ use Rattle.hx_ast.specs.declared.Action.{Action}
 use Rattle.hx_ast.specs.declared.Rule.{Rule}
 use Rattle.hx_ast.specs.declared.Statement.{Statement}
 use Rattle.hx_ast.specs.declared.Statement.TheVariants as statement
+use Rattle.hx_ast.specs.declared.AclUse.{AclUse}
 use Rattle.hx_ast.specs.declared.Term.{Term}
 use Rattle.hx_spell.specs.declared.fault.SpellFault.{SpellFault}
 use Rattle.hx_spell.specs.Actions.{Taken, action_words, format_word, head_of_step, with_redirect}
 use Rattle.hx_spell.specs.Codes.{bad_argument, bad_name, misplaced}
-use Rattle.hx_spell.specs.ConditionRelation.{SpellCond, SpellConj, SpellTerm}
+use Rattle.hx_spell.specs.ConditionRelation.{SpellCond, SpellConj, SpellTerm, SpellUse}
+use Rattle.hx_spell.specs.ConditionRelation.SpellUse.{NamedUse, OwnUse}
 use Rattle.hx_spell.specs.ConditionRelation.SpellCond.{LastConj, NextConj}
 use Rattle.hx_spell.specs.ConditionRelation.SpellConj.{LastTerm, NextTerm}
 use Rattle.hx_spell.specs.Conditions.{cond_of, is_acl_name, is_name}
-use Rattle.hx_spell.specs.Declarations.{decl_of, is_empty}
+use Rattle.hx_spell.specs.Declarations.{decl_of}
 use Rattle.hx_spell.specs.Heads.{CondNames, ConjNames, RuleNames, StatementNames, UseNames}
 use Rattle.hx_spell.specs.Known.{Known, ReadsAs, Reading}
-use Rattle.hx_spell.specs.Lines.{Keyword, When, acl_after_name, acl_of, backend_of, fallback_named, keyword_statement, keyword_table, line_of, mode_fault, option_fault, placed_frontend_fault, plain_unless, polarity_table, redirect_of, rule_of, rule_reading, rule_statement, when_of}
+use Rattle.hx_spell.specs.Lines.{Keyword, When, acl_after_name, acl_of, backend_of, fallback_named, keyword_statement, keyword_table, line_of, mode_fault, option_fault, placed_frontend_fault, plain_unless, polarity_table, redirect_of, rule_of, rule_reading, rule_statement, when_of, is_empty}
 use Rattle.hx_spell.specs.Lines.Keyword.{Acl, DefaultBackend, Frontend, HttpRequest, Ignored, Mode, Options, Redirect, UseBackend}
 use Rattle.hx_spell.specs.Sound.{IsSound}
 use Rattle.hx_spell.specs.Tables.{entry_at}
@@ -43,13 +45,18 @@ use Rattle.hx_spell.proofs.SoundLemmas.{Brings, Grown, brings_by, brought, fallb
 abbrev TermAfter : Known → Reading Term → Type 0
 TermAfter before read = Grown before read.known × UseNames read.known.heads read.value.acl
 
+use_after : (line : ℕ) (before : Known) (first : List ℕ) (others : List (List ℕ))
+    (acl : Reading AclUse) → SpellUse line before first others acl
+    → Grown before acl.known × UseNames acl.known.heads acl.value
+use_after line before _ _ _ (NamedUse name named is_known) = (grown_refl before, tt)
+use_after line before _ _ _ (OwnUse text inside decl unbroken spelled) =
+    decl_grown line before text inside decl spelled
+
 term_after : (line : ℕ) (before : Known) (words : List (List ℕ)) (read : Reading Term)
     → SpellTerm line before words read → TermAfter before read
-term_after line before words read (inl named) =
-    subst (λ (r : Reading Term). TermAfter before r) (sym named.is) (grown_refl before, tt)
-term_after line before words read (inr own) =
-    subst (λ (r : Reading Term). TermAfter before r) (sym own.is)
-    (decl_grown line before own.text own.inside own.decl own.spelled)
+term_after line before words read s =
+    subst (λ (r : Reading Term). TermAfter before r) (sym s.is)
+    (use_after line before s.first s.others s.acl s.spelled)
 
 abbrev ConjAfter : Known → Reading (List Term) → Type 0
 ConjAfter before read =

@@ -1,6 +1,6 @@
 -- What the rows of the tables make has arguments that the syntax allows, or is refused by a code.
 use Rattle.std.proofs.Common.{◌≡◌, ℕ, ◌<◌, ◌≤◌, Bool, true, false, cond, List, [], ◌∷◌, length, Option, None, Some, Ok, Err, refl}
-use Rattle.std.specs.Prelude.{ℤ, pos, IsTrue, Result, IfSome, slice_get}
+use Rattle.std.specs.Prelude.{ℤ, pos, IsTrue, Result, IfSome, option_map, slice_get, unwrap_or}
 use Rattle.std.specs.Option.{ok_or, option_flatten}
 use Rattle.std.specs.Str.{bytes_eq}
 use Rattle.httparse.specs.Grammar.{IsToken}
@@ -21,8 +21,8 @@ use Rattle.hx_spell.specs.declared.fault.SpellFault.{SpellFault}
 use Rattle.hx_spell.specs.declared.fault.SpellFault.TheVariants as spell
 use Rattle.hx_spell.specs.Codes.{bad_argument, bad_name}
 use Rattle.hx_spell.specs.Values.{index_of, amount_of, digest_length_of, delimiters_of, header_of, byte_of, flags_of, ipv4_address_of, ipv6_address_of, ipv4_mask_of, variable_name_of, variable_or_nothing_of, operand_written, boolean_of, hex_of}
-use Rattle.hx_spell.specs.Arguments.{required, optional, as_given, counted, is_count, bare, single, at_most_one, header_arguments, parameter_arguments, piece_arguments, range_arguments, text_arguments, concat_arguments, substitution_arguments, mask_arguments}
-use Rattle.hx_spell.specs.Tables.{Maker, Table, entry_at, made, with_header, parameter, with_pieces, with_operand, fetch_table, conv_table}
+use Rattle.hx_spell.specs.Arguments.{Argument, Maker, made, required, optional, counted, is_count, bare, single, at_most_one, two, three, concat_arguments, substitution_arguments}
+use Rattle.hx_spell.specs.Tables.{Table, entry_at, with_header, parameter, with_pieces, with_operand, fetch_table, conv_table}
 use Rattle.hx_spell.specs.Expressions.{call_meaning, made_of}
 use Rattle.hx_spell.proofs.ResultLemmas.{Gives, then_gives}
 use Rattle.hx_spell.proofs.FormLemmas.{index_such, count_such, digest_such, width_such, delimiters_such, header_such, ipv4_such, ipv6_such, variable_such, variable_or_nothing_such, operand_such}
@@ -53,7 +53,7 @@ required_gives P read n such (Some text) = found_gives P (read text) n (λ x is.
 
 given_gives : {A : Type 0} (P : A → Type 0) (found : Option A) (n : ℕ)
     → ((x : A) → found ≡ Some x → P x)
-    → Gives (λ v. IfSome v P) (as_given found (spell.Code n))
+    → Gives (λ v. IfSome v P) (ok_or (option_map Some found) (spell.Code n))
 given_gives P None n such = tt
 given_gives P (Some x) n such = such x refl
 
@@ -112,69 +112,86 @@ any_at_most_one P make read n after =
     made_such (λ v. IfSome v (λ x. Unit {0})) P make (at_most_one read (spell.Code n))
     (at_most_one_such (λ x. Unit {0}) read n (anything read)) (λ x any. after x)
 
+-- two arguments, and three
+two_such : {A B : Type 0} (P : A → Type 0) (Q : B → Type 0) (R : A × B → Type 0) (least : ℕ)
+    (first : Argument A) (second : Argument B) → ((given : Option (List ℕ)) → Gives P (first given))
+    → ((given : Option (List ℕ)) → Gives Q (second given))
+    → ((x : A) (y : B) → P x → Q y → R (x, y)) → MakesSuch R (two least first second)
+two_such P Q R least first second one other both args =
+    counted_gives R least 2 args _
+    (then_gives P R (first (slice_get args 0)) _ (one (slice_get args 0))
+    (λ x p. then_gives Q R (second (slice_get args 1)) _ (other (slice_get args 1))
+    (λ y q. both x y p q)))
+
+three_such : {A B C : Type 0} (P : A → Type 0) (Q : B → Type 0) (S : C → Type 0)
+    (R : A × B × C → Type 0) (least : ℕ) (first : Argument A) (second : Argument B)
+    (third : Argument C) → ((given : Option (List ℕ)) → Gives P (first given))
+    → ((given : Option (List ℕ)) → Gives Q (second given))
+    → ((given : Option (List ℕ)) → Gives S (third given))
+    → ((x : A) (y : B) (z : C) → P x → Q y → S z → R (x, y, z))
+    → MakesSuch R (three least first second third)
+three_such P Q S R least first second third one other last all args =
+    counted_gives R least 3 args _
+    (then_gives P R (first (slice_get args 0)) _ (one (slice_get args 0))
+    (λ x p. then_gives Q R (second (slice_get args 1)) _ (other (slice_get args 1))
+    (λ y q. then_gives S R (third (slice_get args 2)) _ (last (slice_get args 2))
+    (λ z s. all x y z p q s))))
+
+-- what is such where it is given, whatever it is
+text_given : (given : Option (List ℕ)) → Gives (λ x. Unit {0}) (required Some bad_argument given)
+text_given given = required_gives (λ x. Unit {0}) Some 10 (anything Some) given
+
+any_optional : {A : Type 0} (read : List ℕ → Option A) (given : Option (List ℕ))
+    → Gives (λ v. IfSome v (λ x. Unit {0})) (optional read bad_argument given)
+any_optional read given = optional_gives (λ x. Unit {0}) read 10 (anything read) given
+
 abbrev IsHeaderPair : List ℕ × Option ℤ → Type 0
 IsHeaderPair found = IsHeader found.0 found.1
 
-header_pair : MakesSuch IsHeaderPair header_arguments
-header_pair args =
-    counted_gives IsHeaderPair 1 2 args _
-    (then_gives IsToken IsHeaderPair (required header_of bad_name (slice_get args 0)) _
-    (required_gives IsToken header_of 12 header_such (slice_get args 0))
-    (λ name token. then_gives (λ at. IfSome at IsNotZero) IsHeaderPair
-    (optional index_of bad_argument (slice_get args 1)) _
-    (optional_gives IsNotZero index_of 10 index_such (slice_get args 1))
-    (λ at index. record { name = token; occurrence = index })))
+header_pair : MakesSuch IsHeaderPair
+    (two 1 (required header_of bad_name) (optional index_of bad_argument))
+header_pair =
+    two_such IsToken (λ at. IfSome at IsNotZero) IsHeaderPair 1 (required header_of bad_name)
+    (optional index_of bad_argument) (required_gives IsToken header_of 12 header_such)
+    (optional_gives IsNotZero index_of 10 index_such)
+    (λ name at token index. record { name = token; occurrence = index })
 
-parameter_any : MakesSuch (λ found. Unit {0}) parameter_arguments
-parameter_any args =
-    counted_gives (λ found. Unit {0}) 0 2 args _
-    (then_gives (λ v. IfSome v (λ x. Unit {0})) (λ found. Unit {0}) (optional Some bad_argument
-    (slice_get args 0)) _
-    (optional_gives (λ x. Unit {0}) Some 10 (anything Some) (slice_get args 0))
-    (λ name any. then_gives (λ v. IfSome v (λ x. Unit {0})) (λ found. Unit {0})
-    (optional byte_of bad_argument (slice_get args 1)) _
-    (optional_gives (λ x. Unit {0}) byte_of 10 (anything byte_of) (slice_get args 1))
-    (λ delim any. tt)))
+parameter_any : MakesSuch (λ found. Unit {0})
+    (two 0 (optional Some bad_argument) (optional byte_of bad_argument))
+parameter_any =
+    two_such (λ v. IfSome v (λ x. Unit {0})) (λ v. IfSome v (λ x. Unit {0})) (λ found. Unit {0}) 0
+    (optional Some bad_argument) (optional byte_of bad_argument) (any_optional Some)
+    (any_optional byte_of) (λ name delim one other. tt)
 
 abbrev IsPiece : ℤ × List ℕ × Option ℤ → Type 0
 IsPiece found = IsPieceChoice found.0 found.1 found.2
 
-piece_such : MakesSuch IsPiece piece_arguments
-piece_such args =
-    counted_gives IsPiece 2 3 args _
-    (then_gives IsNotZero IsPiece (required index_of bad_argument (slice_get args 0)) _
-    (required_gives IsNotZero index_of 10 index_such (slice_get args 0))
-    (λ at index. then_gives (λ bytes. 0 < length bytes) IsPiece
-    (required delimiters_of bad_argument (slice_get args 1)) _
-    (required_gives (λ bytes. 0 < length bytes) delimiters_of 10 delimiters_such (slice_get args 1))
-    (λ bytes delims. then_gives (λ most. IfSome most IsNotNegative) IsPiece
-    (optional amount_of bad_argument (slice_get args 2)) _
-    (optional_gives IsNotNegative amount_of 10 count_such (slice_get args 2))
-    (λ most count. record { index = index; delims = delims; count = count }))))
+piece_such : MakesSuch IsPiece (three 2 (required index_of bad_argument)
+    (required delimiters_of bad_argument) (optional amount_of bad_argument))
+piece_such =
+    three_such IsNotZero (λ bytes. 0 < length bytes) (λ most. IfSome most IsNotNegative) IsPiece 2
+    (required index_of bad_argument) (required delimiters_of bad_argument)
+    (optional amount_of bad_argument) (required_gives IsNotZero index_of 10 index_such)
+    (required_gives (λ bytes. 0 < length bytes) delimiters_of 10 delimiters_such)
+    (optional_gives IsNotNegative amount_of 10 count_such)
+    (λ at bytes most index delims count. record { index = index; delims = delims; count = count })
 
 abbrev IsRangePair : ℤ × Option ℤ → Type 0
 IsRangePair found = IsNotNegative found.0 × IfSome found.1 IsNotNegative
 
-range_such : MakesSuch IsRangePair range_arguments
-range_such args =
-    counted_gives IsRangePair 1 2 args _
-    (then_gives IsNotNegative IsRangePair (required amount_of bad_argument (slice_get args 0)) _
-    (required_gives IsNotNegative amount_of 10 count_such (slice_get args 0))
-    (λ offset start. then_gives (λ len. IfSome len IsNotNegative) IsRangePair
-    (optional amount_of bad_argument (slice_get args 1)) _
-    (optional_gives IsNotNegative amount_of 10 count_such (slice_get args 1))
-    (λ len size. (start, size))))
+range_such : MakesSuch IsRangePair
+    (two 1 (required amount_of bad_argument) (optional amount_of bad_argument))
+range_such =
+    two_such IsNotNegative (λ len. IfSome len IsNotNegative) IsRangePair 1
+    (required amount_of bad_argument) (optional amount_of bad_argument)
+    (required_gives IsNotNegative amount_of 10 count_such)
+    (optional_gives IsNotNegative amount_of 10 count_such) (λ offset len start size. (start, size))
 
-text_any : MakesSuch (λ found. Unit {0}) text_arguments
-text_any args =
-    counted_gives (λ found. Unit {0}) 2 2 args _
-    (then_gives (λ x. Unit {0}) (λ found. Unit {0}) (required Some bad_argument
-    (slice_get args 0)) _
-    (required_gives (λ x. Unit {0}) Some 10 (anything Some) (slice_get args 0))
-    (λ first any. then_gives (λ x. Unit {0}) (λ found. Unit {0}) (required Some bad_argument
-    (slice_get args 1)) _
-    (required_gives (λ x. Unit {0}) Some 10 (anything Some) (slice_get args 1))
-    (λ second any. tt)))
+text_any : MakesSuch (λ found. Unit {0})
+    (two 2 (required Some bad_argument) (required Some bad_argument))
+text_any =
+    two_such (λ x. Unit {0}) (λ x. Unit {0}) (λ found. Unit {0}) 2 (required Some bad_argument)
+    (required Some bad_argument) text_given text_given (λ first second one other. tt)
 
 -- a variable that may be missing, or given as nothing
 flattened_such : (v : Option (Option VarName)) → IfSome v (λ name. IfSome name IsVariable)
@@ -185,47 +202,45 @@ flattened_such (Some name) such = such
 abbrev IsConcat : Option (List ℕ) × Option VarName × Option (List ℕ) → Type 0
 IsConcat found = IfSome found.1 IsVariable
 
+abbrev MayBeVariable : Option (Option VarName) → Type 0
+MayBeVariable v = IfSome v (λ name. IfSome name IsVariable)
+
+abbrev HasVariable : Option (List ℕ) × Option (Option VarName) × Option (List ℕ) → Type 0
+HasVariable found = MayBeVariable found.1
+
 concat_such : MakesSuch IsConcat concat_arguments
-concat_such args =
-    counted_gives IsConcat 0 3 args _
-    (then_gives (λ v. IfSome v (λ x. Unit {0})) IsConcat (optional Some bad_argument
-    (slice_get args 0)) _
-    (optional_gives (λ x. Unit {0}) Some 10 (anything Some) (slice_get args 0))
-    (λ start any. then_gives (λ v. IfSome v (λ name. IfSome name IsVariable)) IsConcat
-    (optional variable_or_nothing_of bad_name (slice_get args 1)) _
+concat_such =
+    made_such HasVariable IsConcat (λ found. (found.0, option_flatten found.1, found.2))
+    (three 0 (optional Some bad_argument) (optional variable_or_nothing_of bad_name)
+    (optional Some bad_argument))
+    (three_such (λ v. IfSome v (λ x. Unit {0})) MayBeVariable (λ v. IfSome v (λ x. Unit {0}))
+    HasVariable 0 (optional Some bad_argument) (optional variable_or_nothing_of bad_name)
+    (optional Some bad_argument) (any_optional Some)
     (optional_gives (λ name. IfSome name IsVariable) variable_or_nothing_of 12
-    variable_or_nothing_such (slice_get args 1))
-    (λ variable such. then_gives (λ v. IfSome v (λ x. Unit {0})) IsConcat
-    (optional Some bad_argument (slice_get args 2)) _
-    (optional_gives (λ x. Unit {0}) Some 10 (anything Some) (slice_get args 2))
-    (λ end any. flattened_such variable such))))
+    variable_or_nothing_such) (any_optional Some) (λ start variable end one such other. such))
+    (λ found such. flattened_such found.1 such)
 
 substitution_any : MakesSuch (λ found. Unit {0}) substitution_arguments
-substitution_any args =
-    counted_gives (λ found. Unit {0}) 2 3 args _
-    (then_gives (λ x. Unit {0}) (λ found. Unit {0}) (required Some bad_argument
-    (slice_get args 0)) _
-    (required_gives (λ x. Unit {0}) Some 10 (anything Some) (slice_get args 0))
-    (λ re any. then_gives (λ x. Unit {0}) (λ found. Unit {0}) (required Some bad_argument
-    (slice_get args 1)) _
-    (required_gives (λ x. Unit {0}) Some 10 (anything Some) (slice_get args 1))
-    (λ sub any. then_gives (λ v. IfSome v (λ x. Unit {0})) (λ found. Unit {0})
-    (optional flags_of bad_argument (slice_get args 2)) _
-    (optional_gives (λ x. Unit {0}) flags_of 10 (anything flags_of) (slice_get args 2))
-    (λ flags any. tt))))
+substitution_any =
+    made_such (λ found. Unit {0}) (λ found. Unit {0})
+    (λ found. (found.0, found.1, unwrap_or found.2 (false, false)))
+    (three 2 (required Some bad_argument) (required Some bad_argument)
+    (optional flags_of bad_argument))
+    (three_such (λ x. Unit {0}) (λ x. Unit {0}) (λ v. IfSome v (λ x. Unit {0})) (λ found. Unit {0})
+    2 (required Some bad_argument) (required Some bad_argument) (optional flags_of bad_argument)
+    text_given text_given (any_optional flags_of) (λ re sub flags one other last. tt))
+    (λ found any. tt)
 
 abbrev IsMaskPair : ℕ × Option ℕ → Type 0
 IsMaskPair found = IfSome found.1 (λ n. n ≤ 128)
 
-mask_such : MakesSuch IsMaskPair mask_arguments
-mask_such args =
-    counted_gives IsMaskPair 1 2 args _
-    (then_gives (λ x. Unit {0}) IsMaskPair (required ipv4_mask_of bad_argument (slice_get args 0)) _
-    (required_gives (λ x. Unit {0}) ipv4_mask_of 10 (anything ipv4_mask_of) (slice_get args 0))
-    (λ mask any. then_gives (λ v. IfSome v (λ n. n ≤ 128)) IsMaskPair (optional
-    (width_of 128) bad_argument (slice_get args 1)) _
-    (optional_gives (λ n. n ≤ 128) (width_of 128) 10 width_such (slice_get args 1))
-    (λ bits within. within)))
+mask_such : MakesSuch IsMaskPair
+    (two 1 (required ipv4_mask_of bad_argument) (optional (width_of 128) bad_argument))
+mask_such =
+    two_such (λ x. Unit {0}) (λ v. IfSome v (λ n. n ≤ 128)) IsMaskPair 1
+    (required ipv4_mask_of bad_argument) (optional (width_of 128) bad_argument)
+    (required_gives (λ x. Unit {0}) ipv4_mask_of 10 (anything ipv4_mask_of))
+    (optional_gives (λ n. n ≤ 128) (width_of 128) 10 width_such) (λ mask bits any within. within)
 
 -- ---- rows
 
@@ -264,7 +279,8 @@ with_header_such : (make : List ℕ → Option ℤ → Fetch)
     → ((name : List ℕ) (at : Option ℤ) → IsHeader name at → IsFetch (make name at))
     → MakesSuch IsFetch (with_header make)
 with_header_such make after =
-    made_such IsHeaderPair IsFetch (λ f. make f.0 f.1) header_arguments header_pair
+    made_such IsHeaderPair IsFetch (λ f. make f.0 f.1)
+    (two 1 (required header_of bad_name) (optional index_of bad_argument)) header_pair
     (λ f such. after f.0 f.1 such)
 
 count_row : MakesSuch IsFetch (made fetch.ReqHdrCnt (at_most_one header_of bad_name))
@@ -275,7 +291,8 @@ count_row =
 parameter_row : MakesSuch IsFetch parameter
 parameter_row =
     made_such (λ found. Unit {0}) IsFetch
-    (λ f. fetch.UrlParam f.0 f.1) parameter_arguments parameter_any
+    (λ f. fetch.UrlParam f.0 f.1)
+    (two 0 (optional Some bad_argument) (optional byte_of bad_argument)) parameter_any
     (λ f any. tt)
 
 cookie_row : MakesSuch IsFetch (made fetch.ReqCook (at_most_one Some bad_argument))
@@ -343,7 +360,9 @@ with_pieces_such : (make : ℤ → List ℕ → Option ℤ → Conv)
     → IsPlainConv (make index delims count))
     → MakesSuch IsPlainConv (with_pieces make)
 with_pieces_such make after =
-    made_such IsPiece IsPlainConv (λ f. make f.0 f.1 f.2) piece_arguments piece_such
+    made_such IsPiece IsPlainConv (λ f. make f.0 f.1 f.2)
+    (three 2 (required index_of bad_argument) (required delimiters_of bad_argument)
+    (optional amount_of bad_argument)) piece_such
     (λ f such. after f.0 f.1 f.2 such)
 
 with_operand_such : (make : Val → Conv) → ((v : Val) → IsOperand v → IsPlainConv (make v))
@@ -360,7 +379,8 @@ each_conv =
     & bare_conv_such conv.Length (tt, refl)
     & with_pieces_such conv.Field (λ index delims count such. (such, refl))
     & with_pieces_such conv.Word (λ index delims count such. (such, refl))
-    & made_such IsRangePair IsPlainConv (λ f. conv.Bytes f.0 f.1) range_arguments range_such
+    & made_such IsRangePair IsPlainConv (λ f. conv.Bytes f.0 f.1)
+    (two 1 (required amount_of bad_argument) (optional amount_of bad_argument)) range_such
     (λ f such. (such, refl))
     & any_single IsPlainConv conv.Ltrim Some 10 (λ text. (tt, refl))
     & any_single IsPlainConv conv.Rtrim Some 10 (λ text. (tt, refl))
@@ -373,7 +393,8 @@ each_conv =
     (λ f. conv.Regsub f.0 f.1 f.2.0 f.2.1) substitution_arguments substitution_any
     (λ f any. (tt, refl))
     & any_at_most_one IsPlainConv conv.UrlDec int_of 10 (λ form. (tt, refl))
-    & made_such (λ found. Unit {0}) IsPlainConv (λ f. conv.Iif f.0 f.1) text_arguments text_any
+    & made_such (λ found. Unit {0}) IsPlainConv (λ f. conv.Iif f.0 f.1)
+    (two 2 (required Some bad_argument) (required Some bad_argument)) text_any
     (λ f any. (tt, refl))
     & bare_conv_such conv.Bool (tt, refl)
     & bare_conv_such conv.Even (tt, refl)
@@ -389,7 +410,8 @@ each_conv =
     & with_operand_such conv.Or (λ v such. (such, refl))
     & with_operand_such conv.Xor (λ v such. (such, refl))
     & bare_conv_such conv.Cpl (tt, refl)
-    & made_such IsMaskPair IsPlainConv (λ f. conv.Ipmask f.0 f.1) mask_arguments mask_such
+    & made_such IsMaskPair IsPlainConv (λ f. conv.Ipmask f.0 f.1)
+    (two 1 (required ipv4_mask_of bad_argument) (optional (width_of 128) bad_argument)) mask_such
     (λ f such. (such, refl))
     & bare_conv_such conv.Base64 (tt, refl)
     & bare_conv_such conv.Ub64enc (tt, refl)

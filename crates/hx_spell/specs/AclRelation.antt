@@ -1,5 +1,5 @@
--- ACLs, and the words that spell them: a criterion, flags and patterns (HAProxy configuration manual
--- 2.4, section 7.1).
+-- ACLs, and the words that spell them: a criterion, flags and patterns (HAProxy configuration
+-- manual 2.4, section 7.1).
 use Rattle.std.specs.Prelude.{◌≡◌, ◌⊎◌, ℕ, Bool, true, false, List, [], ◌∷◌, ◌++◌, codes, Option, None, Some, Ok, ⊤}
 use Rattle.hx_ast.specs.declared.Decl.{Decl}
 use Rattle.hx_spell.specs.Criteria.{Criterion}
@@ -7,7 +7,7 @@ use Rattle.hx_spell.specs.Declarations.{Way, decl_by, way_of}
 use Rattle.hx_spell.specs.ExpressionRelation.{WritesCriterion}
 use Rattle.hx_spell.specs.Flags.{Flag, Flags, begins_as_flag, flag_argument, may_stand, no_flags}
 use Rattle.hx_spell.specs.Flags.{IgnoreCase, TwoColumns, Numeric, File, Method, Number, End}
-use Rattle.hx_spell.specs.Known.{Known, Reading}
+use Rattle.hx_spell.specs.Known.{Known, Reading, reading}
 
 -- ---- flags
 
@@ -39,12 +39,11 @@ pub data SpellFlags (line : ℕ) : Reading Flags → List (List ℕ) → Reading
   NoFlags : (flags : Reading Flags) → SpellFlags line flags [] flags
   FlagAlone : (flag : Flag) (before after : Reading Flags) (changed : Flags) (words : List (List ℕ))
       → flag_alone flag before.value ≡ Some changed
-      → SpellFlags line (record { value = changed; known = before.known }) words after
+      → SpellFlags line (reading changed before.known) words after
       → SpellFlags line before (flag_text flag ∷ words) after
   FlagWithArgument : (flag : Flag) (text : List ℕ) (before changed after : Reading Flags)
       (words : List (List ℕ))
-      → takes_argument flag ≡ true
-      → may_stand flag before.value ≡ true
+      → takes_argument flag ≡ true → may_stand flag before.value ≡ true
       → flag_argument line flag text before.value before.known ≡ Ok changed
       → SpellFlags line changed words after
       → SpellFlags line before (flag_text flag ∷ text ∷ words) after
@@ -72,7 +71,7 @@ pub record SpellDecl (line : ℕ) (before : Known) (text : List ℕ) (words : Li
   pub words_are : words ≡ flag_words ++ others
   pub flags : Reading Flags
   pub spelled : SpellFlags line
-      (record { value = no_flags criterion.value.by; known = criterion.known }) flag_words flags
+      (reading (no_flags criterion.value.by) criterion.known) flag_words flags
   pub end : EndFlags others patterns
   pub way : Way
   pub searched : way_of criterion.value.expr flags.value.by ≡ Ok way

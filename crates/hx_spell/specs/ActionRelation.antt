@@ -1,5 +1,5 @@
 -- Actions, and the words that spell them (HAProxy configuration manual 2.4, section 4.2).
-use Rattle.std.specs.Prelude.{◌≡◌, ◌⊎◌, ℕ, Bool, true, false, List, [], ◌∷◌, ◌++◌, codes, Option, None, Some, Ok}
+use Rattle.std.specs.Prelude.{◌≡◌, ◌⊎◌, ℕ, Bool, true, false, List, [], ◌∷◌, ◌++◌, codes, Option, None, Some, Ok, if◌then◌else◌}
 use Rattle.httparse.specs.Grammar.{IsToken}
 use Rattle.hx_text.specs.declared.VarName.{VarName}
 use Rattle.hx_words.specs.Spelling.{SpellsCall}
@@ -12,7 +12,7 @@ use Rattle.hx_ast.specs.declared.RedirectKind.TheVariants as kind
 use Rattle.hx_spell.specs.Actions.{redirect_status_of, status_of}
 use Rattle.hx_spell.specs.ExpressionRelation.{WritesExpr}
 use Rattle.hx_spell.specs.FormatRelation.{WritesFormat}
-use Rattle.hx_spell.specs.Known.{Known, Reading, with_file}
+use Rattle.hx_spell.specs.Known.{Known, Reading, with_file, reading}
 use Rattle.hx_spell.specs.Values.{variable_name_of}
 
 -- ---- parts
@@ -40,18 +40,6 @@ kind_text kind.Location = codes "location"
 kind_text kind.Prefix = codes "prefix"
 kind_text kind.Scheme = codes "scheme"
 
--- a word that may be there
-abbrev pub word_if : Bool → List ℕ → List (List ℕ)
-word_if true word = word ∷ []
-word_if false word = []
-
-abbrev pub switch_text : Bool → List ℕ
-switch_text true = codes "on"
-switch_text false = codes "off"
-
-abbrev pub spelled : Known → Action → Reading Action
-spelled known act = record { value = act; known = known }
-
 -- the words of a redirect after its name
 pub record SpellRedirect (line : ℕ) (before : Known) (words : List (List ℕ)) (read : Reading Action)
     : Type 0 where
@@ -64,8 +52,8 @@ pub record SpellRedirect (line : ℕ) (before : Known) (words : List (List ℕ))
   pub with_status : SpellNumber (λ word. word ≡ codes "code") redirect_status_of status status_words
   pub drops : Bool
   pub words_are : words
-      ≡ (kind_text kind ∷ text ∷ status_words) ++ word_if drops (codes "drop-query")
-  pub is : read ≡ spelled format.known (action.Redirect kind format.value status drops)
+      ≡ (kind_text kind ∷ text ∷ status_words) ++ (if drops then codes "drop-query" ∷ [] else [])
+  pub is : read ≡ reading (action.Redirect kind format.value status drops) format.known
 
 -- ---- actions by what they take
 
@@ -97,66 +85,52 @@ pub data TakesFileFormat : List ℕ → Bool → (ℕ → List Part → Action) 
 -- the words of an action, the word of its name first
 pub data SpellAction (line : ℕ) (before : Known) : List (List ℕ) → Reading Action → Type 0 where
   AllowWords : (word : List ℕ) → IsName (codes "allow") word
-      → SpellAction line before (word ∷ []) (spelled before action.Allow)
+      → SpellAction line before (word ∷ []) (reading action.Allow before)
   DenyWords : (word : List ℕ) (status : Option ℕ) (words : List (List ℕ))
-      → IsName (codes "deny") word
-      → SpellNumber IsStatusWord status_of status words
-      → SpellAction line before (word ∷ words) (spelled before (action.Deny status))
+      → IsName (codes "deny") word → SpellNumber IsStatusWord status_of status words
+      → SpellAction line before (word ∷ words) (reading (action.Deny status) before)
   FormatWords : (name word text : List ℕ) (make : List Part → Action) (format : Reading (List Part))
-      → TakesFormat name make
-      → IsName name word
+      → TakesFormat name make → IsName name word
       → WritesFormat line before text format
-      → SpellAction line before (word ∷ text ∷ []) (spelled format.known (make format.value))
+      → SpellAction line before (word ∷ text ∷ []) (reading (make format.value) format.known)
   HeaderFormatWords : (name word header text : List ℕ) (make : List ℕ → List Part → Action)
       (format : Reading (List Part))
-      → TakesHeaderFormat name make
-      → IsName name word
-      → IsToken header
-      → WritesFormat line before text format
+      → TakesHeaderFormat name make → IsName name word
+      → IsToken header → WritesFormat line before text format
       → SpellAction line before (word ∷ header ∷ text ∷ [])
-      (spelled format.known (make header format.value))
-  DelHeaderWords : (word header : List ℕ)
-      → IsName (codes "del-header") word
-      → IsToken header
-      → SpellAction line before (word ∷ header ∷ []) (spelled before (action.DelHeader header))
+      (reading (make header format.value) format.known)
+  DelHeaderWords : (word header : List ℕ) → IsName (codes "del-header") word → IsToken header
+      → SpellAction line before (word ∷ header ∷ []) (reading (action.DelHeader header) before)
   ReplacementWords : (name word header expression text : List ℕ)
       (make : List ℕ → List ℕ → List Part → Action) (format : Reading (List Part))
-      → TakesReplacement name make
-      → IsName name word
-      → IsToken header
-      → WritesFormat line before text format
+      → TakesReplacement name make → IsName name word
+      → IsToken header → WritesFormat line before text format
       → SpellAction line before (word ∷ header ∷ expression ∷ text ∷ [])
-      (spelled format.known (make header expression format.value))
+      (reading (make header expression format.value) format.known)
   SetVarWords : (arg word text : List ℕ) (variable : VarName) (expr : Reading Expr)
-      → IsCall (codes "set-var") arg word
-      → variable_name_of arg ≡ Some variable
+      → IsCall (codes "set-var") arg word → variable_name_of arg ≡ Some variable
       → WritesExpr None line before text expr
       → SpellAction line before (word ∷ text ∷ [])
-      (spelled expr.known (action.SetVar variable expr.value))
+      (reading (action.SetVar variable expr.value) expr.known)
   UnsetVarWords : (arg word : List ℕ) (variable : VarName)
-      → IsCall (codes "unset-var") arg word
-      → variable_name_of arg ≡ Some variable
-      → SpellAction line before (word ∷ []) (spelled before (action.UnsetVar variable))
+      → IsCall (codes "unset-var") arg word → variable_name_of arg ≡ Some variable
+      → SpellAction line before (word ∷ []) (reading (action.UnsetVar variable) before)
   FileFormatWords : (name arg word text : List ℕ) (two : Bool) (make : ℕ → List Part → Action)
       (file : Reading ℕ) (format : Reading (List Part))
-      → TakesFileFormat name two make
-      → IsCall name arg word
-      → with_file line arg two before ≡ Ok file
-      → WritesFormat line file.known text format
+      → TakesFileFormat name two make → IsCall name arg word
+      → with_file line arg two before ≡ Ok file → WritesFormat line file.known text format
       → SpellAction line before (word ∷ text ∷ [])
-      (spelled format.known (make file.value format.value))
+      (reading (make file.value format.value) format.known)
   SetMapWords : (arg word key_text value_text : List ℕ) (file : Reading ℕ)
       (key value : Reading (List Part))
-      → IsCall (codes "set-map") arg word
-      → with_file line arg true before ≡ Ok file
-      → WritesFormat line file.known key_text key
-      → WritesFormat line key.known value_text value
+      → IsCall (codes "set-map") arg word → with_file line arg true before ≡ Ok file
+      → WritesFormat line file.known key_text key → WritesFormat line key.known value_text value
       → SpellAction line before (word ∷ key_text ∷ value_text ∷ [])
-      (spelled value.known (action.SetMap file.value key.value value.value))
+      (reading (action.SetMap file.value key.value value.value) value.known)
   RedirectWords : (word : List ℕ) (words : List (List ℕ)) (read : Reading Action)
-      → IsName (codes "redirect") word
-      → SpellRedirect line before words read
+      → IsName (codes "redirect") word → SpellRedirect line before words read
       → SpellAction line before (word ∷ words) read
   StrictModeWords : (word : List ℕ) (on : Bool)
       → IsName (codes "strict-mode") word
-      → SpellAction line before (word ∷ switch_text on ∷ []) (spelled before (action.StrictMode on))
+      → SpellAction line before (word ∷ (if on then codes "on" else codes "off") ∷ [])
+      (reading (action.StrictMode on) before)

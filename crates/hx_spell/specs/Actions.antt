@@ -28,7 +28,7 @@ use Rattle.hx_spell.specs.Arguments.{◌>>=◌, bare, counted, single}
 use Rattle.hx_spell.specs.Codes.{bad_argument, bad_name, form_fault, unsupported}
 use Rattle.hx_spell.specs.Criteria.{expr_of}
 use Rattle.hx_spell.specs.Formats.{format_of}
-use Rattle.hx_spell.specs.Known.{Known, Reading, with_file}
+use Rattle.hx_spell.specs.Known.{Known, Reading, with_file, reading}
 use Rattle.hx_spell.specs.Tables.{Table, entry_at}
 use Rattle.hx_spell.specs.Values.{header_of, variable_name_of}
 
@@ -39,7 +39,7 @@ abbrev pub HeadMaker : Type 0
 HeadMaker = ℕ → List (List ℕ) → Known → Result (Reading ActionHead) SpellFault
 
 abbrev pub head_reading : Known → ActionHead → Reading ActionHead
-head_reading known head = record { value = head; known = known }
+head_reading known head = reading head known
 
 -- no argument
 abbrev pub bare_head : BareAction → HeadMaker
@@ -103,7 +103,8 @@ head_fault_by (Some make) fault = Err (form_fault fault)
 
 -- the word of an action is one call; its arguments are judged before a second call
 abbrev pub head_of_step : ℕ → Step → Known → Result (Reading ActionHead) SpellFault
-head_of_step line (Last call rest) known = head_by line (entry_at action_table call.name) call.args known
+head_of_step line (Last call rest) known =
+    head_by line (entry_at action_table call.name) call.args known
 head_of_step line (More call rest) known =
     head_by line (entry_at action_table call.name) call.args known >>= (λ head. Err bad_argument)
 head_of_step line (Faulty name fault) known = head_fault_by (entry_at action_table name) fault
@@ -116,7 +117,7 @@ pub record Taken (A : Type 0) : Type 0 where
   pub words : List (List ℕ)
 
 abbrev pub taken : {A : Type 0} → A → List (List ℕ) → Known → Reading (Taken A)
-taken item words known = record { value = record { item = item; words = words }; known = known }
+taken item words known = reading (record { item = item; words = words }) known
 
 -- a reader of the first words
 abbrev pub WordsReader : Type 0 → Type 0
@@ -133,7 +134,7 @@ first_word read (word ∷ words) known =
 abbrev pub plain_word : {A : Type 0} → (List ℕ → Option A) → SpellFault → WordsReader A
 plain_word read fault =
     first_word (λ word known. ok_or (read word) fault
-    >>= (λ x. Ok (record { value = x; known = known })))
+    >>= (λ x. Ok (reading x known)))
 
 -- the name of a header
 abbrev pub header_word : WordsReader (List ℕ)
@@ -167,7 +168,8 @@ abbrev pub with_replacement : ℕ → (List ℕ → List ℕ → List Part → A
 with_replacement line make words known = do
   name ← header_word words known
   expression ← text_word name.value.words name.known
-  with_format line (make name.value.item expression.value.item) expression.value.words expression.known
+  with_format line (make name.value.item expression.value.item) expression.value.words
+      expression.known
 
 -- KFMT VFMT
 abbrev pub with_two_formats : ℕ → (List Part → List Part → Action) → WordsReader Action
@@ -187,8 +189,7 @@ with_expr line name words known =
 
 -- a status with which a request can be denied
 abbrev pub status_of : List ℕ → Option ℕ
-status_of text =
-    option_and_then (λ n. if nat_le 200 n then Some n else None) (width_of 599 text)
+status_of text = option_and_then (λ n. if nat_le 200 n then Some n else None) (width_of 599 text)
 
 abbrev pub is_status_word : List ℕ → Bool
 is_status_word word = bytes_eq word (codes "status") || bytes_eq word (codes "deny_status")
@@ -223,7 +224,8 @@ redirect_status_of text =
 abbrev pub optional_word : List ℕ → WordsReader Bool
 optional_word wanted [] known = Ok (taken false [] known)
 optional_word wanted (word ∷ words) known =
-    if bytes_eq word wanted then Ok (taken true words known) else Ok (taken false (word ∷ words) known)
+    if bytes_eq word wanted then Ok (taken true words known)
+    else Ok (taken false (word ∷ words) known)
 
 abbrev pub redirect_taken : RedirectKind → List Part → Option ℕ → Reading (Taken Bool)
     → Result (Reading (Taken Action)) SpellFault
@@ -238,7 +240,8 @@ abbrev pub with_redirect : ℕ → WordsReader Action
 with_redirect line words known = do
   kind ← kind_word words known
   format ← format_word line kind.value.words kind.known
-  status ← word_and_value (bytes_eq (codes "code")) redirect_status_of format.value.words format.known
+  status ← word_and_value (bytes_eq (codes "code")) redirect_status_of format.value.words
+      format.known
   drops ← optional_word (codes "drop-query") status.value.words status.known
   redirect_taken kind.value.item format.value.item status.value.item drops
 

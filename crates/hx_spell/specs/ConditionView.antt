@@ -8,7 +8,7 @@ use Rattle.hx_spell.specs.declared.fault.SpellFault.TheVariants as spell
 use Rattle.hx_spell.specs.Arguments.{◌>>=◌}
 use Rattle.hx_spell.specs.Codes.{bad_condition}
 use Rattle.hx_spell.specs.Conditions.{Terms, after_marks_word, cond_from, own_decl, with_marks}
-use Rattle.hx_spell.specs.Known.{Known, Reading}
+use Rattle.hx_spell.specs.Known.{Known, Reading, reading}
 
 -- the terms that are gathered, outside braces
 abbrev pub terms_of : Gathered → Terms
@@ -48,5 +48,5 @@ RefusedAs fault expected = fault ≢ spell.NoMemory → expected ≡ Err fault
 abbrev pub Becomes : {A : Type 0}
     → Result A SpellFault → Gathered → Known → Result (Reading Terms) SpellFault → Type 0
 Becomes (Ok x) after known expected =
-    expected ≡ Ok (record { value = terms_of after; known = known })
+    expected ≡ Ok (reading (terms_of after) known)
 Becomes (Err fault) after known expected = RefusedAs fault expected

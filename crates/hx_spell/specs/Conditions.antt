@@ -3,16 +3,18 @@
 use Rattle.std.specs.Prelude.{ℕ, ◌%◌, ◌==◌, ◌&&◌, ◌||◌, Bool, true, false, not, List, [], ◌∷◌, ◌++◌, length, drop, codes, nat_lt, Option, Some, None, Result, Ok, Err, if◌then◌else◌}
 use Rattle.std.specs.List.{list_all, list_any, prefix_len}
 use Rattle.std.specs.Str.{bytes_eq}
+use Rattle.hx_base.specs.Bytes.{ascii}
 use Rattle.hx_ast.specs.declared.AclUse.{AclUse}
 use Rattle.hx_ast.specs.declared.AclUse.TheVariants.{Named, Own}
 use Rattle.hx_ast.specs.declared.Decl.{Decl}
 use Rattle.hx_ast.specs.declared.Term.{Term}
 use Rattle.hx_ast.specs.Acls.{is_name_byte}
+use Rattle.hx_ast.specs.Predefined.{predefined_names}
 use Rattle.hx_spell.specs.declared.fault.SpellFault.{SpellFault}
 use Rattle.hx_spell.specs.Codes.{bad_condition, unknown_acl}
 use Rattle.hx_spell.specs.Arguments.{◌>>=◌}
 use Rattle.hx_spell.specs.Declarations.{decl_of}
-use Rattle.hx_spell.specs.Known.{Known, Reading}
+use Rattle.hx_spell.specs.Known.{Known, Reading, reading}
 
 -- ---- names
 
@@ -24,26 +26,6 @@ is_name name = nat_lt 0 (length name) && list_all is_name_byte name
 abbrev pub is_acl_name : List ℕ → Bool
 is_acl_name name = is_name name && not (bytes_eq name (codes "or"))
 
--- the ACLs that are known on every line
-unfoldable pub predefined_names : List (List ℕ)
-predefined_names =
-    codes "TRUE"
-    ∷ codes "FALSE"
-    ∷ codes "HTTP_1.0"
-    ∷ codes "HTTP_1.1"
-    ∷ codes "HTTP_URL_SLASH"
-    ∷ codes "HTTP_URL_STAR"
-    ∷ codes "LOCALHOST"
-    ∷ codes "METH_GET"
-    ∷ codes "METH_HEAD"
-    ∷ codes "METH_POST"
-    ∷ codes "METH_PUT"
-    ∷ codes "METH_DELETE"
-    ∷ codes "METH_OPTIONS"
-    ∷ codes "METH_CONNECT"
-    ∷ codes "METH_TRACE"
-    ∷ []
-
 -- an ACL of this name is declared on an earlier line, or predefined
 abbrev pub is_known_acl : Known → List ℕ → Bool
 is_known_acl known name =
@@ -51,12 +33,9 @@ is_known_acl known name =
 
 -- ---- words
 
-abbrev pub exclamation_mark : ℕ
-exclamation_mark = 33
-
 -- how many `!` a word begins with
 abbrev pub marks_of : List ℕ → ℕ
-marks_of word = prefix_len (λ b. b == exclamation_mark) word
+marks_of word = prefix_len (λ b. b == ascii "!") word
 
 -- what follows them
 abbrev pub after_marks : List ℕ → List ℕ
@@ -127,7 +106,7 @@ own_decl line [] known = Err bad_condition
 own_decl line (text ∷ words) known = decl_of line text words known
 
 abbrev pub own_term : Terms → Reading Decl → Reading Terms
-own_term terms decl = record { value = with_term (Own decl.value) terms; known = decl.known }
+own_term terms decl = reading (with_term (Own decl.value) terms) decl.known
 
 -- a word in braces; `}` ends them
 abbrev pub word_inside :
@@ -135,36 +114,31 @@ abbrev pub word_inside :
 word_inside line inside word terms known =
     if bytes_eq word (codes "}")
     then own_decl line inside known >>= (λ decl. Ok (own_term terms decl))
-    else Ok (record {
-      value = record terms { inside = Some (inside ++ word ∷ []) };
-      known = known;
-    })
+    else Ok (reading (record terms { inside = Some (inside ++ word ∷ []) }) known)
 
 -- the name of an ACL
 abbrev pub named_term : List ℕ → Terms → Known → Result (Reading Terms) SpellFault
 named_term name terms known =
     if is_acl_name name
     then (if is_known_acl known name
-    then Ok (record { value = with_term (Named name) terms; known = known })
+    then Ok (reading (with_term (Named name) terms) known)
     else Err unknown_acl)
     else Err bad_condition
 
 -- what follows the marks of a word: nothing, an open brace, or a name
 abbrev pub after_marks_word : ℕ → List ℕ → Terms → Known → Result (Reading Terms) SpellFault
 after_marks_word n [] terms known =
-    if nat_lt 0 n then Ok (record { value = terms; known = known }) else Err bad_condition
+    if nat_lt 0 n then Ok (reading terms known) else Err bad_condition
 after_marks_word n (b ∷ bs) terms known =
     if bytes_eq (b ∷ bs) (codes "{")
-    then Ok (record { value = record terms { inside = Some [] }; known = known })
+    then Ok (reading (record terms { inside = Some [] }) known)
     else named_term (b ∷ bs) terms known
 
 abbrev pub next_conj : Terms → Known → Result (Reading Terms) SpellFault
 next_conj terms known =
     with_conj terms.before terms.conj
-    >>= (λ before. Ok (record {
-      value = record { before = before; conj = []; marks = no_marks; inside = None };
-      known = known;
-    }))
+    >>= (λ before. Ok
+    (reading (record { before = before; conj = []; marks = no_marks; inside = None }) known))
 
 -- a word outside braces
 abbrev pub word_outside : ℕ → List ℕ → Terms → Known → Result (Reading Terms) SpellFault
@@ -179,7 +153,7 @@ next_word line (Some inside) word terms known = word_inside line inside word ter
 next_word line None word terms known = word_outside line word terms known
 
 abbrev pub cond_reading : Known → List (List Term) → Reading (List (List Term))
-cond_reading known cond = record { value = cond; known = known }
+cond_reading known cond = reading cond known
 
 -- at the last word: an open brace has first the faults of its own words
 abbrev pub cond_end : ℕ → Option (List (List ℕ)) → Terms → Known

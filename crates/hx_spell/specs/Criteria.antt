@@ -1,15 +1,17 @@
 -- Expressions, and the criterion of an ACL: an expression whose fetch may have the match method in
 -- its name, as `path_beg` (HAProxy configuration manual 2.4, sections 7.1.3, 7.3 and 7.3.1). The
 -- converters may look values up in maps, whose files are references.
-use Rattle.std.specs.Prelude.{ℕ, false, true, List, [], ◌∷◌, ◌++◌, codes, slice_get, Option, Some, None, Result, Ok, Err, option_map, option_and_then}
-use Rattle.std.specs.Option.{option_or}
-use Rattle.hx_base.specs.Bytes.{underscore}
+use Rattle.std.specs.Prelude.{ℕ, false, true, List, [], ◌∷◌, ◌++◌, map, codes, slice_get, Option, Some, None, Result, Ok, Err, option_map, option_and_then}
+use Rattle.std.specs.List.{flat_map}
+use Rattle.std.specs.Option.{ok_or, option_or}
+use Rattle.hx_base.specs.Bytes.{ascii}
 use Rattle.hx_text.specs.declared.By.{By}
 use Rattle.hx_text.specs.declared.By.TheVariants as method
 use Rattle.hx_text.specs.declared.Out.{Out}
 use Rattle.hx_text.specs.declared.Out.TheVariants as output
 use Rattle.hx_text.specs.Address.{ip_of}
 use Rattle.hx_text.specs.Cut.{cut_of}
+use Rattle.hx_text.specs.Methods.{method_name}
 use Rattle.hx_text.specs.Number.{int_of}
 use Rattle.hx_words.specs.CallForm.{CallForm}
 use Rattle.hx_words.specs.Calls.{Step, steps_of}
@@ -26,7 +28,7 @@ pub use Rattle.hx_spell.specs.declared.criteria.MethodFetch.{MethodFetch}
 use Rattle.hx_spell.specs.Codes.{bad_argument, form_fault, unsupported}
 use Rattle.hx_spell.specs.Arguments.{◌>>=◌, counted, optional}
 use Rattle.hx_spell.specs.Expressions.{call_meaning, fault_of, made_of}
-use Rattle.hx_spell.specs.Known.{Known, Reading, nothing_known, with_head, with_named_file, with_output}
+use Rattle.hx_spell.specs.Known.{Known, Reading, nothing_known, with_head, with_named_file, with_output, reading}
 use Rattle.hx_spell.specs.Tables.{Maker, Table, conv_table, entry_at, fetch_table}
 
 -- ---- maps
@@ -35,26 +37,19 @@ abbrev pub map_way : By → Out → MapWay
 map_way by out = record { by = by; out = out }
 
 -- the names of the converters that look up in a map: `map`, `map_MATCH` and `map_MATCH_OUT`
-abbrev pub map_rows : List ℕ → By → Table MapWay
-map_rows suffix by =
-    (codes "map_" ++ suffix, map_way by output.Str)
-    ∷ (codes "map_" ++ suffix ++ codes "_str", map_way by output.Str)
-    ∷ (codes "map_" ++ suffix ++ codes "_int", map_way by output.Int)
-    ∷ (codes "map_" ++ suffix ++ codes "_ip", map_way by output.Ip)
+abbrev pub map_rows : By → Table MapWay
+map_rows by =
+    (codes "map_" ++ method_name by, map_way by output.Str)
+    ∷ (codes "map_" ++ method_name by ++ codes "_str", map_way by output.Str)
+    ∷ (codes "map_" ++ method_name by ++ codes "_int", map_way by output.Int)
+    ∷ (codes "map_" ++ method_name by ++ codes "_ip", map_way by output.Ip)
     ∷ []
 
 unfoldable pub map_table : Table MapWay
 map_table =
     (codes "map", map_way method.Str output.Str)
-    ∷ map_rows (codes "str") method.Str
-    ++ map_rows (codes "beg") method.Beg
-    ++ map_rows (codes "sub") method.Sub
-    ++ map_rows (codes "dir") method.Dir
-    ++ map_rows (codes "dom") method.Dom
-    ++ map_rows (codes "end") method.End
-    ++ map_rows (codes "reg") method.Reg
-    ++ map_rows (codes "int") method.Int
-    ++ map_rows (codes "ip") method.Ip
+    ∷ flat_map map_rows (method.Str ∷ method.Beg ∷ method.Sub ∷ method.Dir ∷ method.Dom ∷ method.End
+    ∷ method.Reg ∷ method.Int ∷ method.Ip ∷ [])
 
 -- a text that can be read as a map's value of this type
 abbrev pub value_of_map : Out → List ℕ → Option (List ℕ)
@@ -68,32 +63,19 @@ map_head way file =
     with_head (record { table = file.value; by = way.by; ci = false })
     (with_output (record { table = file.value; out = way.out }) file.known)
 
--- the reference of the file that the first argument names
-abbrev pub map_file : ℕ → Option (List ℕ) → Known → Result (Reading ℕ) SpellFault
-map_file line None known = Err bad_argument
-map_file line (Some name) known = with_named_file line name true known
-
-abbrev pub map_conv : MapWay → Option (List ℕ) → Reading ℕ → Reading Conv
-map_conv way default head = record {
-  value = conv.Map head.value way.by way.out default;
-  known = head.known;
-}
-
 -- FILE[,DEFAULT]: the file is judged before the default
 abbrev pub map_arguments : ℕ → MapWay → List (List ℕ) → Known → Result (Reading Conv) SpellFault
 map_arguments line way args known = counted 1 2 args (do
-  file ← map_file line (slice_get args 0) known
+  file ← ok_or (slice_get args 0) bad_argument >>= (λ name. with_named_file line name true known)
   default ← optional (value_of_map way.out) bad_argument (slice_get args 1)
-  Ok (map_conv way default (map_head way file)))
+  let head = map_head way file
+  Ok (reading (conv.Map head.value way.by way.out default) head.known))
 
 -- ---- converters
 
-abbrev pub plain_conv : Known → Conv → Reading Conv
-plain_conv known c = record { value = c; known = known }
-
 abbrev pub conv_by : ℕ → Option MapWay → CallForm → Known → Result (Reading Conv) SpellFault
 conv_by line (Some way) call known = map_arguments line way call.args known
-conv_by line None call known = call_meaning conv_table call >>= (λ c. Ok (plain_conv known c))
+conv_by line None call known = call_meaning conv_table call >>= (λ c. Ok (reading c known))
 
 -- the converter of a call
 abbrev pub conv_call : ℕ → CallForm → Known → Result (Reading Conv) SpellFault
@@ -102,22 +84,21 @@ conv_call line call known = conv_by line (entry_at map_table call.name) call kno
 abbrev pub conv_fault_by : Option MapWay → List ℕ → ArgFault → Result (Reading Conv) SpellFault
 conv_fault_by (Some way) name fault = Err (form_fault fault)
 conv_fault_by None name fault =
-    fault_of (entry_at conv_table name) fault >>= (λ c. Ok (plain_conv nothing_known c))
+    fault_of (entry_at conv_table name) fault >>= (λ c. Ok (reading c nothing_known))
 
 -- the same of a call that is whole, or of one that has a fault after its name
 abbrev pub conv_step : ℕ → Step → Known → Result (Reading Conv) SpellFault
 conv_step line (Last call rest) known = conv_call line call known
 conv_step line (More call rest) known = conv_call line call known
-conv_step line (Faulty name fault) known =
-    conv_fault_by (entry_at map_table name) name fault
+conv_step line (Faulty name fault) known = conv_fault_by (entry_at map_table name) name fault
 
 -- the converters of calls, one after the other
 abbrev pub convs_after : ℕ → List Step → Known → Result (Reading (List Conv)) SpellFault
-convs_after line [] known = Ok (record { value = []; known = known })
+convs_after line [] known = Ok (reading [] known)
 convs_after line (step ∷ steps) known = do
   first ← conv_step line step known
   others ← convs_after line steps first.known
-  Ok (record { value = first.value ∷ others.value; known = others.known })
+  Ok (reading (first.value ∷ others.value) others.known)
 
 -- ---- fetches with a method in their names
 
@@ -128,49 +109,33 @@ pub record FetchWay : Type 0 where
 
 -- the fetches that have such names
 unfoldable pub derived_fetches : Table (Maker Fetch)
-derived_fetches =
-    (codes "base", made_of (entry_at fetch_table (codes "base")))
-    ∷ (codes "cook", made_of (entry_at fetch_table (codes "cook")))
-    ∷ (codes "hdr", made_of (entry_at fetch_table (codes "hdr")))
-    ∷ (codes "path", made_of (entry_at fetch_table (codes "path")))
-    ∷ (codes "url", made_of (entry_at fetch_table (codes "url")))
-    ∷ (codes "urlp", made_of (entry_at fetch_table (codes "urlp")))
-    ∷ []
+derived_fetches = map (λ name. (name, made_of (entry_at fetch_table name)))
+    (codes "base" ∷ codes "cook" ∷ codes "hdr" ∷ codes "path" ∷ codes "url" ∷ codes "urlp" ∷ [])
 
 -- the methods in names, after `_`
 unfoldable pub derived_methods : Table By
-derived_methods =
-    (codes "beg", method.Beg)
-    ∷ (codes "dir", method.Dir)
-    ∷ (codes "dom", method.Dom)
-    ∷ (codes "end", method.End)
-    ∷ (codes "len", method.Len)
-    ∷ (codes "reg", method.Reg)
-    ∷ (codes "sub", method.Sub)
-    ∷ []
+derived_methods = map (λ by. (method_name by, by))
+    (method.Beg ∷ method.Dir ∷ method.Dom ∷ method.End ∷ method.Len ∷ method.Reg ∷ method.Sub ∷ [])
 
-abbrev pub derived_way : Maker Fetch → By → FetchWay
-derived_way make by = record { make = make; by = Some by }
-
-abbrev pub plain_way : Maker Fetch → FetchWay
-plain_way make = record { make = make; by = None }
+abbrev pub way_with : Option By → Maker Fetch → FetchWay
+way_with by make = record { make = make; by = by }
 
 -- the fetch and the method of a name that is a fetch's, `_` and a method's
 abbrev pub derived_of_parts : List ℕ × List ℕ → Option FetchWay
 derived_of_parts parts =
-    option_and_then (λ make. option_map (derived_way make) (entry_at derived_methods parts.1))
+    option_and_then
+    (λ make. option_map (λ by. way_with (Some by) make) (entry_at derived_methods parts.1))
     (entry_at derived_fetches parts.0)
 
 -- what the name of a fetch says in a criterion
 abbrev pub fetch_way : List ℕ → Option FetchWay
 fetch_way name =
-    option_or (option_map plain_way (entry_at fetch_table name))
-    (option_and_then derived_of_parts (cut_of underscore name))
+    option_or (option_map (way_with None) (entry_at fetch_table name))
+    (option_and_then derived_of_parts (cut_of (ascii "_") name))
 
 abbrev pub fetch_by : Option FetchWay → List (List ℕ) → Result MethodFetch SpellFault
 fetch_by None args = Err unsupported
-fetch_by (Some way) args =
-    way.make args >>= (λ f. Ok (record { fetch = f; by = way.by }))
+fetch_by (Some way) args = way.make args >>= (λ f. Ok (record { fetch = f; by = way.by }))
 
 abbrev pub fetch_fault_by : Option FetchWay → ArgFault → Result MethodFetch SpellFault
 fetch_fault_by None fault = Err unsupported
@@ -183,10 +148,9 @@ fetch_step (More call rest) = fetch_by (fetch_way call.name) call.args
 fetch_step (Faulty name fault) = fetch_fault_by (fetch_way name) fault
 
 abbrev pub criterion : MethodFetch → Reading (List Conv) → Reading Criterion
-criterion first convs = record {
-  value = record { expr = record { fetch = first.fetch; convs = convs.value }; by = first.by };
-  known = convs.known;
-}
+criterion first convs =
+    let expr : Expr = record { fetch = first.fetch; convs = convs.value } in
+    reading (record { expr = expr; by = first.by }) convs.known
 
 abbrev pub criterion_of_steps : ℕ → List Step → Known → Result (Reading Criterion) SpellFault
 criterion_of_steps line [] known = Err unsupported
@@ -208,10 +172,7 @@ expr_fetch (More call rest) = call_meaning fetch_table call
 expr_fetch (Faulty name fault) = fault_of (entry_at fetch_table name) fault
 
 abbrev pub expr_reading : Fetch → Reading (List Conv) → Reading Expr
-expr_reading fetch convs = record {
-  value = record { fetch = fetch; convs = convs.value };
-  known = convs.known;
-}
+expr_reading fetch convs = reading (record { fetch = fetch; convs = convs.value }) convs.known
 
 -- the expression of calls, or the code of its first fault
 abbrev pub expr_of_steps : ℕ → List Step → Known → Result (Reading Expr) SpellFault

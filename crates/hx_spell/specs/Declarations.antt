@@ -1,5 +1,6 @@
 -- An ACL: a criterion, flags and inline patterns (HAProxy configuration manual 2.4, section 7.1).
-use Rattle.std.specs.Prelude.{ℕ, ◌&&◌, ◌||◌, Bool, true, false, List, [], ◌∷◌, ◌++◌, Option, Some, None, is_none, is_some, Result, Ok, Err, if◌then◌else◌}
+use Rattle.std.specs.Prelude.{ℕ, ◌==◌, ◌&&◌, ◌||◌, Bool, true, false, List, [], ◌∷◌, ◌++◌, length, Option, None, is_none, is_some, Result, Ok, Err, if◌then◌else◌}
+use Rattle.std.specs.Option.{option_map_or}
 use Rattle.hx_text.specs.declared.By.{By}
 use Rattle.hx_text.specs.declared.By.TheVariants as method
 use Rattle.hx_text.specs.declared.Kind.{Kind}
@@ -14,7 +15,7 @@ use Rattle.hx_spell.specs.Codes.{bad_argument}
 use Rattle.hx_spell.specs.Arguments.{◌>>=◌}
 use Rattle.hx_spell.specs.Criteria.{criterion_of}
 use Rattle.hx_spell.specs.Flags.{AfterFlags, Flags, Searched, flags_from, no_flags}
-use Rattle.hx_spell.specs.Known.{Known, Reading, ReferenceForm, with_acl, with_head, with_reference}
+use Rattle.hx_spell.specs.Known.{Known, Reading, reference_form, with_acl, with_head, with_reference, reading}
 use Rattle.hx_spell.specs.Patterns.{keys_of}
 
 abbrev pub way_by : By → Bool → Result Way SpellFault
@@ -27,12 +28,10 @@ way_of_kind kind.Int = way_by method.Int false
 way_of_kind kind.Ip = way_by method.Ip false
 way_of_kind kind.Str = way_by method.Str false
 way_of_kind kind.Method = way_by method.Str true
-way_of_kind kind.Bin = Err bad_argument
-way_of_kind kind.Any = Err bad_argument
+way_of_kind _ = Err bad_argument
 
 abbrev pub way_of : Expr → Option By → Result Way SpellFault
-way_of expr (Some by) = way_by by false
-way_of expr None = way_of_kind (expr_kind expr)
+way_of expr by = option_map_or (λ given. way_by given false) by (way_of_kind (expr_kind expr))
 
 -- whether case is ignored: where the method compares texts, and it is said or goes by itself
 abbrev pub ignores_case : Way → Bool → Bool
@@ -42,57 +41,37 @@ ignores_case way ci = compares_texts way.by && (ci || way.folds)
 
 -- the heads of files, in their order
 abbrev pub file_heads : Way → List Searched → Known → Reading (List ℕ)
-file_heads way [] known = record { value = []; known = known }
+file_heads way [] known = reading [] known
 file_heads way (file ∷ files) known =
-    let first = with_head (record {
-      table = file.table;
-      by = way.by;
-      ci = ignores_case way file.ci;
-    }) known in
+    let first = with_head (record { table = file.table; by = way.by; ci = ignores_case way file.ci })
+    known in
     let others = file_heads way files first.known in
-    record { value = first.value ∷ others.value; known = others.known }
+    reading (first.value ∷ others.value) others.known
 
--- the reference of inline patterns
-abbrev pub words_form : ℕ → Option ℕ → List (List ℕ) → ReferenceForm
-words_form line given words = record {
-  file = None;
-  given = given;
-  two_column = false;
-  line = line;
-  words = words;
-}
-
+-- the head of inline patterns, which are a reference
 abbrev pub words_head : Way → Bool → Reading ℕ → Reading ℕ
 words_head way ci place =
     with_head (record { table = place.value; by = way.by; ci = ignores_case way ci })
     (with_acl place.value place.known)
 
-abbrev pub with_words_head : List ℕ → Reading ℕ → Reading (List ℕ)
-with_words_head heads last = record { value = heads ++ last.value ∷ []; known = last.known }
-
--- the fault of a word after the reference was brought, if there is one
-abbrev pub unless_fault : {A : Type 0} → Option SpellFault → A → Result A SpellFault
-unless_fault None x = Ok x
-unless_fault (Some fault) x = Err fault
-
--- the heads of the files and, where there are inline patterns, one more for these; a number that is
--- given is theirs, so it doesn't stand without them
+-- The heads of the files and, where there are inline patterns, one more for these; a number that is
+-- given is theirs, so it doesn't stand without them. The fault of a word, if there is one, is told
+-- after the reference is brought.
 abbrev pub heads_of_keys : ℕ → Way → Flags → List (List ℕ) → Option SpellFault
     → Reading (List ℕ) → Result (Reading (List ℕ)) SpellFault
-heads_of_keys line way flags [] (Some fault) files = Err fault
-heads_of_keys line way flags [] None files =
-    if is_some flags.given then Err bad_argument else Ok files
+heads_of_keys line way flags [] fault files =
+    option_map_or Err fault (if is_some flags.given then Err bad_argument else Ok files)
 heads_of_keys line way flags (key ∷ keys) fault files = do
-  place ← with_reference (words_form line flags.given (key ∷ keys)) files.known
-  unless_fault fault (with_words_head files.value (words_head way flags.ci place))
+  place ← with_reference (reference_form None flags.given false line (key ∷ keys)) files.known
+  let last = words_head way flags.ci place
+  option_map_or Err fault (Ok (reading (files.value ++ last.value ∷ []) last.known))
 
 -- ---- the whole
 
 abbrev pub decl_reading : Expr → Way → Bool → List (List ℕ) → Reading (List ℕ) → Reading Decl
-decl_reading expr way ci keys heads = record {
-  value = record { expr = expr; by = way.by; ci = ci; heads = heads.value; words = keys };
-  known = heads.known;
-}
+decl_reading expr way ci keys heads =
+    reading (record { expr = expr; by = way.by; ci = ci; heads = heads.value; words = keys })
+    heads.known
 
 -- an ACL by a method that takes patterns
 abbrev pub pattern_decl : ℕ → Expr → Way → AfterFlags → Known → Result (Reading Decl) SpellFault
@@ -103,26 +82,17 @@ pattern_decl line expr way after known =
     >>= (λ heads. Ok
     (decl_reading expr way (ignores_case way after.flags.ci) keys.keys heads))
 
-abbrev pub is_empty : {A : Type 0} → List A → Bool
-is_empty [] = true
-is_empty (x ∷ xs) = false
-
 -- nothing to compare with
 abbrev pub has_no_patterns : AfterFlags → Bool
 has_no_patterns after =
-    is_empty after.flags.files && is_empty after.words && is_none after.flags.given
+    length after.flags.files == 0 && length after.words == 0 && is_none after.flags.given
 
--- an ACL by `found` or `bool`
-abbrev pub bare_decl : Expr → Way → AfterFlags → Known → Result (Reading Decl) SpellFault
-bare_decl expr way after known =
-    if has_no_patterns after
-    then Ok (decl_reading expr way false [] (record { value = []; known = known }))
-    else Err bad_argument
-
+-- an ACL of its parts; by `found` or `bool`, it takes no patterns
 abbrev pub decl_by : ℕ → Expr → AfterFlags → Known → Way → Result (Reading Decl) SpellFault
 decl_by line expr after known way =
-    if takes_patterns way.by then pattern_decl line expr way after known
-    else bare_decl expr way after known
+    if takes_patterns way.by then pattern_decl line expr way after known else
+    (if has_no_patterns after then Ok (decl_reading expr way false [] (reading [] known))
+    else Err bad_argument)
 
 -- The ACL on this line of a criterion and the words after it, or the code of its first fault: the
 -- words are judged from the left.

@@ -6,19 +6,19 @@ use Rattle.hx_words.specs.Spelling.{SpellsCalls}
 use Rattle.hx_ast.specs.declared.Conv.{Conv}
 use Rattle.hx_ast.specs.declared.Expr.{Expr}
 use Rattle.hx_ast.specs.declared.Fetch.{Fetch}
-use Rattle.hx_spell.specs.Criteria.{Criterion, MethodFetch, conv_call, criterion, expr_reading, fetch_by, fetch_way}
+use Rattle.hx_spell.specs.Criteria.{Criterion, MethodFetch, conv_call, criterion, fetch_by, fetch_way}
 use Rattle.hx_spell.specs.Expressions.{call_meaning}
-use Rattle.hx_spell.specs.Known.{Known, Reading}
+use Rattle.hx_spell.specs.Known.{Known, Reading, reading}
 use Rattle.hx_spell.specs.Tables.{fetch_table}
 
 -- ---- converters
 
 -- calls write converters, each by its row of the table
 abbrev pub WriteConvs : ℕ → Known → List CallForm → Reading (List Conv) → Type 0
-WriteConvs line before [] convs = convs ≡ record { value = []; known = before }
+WriteConvs line before [] convs = convs ≡ reading [] before
 WriteConvs line before (call ∷ calls) convs =
     (first : Reading Conv) × (others : Reading (List Conv))
-    × (convs ≡ record { value = first.value ∷ others.value; known = others.known })
+    × (convs ≡ reading (first.value ∷ others.value) others.known)
     × (conv_call line call before ≡ Ok first) × WriteConvs line first.known calls others
 
 -- ---- criteria
@@ -49,4 +49,4 @@ pub record WritesExpr (stop : Option ℕ) (line : ℕ) (before : Known) (text : 
   pub fetched : call_meaning fetch_table first ≡ Ok fetch
   pub convs : Reading (List Conv)
   pub converted : WriteConvs line before others convs
-  pub is : read ≡ expr_reading fetch convs
+  pub is : read ≡ reading (record { fetch = fetch; convs = convs.value }) convs.known

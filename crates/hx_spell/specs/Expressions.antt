@@ -2,6 +2,7 @@
 -- configuration manual 2.4, section 7.3). Of a call first its name is judged, then its form, then
 -- its arguments.
 use Rattle.std.specs.Prelude.{ℕ, List, Option, Some, None, Result, Err}
+use Rattle.std.specs.Option.{option_map_or}
 use Rattle.hx_words.specs.CallForm.{CallForm}
 use Rattle.hx_words.specs.declared.ArgFault.{ArgFault}
 use Rattle.hx_spell.specs.declared.fault.SpellFault.{SpellFault}
@@ -9,8 +10,7 @@ use Rattle.hx_spell.specs.Codes.{unsupported, form_fault}
 use Rattle.hx_spell.specs.Tables.{Maker, Table, entry_at}
 
 abbrev pub made_of : {A : Type 0} → Option (Maker A) → List (List ℕ) → Result A SpellFault
-made_of None args = Err unsupported
-made_of (Some make) args = make args
+made_of make args = option_map_or (λ given. given args) make (Err unsupported)
 
 -- the code of a call that has a fault after its name
 abbrev pub fault_of : {A : Type 0} → Option (Maker A) → ArgFault → Result A SpellFault

@@ -1,11 +1,11 @@
 -- The flags of an ACL, between its criterion and its inline patterns (HAProxy configuration manual
 -- 2.4, section 7.1).
-use Rattle.std.specs.Prelude.{ℕ, ◌-◌, ◌^◌, ◌==◌, ◌&&◌, Bool, true, false, not, List, [], ◌∷◌, ◌++◌, codes, slice_index, Option, Some, None, is_none, Result, Ok, Err, if◌then◌else◌}
+use Rattle.std.specs.Prelude.{ℕ, ◌-◌, ◌^◌, ◌==◌, ◌&&◌, Bool, true, false, not, List, [], ◌∷◌, ◌++◌, map, codes, slice_index, Option, Some, None, is_none, Result, Ok, Err, if◌then◌else◌}
 use Rattle.std.specs.Option.{ok_or, option_map_or}
 use Rattle.std.specs.Char.{is_ascii_digit}
-use Rattle.hx_base.specs.Bytes.{hyphen}
+use Rattle.hx_base.specs.Bytes.{ascii}
 use Rattle.hx_text.specs.declared.By.{By}
-use Rattle.hx_text.specs.declared.By.TheVariants as method
+use Rattle.hx_text.specs.Methods.{method_name, methods}
 use Rattle.hx_text.specs.Network.{width_of}
 use Rattle.hx_ast.specs.Acls.{takes_patterns}
 use Rattle.hx_spell.specs.declared.fault.SpellFault.{SpellFault}
@@ -15,7 +15,7 @@ pub use Rattle.hx_spell.specs.declared.flag_table.Flags.{Flags}
 pub use Rattle.hx_spell.specs.declared.flag_table.Searched.{Searched}
 use Rattle.hx_spell.specs.Codes.{bad_argument, unsupported}
 use Rattle.hx_spell.specs.Arguments.{◌>>=◌}
-use Rattle.hx_spell.specs.Known.{Known, Reading, with_acl, with_named_file}
+use Rattle.hx_spell.specs.Known.{Known, Reading, with_acl, with_named_file, reading}
 use Rattle.hx_spell.specs.Tables.{Table, entry_at}
 
 -- before the first flag
@@ -35,26 +35,11 @@ flag_table =
 
 -- the match methods, as `-m` names them
 unfoldable pub method_table : Table By
-method_table =
-    (codes "found", method.Found)
-    ∷ (codes "bool", method.Bool)
-    ∷ (codes "int", method.Int)
-    ∷ (codes "ip", method.Ip)
-    ∷ (codes "bin", method.Bin)
-    ∷ (codes "len", method.Len)
-    ∷ (codes "str", method.Str)
-    ∷ (codes "beg", method.Beg)
-    ∷ (codes "end", method.End)
-    ∷ (codes "sub", method.Sub)
-    ∷ (codes "dir", method.Dir)
-    ∷ (codes "dom", method.Dom)
-    ∷ (codes "reg", method.Reg)
-    ∷ []
+method_table = map (λ by. (method_name by, by)) methods
 
--- a word that begins with `-` is a flag, unless a digit follows
+-- whether a word has the form of a flag: a hyphen, and no digit after it
 abbrev pub begins_as_flag : List ℕ → Bool
-begins_as_flag word =
-    slice_index word 0 == hyphen && not (is_ascii_digit (slice_index word 1))
+begins_as_flag word = slice_index word 0 == ascii "-" && not (is_ascii_digit (slice_index word 1))
 
 -- ---- one flag
 
@@ -66,26 +51,20 @@ may_stand Number flags = is_none flags.given
 may_stand File flags = option_map_or takes_patterns flags.by true
 may_stand flag flags = true
 
-abbrev pub with_searched : Flags → Reading ℕ → Reading Flags
-with_searched flags file = record {
-  value = record flags {
-    files = flags.files ++ record { table = file.value; ci = flags.ci } ∷ [];
-  };
-  known = with_acl file.value file.known;
-}
-
 -- what the argument of a flag says
-abbrev pub flag_argument :
-    ℕ → Flag → List ℕ → Flags → Known → Result (Reading Flags) SpellFault
-flag_argument line File name flags known =
-    with_named_file line name flags.two known >>= (λ file. Ok (with_searched flags file))
+abbrev pub flag_argument : ℕ → Flag → List ℕ → Flags → Known → Result (Reading Flags) SpellFault
+flag_argument line File name flags known = do
+  file ← with_named_file line name flags.two known
+  let searched : Searched = record { table = file.value; ci = flags.ci }
+  let more = record flags { files = flags.files ++ searched ∷ [] }
+  Ok (reading more (with_acl file.value file.known))
 flag_argument line Method name flags known =
     ok_or (entry_at method_table name) unsupported
-    >>= (λ by. Ok (record { value = record flags { by = Some by }; known = known }))
+    >>= (λ by. Ok (reading (record flags { by = Some by }) known))
 flag_argument line Number text flags known =
     ok_or (width_of (2 ^ 32 - 1) text) bad_argument
-    >>= (λ n. Ok (record { value = record flags { given = Some n }; known = known }))
-flag_argument line flag text flags known = Ok (record { value = flags; known = known })
+    >>= (λ n. Ok (reading (record flags { given = Some n }) known))
+flag_argument line flag text flags known = Ok (reading flags known)
 
 -- ---- flags in order
 
@@ -95,8 +74,7 @@ pub record AfterFlags : Type 0 where
   pub words : List (List ℕ)
 
 abbrev pub flags_end : Flags → List (List ℕ) → Known → Result (Reading AfterFlags) SpellFault
-flags_end flags words known =
-    Ok (record { value = record { flags = flags; words = words }; known = known })
+flags_end flags words known = Ok (reading (record { flags = flags; words = words }) known)
 
 -- what a word in the place of a flag says, with the words after it: the flags end, or go on,
 -- perhaps with the argument of a flag

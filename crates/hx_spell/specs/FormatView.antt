@@ -6,7 +6,7 @@ use Rattle.hx_spell.specs.declared.fault.SpellFault.{SpellFault}
 use Rattle.hx_spell.specs.declared.fault.SpellFault.TheVariants as spell
 use Rattle.hx_spell.specs.Arguments.{◌>>=◌}
 use Rattle.hx_spell.specs.Formats.{FormatReader, byte_before}
-use Rattle.hx_spell.specs.Known.{Known, Reading}
+use Rattle.hx_spell.specs.Known.{Known, Reading, reading}
 
 -- bytes that stand for themselves, as a part, if there are some
 abbrev pub text_part : List ℕ → List Part
@@ -20,10 +20,7 @@ bytes_before (b ∷ bytes) parts = byte_before b (bytes_before bytes parts)
 
 -- the parts that are read, the bytes after them, and the parts that follow
 abbrev pub joined : List Part → List ℕ → Reading (List Part) → Reading (List Part)
-joined parts text others = record {
-  value = parts ++ bytes_before text others.value;
-  known = others.known;
-}
+joined parts text others = reading (parts ++ bytes_before text others.value) others.known
 
 abbrev pub with_read : List Part → List ℕ → Result (Reading (List Part)) SpellFault
     → Result (Reading (List Part)) SpellFault
@@ -32,10 +29,12 @@ with_read parts text others = others >>= (λ read. Ok (joined parts text read))
 -- A step reads from some parts and bytes to others, and leaves a rest: whatever reads on, what the
 -- whole says after the old ones is what the rest says after the new ones. Or it has the code with
 -- which the whole is refused. Where memory runs out, nothing is said.
-abbrev pub ReadsOn : {R : Type 0} → (R → List ℕ) → Result R SpellFault → Known → (old_parts : List Part) (old_text : List ℕ) (new_parts : List Part) (new_text : List ℕ)
+abbrev pub ReadsOn : {R : Type 0} → (R → List ℕ) → Result R SpellFault → Known
+    → (old_parts : List Part) (old_text : List ℕ) (new_parts : List Part) (new_text : List ℕ)
     → (FormatReader → Result (Reading (List Part)) SpellFault) → Type 0
 ReadsOn left (Ok rest) after old_parts old_text new_parts new_text whole =
     (next : FormatReader)
-    → with_read old_parts old_text (whole next) ≡ with_read new_parts new_text (next (left rest) after)
+    → with_read old_parts old_text (whole next)
+    ≡ with_read new_parts new_text (next (left rest) after)
 ReadsOn left (Err fault) after old_parts old_text new_parts new_text whole =
     fault ≢ spell.NoMemory → (next : FormatReader) → whole next ≡ Err fault

@@ -1,7 +1,7 @@
 -- Formats: texts in which values of a request are filled in (HAProxy configuration manual 2.4,
 -- section 8.2.4).
 use Rattle.std.specs.Prelude.{ℕ, zero, suc, ◌==◌, List, [], ◌∷◌, length, Some, Result, Ok, Err, if◌then◌else◌}
-use Rattle.hx_base.specs.Bytes.{close_bracket, open_bracket, percent_sign}
+use Rattle.hx_base.specs.Bytes.{ascii}
 use Rattle.hx_words.specs.Calls.{Step, steps_of}
 use Rattle.hx_words.specs.Calls.Step.{Last, More, Faulty}
 use Rattle.hx_ast.specs.declared.Expr.{Expr}
@@ -11,7 +11,7 @@ use Rattle.hx_spell.specs.declared.fault.SpellFault.{SpellFault}
 use Rattle.hx_spell.specs.Arguments.{◌>>=◌}
 use Rattle.hx_spell.specs.Codes.{bad_format}
 use Rattle.hx_spell.specs.Criteria.{expr_of}
-use Rattle.hx_spell.specs.Known.{Known, Reading}
+use Rattle.hx_spell.specs.Known.{Known, Reading, reading}
 
 -- the parts with one byte more before them; bytes beside one another are one part
 abbrev pub byte_before : ℕ → List Part → List Part
@@ -20,10 +20,10 @@ byte_before b (Text bytes ∷ parts) = Text (b ∷ bytes) ∷ parts
 byte_before b (Value expr ∷ parts) = Text (b ∷ []) ∷ Value expr ∷ parts
 
 abbrev pub with_byte : ℕ → Reading (List Part) → Reading (List Part)
-with_byte b others = record { value = byte_before b others.value; known = others.known }
+with_byte b others = reading (byte_before b others.value) others.known
 
 abbrev pub with_value : Expr → Reading (List Part) → Reading (List Part)
-with_value expr others = record { value = Value expr ∷ others.value; known = others.known }
+with_value expr others = reading (Value expr ∷ others.value) others.known
 
 -- what follows the calls of these steps
 abbrev pub rest_after : List Step → List ℕ
@@ -39,8 +39,8 @@ FormatReader = List ℕ → Known → Result (Reading (List Part)) SpellFault
 -- an expression up to `]`, which is the first outside parentheses, and what follows that
 abbrev pub value_part : FormatReader → ℕ → List ℕ → Known → Result (Reading (List Part)) SpellFault
 value_part next line text known = do
-  expr ← expr_of (Some close_bracket) line text known
-  others ← next (rest_after (steps_of (Some close_bracket) text)) expr.known
+  expr ← expr_of (Some (ascii "]")) line text known
+  others ← next (rest_after (steps_of (Some (ascii "]")) text)) expr.known
   Ok (with_value expr.value others)
 
 -- what follows a `%`: another, which stands for one, or an expression in brackets
@@ -48,16 +48,16 @@ abbrev pub after_percent : FormatReader → ℕ → List ℕ → Known
     → Result (Reading (List Part)) SpellFault
 after_percent next line [] known = Err bad_format
 after_percent next line (b ∷ text) known =
-    if b == percent_sign then next text known >>= (λ others. Ok (with_byte percent_sign others))
-    else if b == open_bracket then value_part next line text known
+    if b == ascii "%" then next text known >>= (λ others. Ok (with_byte (ascii "%") others))
+    else if b == ascii "[" then value_part next line text known
     else Err bad_format
 
 -- the parts of a text of at most so many bytes
 abbrev pub format_within : ℕ → ℕ → FormatReader
-format_within zero line text known = Ok (record { value = []; known = known })
-format_within (suc n) line [] known = Ok (record { value = []; known = known })
+format_within zero line text known = Ok (reading [] known)
+format_within (suc n) line [] known = Ok (reading [] known)
 format_within (suc n) line (b ∷ text) known =
-    if b == percent_sign then after_percent (format_within n line) line text known
+    if b == ascii "%" then after_percent (format_within n line) line text known
     else format_within n line text known >>= (λ others. Ok (with_byte b others))
 
 -- the format that a word on this line writes, or the code of its first fault

@@ -6,10 +6,9 @@ use Rattle.std.specs.Bool.{beq}
 use Rattle.std.specs.List.{list_any}
 use Rattle.std.specs.Option.{option_map_or}
 use Rattle.std.specs.Str.{bytes_eq}
-use Rattle.hx_text.specs.declared.By.{By}
-use Rattle.hx_text.specs.declared.By.TheVariants as method
 use Rattle.hx_text.specs.declared.Out.{Out}
 use Rattle.hx_text.specs.declared.Out.TheVariants as output
+use Rattle.hx_text.specs.Methods.{method_number}
 use Rattle.hx_spell.specs.declared.fault.SpellFault.{SpellFault}
 use Rattle.hx_spell.specs.declared.fault.SpellFault.TheVariants as spell
 use Rattle.hx_spell.specs.declared.table_specs.HeadSpec.{HeadSpec}
@@ -28,9 +27,13 @@ pub record ReferenceForm : Type 0 where
   pub line : ℕ
   pub words : List (List ℕ)
 
+abbrev pub reference_form : Option (List ℕ) → Option ℕ → Bool → ℕ → List (List ℕ) → ReferenceForm
+reference_form file given two line words =
+    record { file = file; given = given; two_column = two; line = line; words = words }
+
 -- The references; the heads; which references are read as which type, which ACLs search, and which
--- `-f` or a map converter names; the names of ACLs that are declared; whether there was a statement,
--- and whether there was `default_backend`.
+-- `-f` or a map converter names; the names of ACLs that are declared; whether there was a
+-- statement, and whether there was `default_backend`.
 pub record Known : Type 0 where
   pub references : List ReferenceForm
   pub heads : List HeadSpec
@@ -59,22 +62,10 @@ pub record Reading (A : Type 0) : Type 0 where
   pub value : A
   pub known : Known
 
--- ---- which are the same
+abbrev pub reading : {A : Type 0} → A → Known → Reading A
+reading value known = record { value = value; known = known }
 
-abbrev pub method_number : By → ℕ
-method_number method.Found = 0
-method_number method.Bool = 1
-method_number method.Int = 2
-method_number method.Ip = 3
-method_number method.Bin = 4
-method_number method.Len = 5
-method_number method.Str = 6
-method_number method.Beg = 7
-method_number method.End = 8
-method_number method.Sub = 9
-method_number method.Dir = 10
-method_number method.Dom = 11
-method_number method.Reg = 12
+-- ---- which are the same
 
 abbrev pub output_number : Out → ℕ
 output_number output.Str = 0
@@ -104,75 +95,52 @@ most_references = 65536
 abbrev pub with_reference : ReferenceForm → Known → Result (Reading ℕ) SpellFault
 with_reference form known =
     if nat_lt (length known.references) most_references
-    then Ok (record {
-      value = length known.references;
-      known = record known { references = known.references ++ form ∷ [] };
-    })
+    then Ok (reading (length known.references)
+    (record known { references = known.references ++ form ∷ [] }))
     else Err too_many_references
 
 abbrev pub has_columns : Known → ℕ → Bool → Bool
 has_columns known place two =
     option_map_or (λ form. beq form.two_column two) (slice_get known.references place) false
 
--- a reference that is there, used with so many columns, or a new one
-abbrev pub file_or_new :
-    ReferenceForm → Known → Option ℕ → Result (Reading ℕ) SpellFault
-file_or_new form known (Some place) =
-    if has_columns known place form.two_column
-    then Ok (record { value = place; known = known }) else Err file_kind
-file_or_new form known None = with_reference form known
-
-abbrev pub file_form : ℕ → List ℕ → Bool → ReferenceForm
-file_form line name two = record {
-  file = Some name;
-  given = None;
-  two_column = two;
-  line = line;
-  words = [];
-}
-
 -- The position of the reference of a file, which is used on this line with one column or two. A
 -- file has one reference, however often it is named; it may not be used both ways.
 abbrev pub with_file : ℕ → List ℕ → Bool → Known → Result (Reading ℕ) SpellFault
 with_file line name two known =
-    file_or_new (file_form line name two) known (position (is_of_file name) known.references)
+    option_map_or
+    (λ place. if has_columns known place two then Ok (reading place known) else Err file_kind)
+    (position (is_of_file name) known.references)
+    (with_reference (reference_form (Some name) None two line []) known)
 
-abbrev pub head_or_new : HeadSpec → Known → Option ℕ → Reading ℕ
-head_or_new head known (Some number) = record { value = number; known = known }
-head_or_new head known None = record {
-  value = length known.heads;
-  known = record known { heads = known.heads ++ head ∷ [] };
-}
-
--- the number of a head
+-- the number of a head, which is there or new
 abbrev pub with_head : HeadSpec → Known → Reading ℕ
-with_head head known = head_or_new head known (position (is_head head) known.heads)
+with_head head known =
+    option_map_or (λ number. reading number known) (position (is_head head) known.heads)
+    (reading (length known.heads) (record known { heads = known.heads ++ head ∷ [] }))
+
+-- one item more at the end, unless it is there by this test
+abbrev pub added_once : {A : Type 0} → (A → Bool) → A → List A → List A
+added_once is item items = if list_any is items then items else items ++ item ∷ []
 
 -- a reference whose values are read as a type
 abbrev pub with_output : MapOutput → Known → Known
 with_output output known =
-    if list_any (is_output output) known.outputs then known
-    else record known { outputs = known.outputs ++ output ∷ [] }
+    record known { outputs = added_once (is_output output) output known.outputs }
 
 -- a reference that an ACL searches
 abbrev pub with_acl : ℕ → Known → Known
-with_acl table known =
-    if list_any (λ other. other == table) known.acls then known
-    else record known { acls = known.acls ++ table ∷ [] }
+with_acl table known = record known { acls = added_once (λ other. other == table) table known.acls }
 
 -- a reference whose file `-f` or a map converter names
 abbrev pub with_named : ℕ → Known → Known
 with_named table known =
-    if list_any (λ other. other == table) known.named then known
-    else record known { named = known.named ++ table ∷ [] }
-
-abbrev pub named_reading : Reading ℕ → Reading ℕ
-named_reading file = record { value = file.value; known = with_named file.value file.known }
+    record known { named = added_once (λ other. other == table) table known.named }
 
 -- the position of the reference of a file that `-f` or a map converter names
 abbrev pub with_named_file : ℕ → List ℕ → Bool → Known → Result (Reading ℕ) SpellFault
-with_named_file line name two known =
-    with_file line name two known >>= (λ file. Ok (named_reading file))
+with_named_file line name two known = do
+  file ← with_file line name two known
+  Ok (reading file.value (with_named file.value file.known))
 
 -- the name of an ACL that is declared
 abbrev pub with_name : List ℕ → Known → Known
@@ -191,13 +159,13 @@ with_fallback known = record known { fallback = true }
 -- Where memory runs out, nothing is said.
 abbrev pub ReadsAs :
     {A : Type 0} → Result A SpellFault → Known → Result (Reading A) SpellFault → Type 0
-ReadsAs (Ok x) after expected = expected ≡ Ok (record { value = x; known = after })
+ReadsAs (Ok x) after expected = expected ≡ Ok (reading x after)
 ReadsAs (Err fault) after expected = fault ≢ spell.NoMemory → expected ≡ Err fault
 
 -- The same of a call that reads more: what is expected is a part of what it reads.
 abbrev pub ReadsPart : {A B : Type 0} → (B → A) → Result B SpellFault → Known
     → Result (Reading A) SpellFault → Type 0
-ReadsPart part (Ok x) after expected = expected ≡ Ok (record { value = part x; known = after })
+ReadsPart part (Ok x) after expected = expected ≡ Ok (reading (part x) after)
 ReadsPart part (Err fault) after expected = fault ≢ spell.NoMemory → expected ≡ Err fault
 
 -- the list begins with these items

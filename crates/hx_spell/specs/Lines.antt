@@ -18,15 +18,15 @@ use Rattle.hx_spell.specs.Actions.{Taken, action_words, format_word, head_of_ste
 use Rattle.hx_spell.specs.Arguments.{◌>>=◌}
 use Rattle.hx_spell.specs.Codes.{bad_argument, bad_name, misplaced, unsupported}
 use Rattle.hx_spell.specs.Conditions.{cond_of, is_acl_name, is_name}
-use Rattle.hx_spell.specs.Declarations.{decl_of, is_empty}
-use Rattle.hx_spell.specs.Known.{Known, Reading, after_statement, with_fallback, with_name}
+use Rattle.hx_spell.specs.Declarations.{decl_of}
+use Rattle.hx_spell.specs.Known.{Known, Reading, after_statement, with_fallback, with_name, reading}
 use Rattle.hx_spell.specs.Tables.{Table, entry_at}
 
 -- ---- statements without a part in the rules
 
 -- a line with a fault, or one that brings nothing
 abbrev pub plain_unless : Option SpellFault → Known → Result (Reading Statement) SpellFault
-plain_unless None known = Ok (record { value = statement.Plain; known = known })
+plain_unless None known = Ok (reading statement.Plain known)
 plain_unless (Some fault) known = Err fault
 
 -- the one name of a frontend
@@ -47,23 +47,19 @@ mode_fault words = Some bad_argument
 -- the options that change no rule
 unfoldable pub plain_options : List (List ℕ)
 plain_options =
-    codes "dontlognull"
-    ∷ codes "http-keep-alive"
-    ∷ codes "http-server-close"
-    ∷ codes "httplog"
+    codes "dontlognull" ∷ codes "http-keep-alive" ∷ codes "http-server-close" ∷ codes "httplog"
     ∷ []
 
 abbrev pub option_fault : List (List ℕ) → Option SpellFault
 option_fault [] = Some bad_argument
-option_fault (name ∷ words) = if list_any (bytes_eq name) plain_options then None else Some unsupported
+option_fault (name ∷ words) =
+    if list_any (bytes_eq name) plain_options then None else Some unsupported
 
 -- ---- ACLs
 
 abbrev pub acl_statement : ℕ → List ℕ → Reading Decl → Reading Statement
-acl_statement line name decl = record {
-  value = statement.Acl line name decl.value;
-  known = with_name name decl.known;
-}
+acl_statement line name decl =
+    reading (statement.Acl line name decl.value) (with_name name decl.known)
 
 -- what follows the name of an ACL
 abbrev pub acl_after_name : ℕ → List ℕ → List (List ℕ) → Known
@@ -84,10 +80,7 @@ unfoldable pub polarity_table : Table Bool
 polarity_table = (codes "if", false) ∷ (codes "unless", true) ∷ []
 
 abbrev pub when_reading : Bool → Option (List (List Term)) → Known → Reading When
-when_reading unless cond known = record {
-  value = record { unless = unless; cond = cond };
-  known = known;
-}
+when_reading unless cond known = reading (record { unless = unless; cond = cond }) known
 
 -- the last words of a rule: none, or a condition
 abbrev pub when_of : ℕ → List (List ℕ) → Known → Result (Reading When) SpellFault
@@ -101,21 +94,18 @@ when_of line (word ∷ words) known = do
 abbrev pub rule_reading : ℕ → Action → List (List ℕ) → Known → Result (Reading Rule) SpellFault
 rule_reading line act words known =
     when_of line words known
-    >>= (λ when. Ok (record {
-      value = record {
-        line = line;
-        action = act;
-        unless = when.value.unless;
-        cond = when.value.cond;
-      };
-      known = when.known;
-    }))
+    >>= (λ when. Ok (reading (record {
+      line = line;
+      action = act;
+      unless = when.value.unless;
+      cond = when.value.cond;
+    }) when.known))
 
 abbrev pub rule_statement : ℕ → (Rule → Statement) → Reading (Taken Action)
     → Result (Reading Statement) SpellFault
 rule_statement line make act =
     rule_reading line act.value.item act.value.words act.known
-    >>= (λ rule. Ok (record { value = make rule.value; known = rule.known }))
+    >>= (λ rule. Ok (reading (make rule.value) rule.known))
 
 -- the rule of the words after `http-request`
 abbrev pub rule_of : ℕ → List (List ℕ) → Known → Result (Reading Statement) SpellFault
@@ -140,7 +130,11 @@ abbrev pub backend_of : ℕ → List (List ℕ) → Known → Result (Reading St
 backend_of line words known = do
   format ← format_word line words known
   when ← when_of line format.value.words format.known
-  Ok (record { value = backend line format.value.item when.value; known = when.known })
+  Ok (reading (backend line format.value.item when.value) when.known)
+
+abbrev pub is_empty : {A : Type 0} → List A → Bool
+is_empty [] = true
+is_empty (x ∷ xs) = false
 
 -- the one name of a backend
 abbrev pub fallback_named : ℕ → List (List ℕ) → Known → Result (Reading Statement) SpellFault
@@ -148,7 +142,7 @@ fallback_named line [] known = Err bad_argument
 fallback_named line (name ∷ words) known =
     if is_name name
     then (if is_empty words
-    then Ok (record { value = statement.Fallback line name; known = with_fallback known })
+    then Ok (reading (statement.Fallback line name) (with_fallback known))
     else Err bad_argument)
     else Err bad_name
 
@@ -204,12 +198,12 @@ keyword_statement line (Some UseBackend) words known = backend_of line words kno
 keyword_statement line (Some DefaultBackend) words known = fallback_of line words known
 
 abbrev pub then_begun : Reading Statement → Reading Statement
-then_begun r = record { value = r.value; known = after_statement r.known }
+then_begun r = reading r.value (after_statement r.known)
 
 -- The statement of the words of a line with this number, after the lines before it, or the code of
 -- its first fault. A line without words is no statement.
 unfoldable pub line_of : ℕ → List (List ℕ) → Known → Result (Reading Statement) SpellFault
-line_of line [] known = Ok (record { value = statement.Plain; known = known })
+line_of line [] known = Ok (reading statement.Plain known)
 line_of line (word ∷ words) known =
     keyword_statement line (entry_at keyword_table word) words known
     >>= (λ r. Ok (then_begun r))

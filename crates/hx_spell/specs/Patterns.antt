@@ -3,7 +3,8 @@
 -- configuration manual 2.4, section 7.1.2).
 use Rattle.std.specs.Prelude.{ℕ, ℤ, pos, ◌+ℤ◌, ◌-ℤ◌, Bool, true, false, List, [], ◌∷◌, ◌++◌, codes, Option, Some, None, if◌then◌else◌}
 use Rattle.std.specs.Fmt.{signed_decimal}
-use Rattle.hx_base.specs.Bytes.{colon}
+use Rattle.std.specs.Option.{option_map_or}
+use Rattle.hx_base.specs.Bytes.{ascii}
 use Rattle.hx_text.specs.declared.By.{By}
 use Rattle.hx_text.specs.declared.By.TheVariants as method
 use Rattle.hx_text.specs.Number.{int_of}
@@ -16,70 +17,47 @@ use Rattle.hx_spell.specs.Values.{is_among}
 
 unfoldable pub operator_table : Table Operator
 operator_table =
-    (codes "eq", Equal)
-    ∷ (codes "ge", AtLeast)
-    ∷ (codes "gt", Above)
-    ∷ (codes "le", AtMost)
-    ∷ (codes "lt", Below)
-    ∷ []
+    (codes "eq", Equal) ∷ (codes "ge", AtLeast) ∷ (codes "gt", Above) ∷ (codes "le", AtMost)
+    ∷ (codes "lt", Below) ∷ []
 
 -- numbers from this text on, and up to it
 abbrev pub from_text : List ℕ → List ℕ
-from_text text = text ++ colon ∷ []
+from_text text = text ++ ascii ":" ∷ []
 
 abbrev pub up_to_text : List ℕ → List ℕ
-up_to_text text = colon ∷ text
-
-abbrev pub after_number : ℤ → ℤ
-after_number n = n +ℤ pos 1
-
-abbrev pub before_number : ℤ → ℤ
-before_number n = n -ℤ pos 1
+up_to_text text = ascii ":" ∷ text
 
 -- the key of a number, or of a word that is none, which no number then hits
 abbrev pub operator_key : Operator → List ℕ → Option ℤ → List ℕ
 operator_key Equal word n = word
-operator_key AtLeast word (Some n) = from_text (signed_decimal n)
-operator_key AtLeast word None = from_text word
-operator_key Above word (Some n) = from_text (signed_decimal (after_number n))
-operator_key Above word None = from_text word
-operator_key AtMost word (Some n) = up_to_text (signed_decimal n)
-operator_key AtMost word None = up_to_text word
-operator_key Below word (Some n) = up_to_text (signed_decimal (before_number n))
-operator_key Below word None = up_to_text word
+operator_key AtLeast word n = from_text (option_map_or signed_decimal n word)
+operator_key Above word n = from_text (option_map_or (λ i. signed_decimal (i +ℤ pos 1)) n word)
+operator_key AtMost word n = up_to_text (option_map_or signed_decimal n word)
+operator_key Below word n = up_to_text (option_map_or (λ i. signed_decimal (i -ℤ pos 1)) n word)
 
 -- after any operator but `eq`, a range isn't allowed
 abbrev pub allows_range : Operator → Bool
 allows_range Equal = true
 allows_range _ = false
 
-abbrev pub key_and : List ℕ → Keys → Keys
-key_and key more = record { keys = key ∷ more.keys; fault = more.fault }
-
 -- the key of a word after an operator, and none where it is a range that isn't allowed
 abbrev pub word_key : Operator → List ℕ → Option (List ℕ)
 word_key operator word =
-    if is_among word colon
+    if is_among word (ascii ":")
     then (if allows_range operator then Some word else None)
     else Some (operator_key operator word (int_of word))
 
 abbrev pub key_or_fault : Option (List ℕ) → Keys → Keys
-key_or_fault (Some key) more = key_and key more
+key_or_fault (Some key) more = record { keys = key ∷ more.keys; fault = more.fault }
 key_or_fault None more = record { keys = []; fault = Some bad_argument }
 
-abbrev pub number_key : Operator → List ℕ → Keys → Keys
-number_key operator word more = key_or_fault (word_key operator word) more
-
--- the word is an operator, for the words after it, or a number
-abbrev pub operator_or_key : Option Operator → Operator → List ℕ → (Operator → Keys) → Keys
-operator_or_key (Some next) operator word more = more next
-operator_or_key None operator word more = number_key operator word (more operator)
-
--- the keys of words that are compared as numbers, after an operator
+-- the keys of words that are compared as numbers, after an operator; each word is an operator, for
+-- the words after it, or a number
 abbrev pub number_keys : Operator → List (List ℕ) → Keys
 number_keys operator [] = record { keys = []; fault = None }
 number_keys operator (word ∷ words) =
-    operator_or_key (entry_at operator_table word) operator word (λ next. number_keys next words)
+    option_map_or (λ next. number_keys next words) (entry_at operator_table word)
+    (key_or_fault (word_key operator word) (number_keys operator words))
 
 -- whether the method compares numbers
 abbrev pub compares_numbers : By → Bool

@@ -16,7 +16,7 @@ use Rattle.hx_spell.specs.ActionRelation.{SpellAction, SpellRedirect}
 use Rattle.hx_spell.specs.ConditionRelation.{SpellWhen}
 use Rattle.hx_spell.specs.Conditions.{is_name}
 use Rattle.hx_spell.specs.FormatRelation.{WritesFormat}
-use Rattle.hx_spell.specs.Known.{Known, Reading, after_statement, with_fallback, with_name}
+use Rattle.hx_spell.specs.Known.{Known, Reading, reading, with_name}
 use Rattle.hx_spell.specs.Lines.{When, plain_options}
 
 -- the words that change no rule
@@ -44,44 +44,24 @@ pub record SpellAcl (line : ℕ) (before : Known) (words : List (List ℕ)) (rea
   pub named : IsAclName name
   pub decl : Reading Decl
   pub spelled : SpellDecl line before text others decl
-  pub is : read ≡ record {
-    value = statement.Acl line name decl.value;
-    known = with_name name decl.known;
-  }
+  pub is : read ≡ reading (statement.Acl line name decl.value) (with_name name decl.known)
 
--- words of an action, and then those of a condition or none, spell a rule
-pub record SpellRule (line : ℕ) (before : Known) (words : List (List ℕ)) (read : Reading Rule)
-    (IsActionOf : List (List ℕ) → Reading Action → Type 0) : Type 0 where
+abbrev pub rule_with : ℕ → Action → When → Rule
+rule_with line action when =
+    record { line = line; action = action; unless = when.unless; cond = when.cond }
+
+-- the words of a rule: the first, those of an action, and then those of a condition or none
+pub record SpellRule (line : ℕ) (before : Known) (words : List (List ℕ)) (read : Reading Statement)
+    (keyword : List ℕ) (make : Rule → Statement)
+    (IsActionOf : ℕ → Known → List (List ℕ) → Reading Action → Type 0) : Type 0 where
   pub action_words : List (List ℕ)
   pub others : List (List ℕ)
-  pub words_are : words ≡ action_words ++ others
+  pub words_are : words ≡ keyword ∷ (action_words ++ others)
   pub action : Reading Action
-  pub spelled : IsActionOf action_words action
+  pub spelled : IsActionOf line before action_words action
   pub when : Reading When
   pub with_cond : SpellWhen line action.known others when
-  pub is : read ≡ record {
-    value = record {
-      line = line;
-      action = action.value;
-      unless = when.value.unless;
-      cond = when.value.cond;
-    };
-    known = when.known;
-  }
-
--- the words of a rule of `http-request`
-abbrev pub SpellHttpRequest : ℕ → Known → List (List ℕ) → Reading Statement → Type 0
-SpellHttpRequest line before words read =
-    (others : List (List ℕ)) × (rule : Reading Rule) × (words ≡ codes "http-request" ∷ others)
-    × SpellRule line before others rule (SpellAction line before)
-    × (read ≡ record { value = statement.Rule rule.value; known = rule.known })
-
--- the words of a redirect that is a statement of its own
-abbrev pub SpellRedirectLine : ℕ → Known → List (List ℕ) → Reading Statement → Type 0
-SpellRedirectLine line before words read =
-    (others : List (List ℕ)) × (rule : Reading Rule) × (words ≡ codes "redirect" ∷ others)
-    × SpellRule line before others rule (SpellRedirect line before)
-    × (read ≡ record { value = statement.Redirect rule.value; known = rule.known })
+  pub is : read ≡ reading (make (rule_with line action.value when.value)) when.known
 
 -- the words of `use_backend`
 pub record SpellBackend (line : ℕ) (before : Known) (words : List (List ℕ))
@@ -93,10 +73,8 @@ pub record SpellBackend (line : ℕ) (before : Known) (words : List (List ℕ))
   pub written : WritesFormat line before text format
   pub when : Reading When
   pub with_cond : SpellWhen line format.known others when
-  pub is : read ≡ record {
-    value = statement.Backend line format.value when.value.unless when.value.cond;
-    known = when.known;
-  }
+  pub is : read
+      ≡ reading (statement.Backend line format.value when.value.unless when.value.cond) when.known
 
 -- the words of `default_backend`, which stands once at most
 pub record SpellFallback (line : ℕ) (before : Known) (words : List (List ℕ))
@@ -105,23 +83,21 @@ pub record SpellFallback (line : ℕ) (before : Known) (words : List (List ℕ))
   pub words_are : words ≡ codes "default_backend" ∷ name ∷ []
   pub named : is_name name ≡ true
   pub first : before.fallback ≡ false
-  pub is : read ≡ record {
-    value = statement.Fallback line name;
-    known = with_fallback before;
-  }
+  pub is : read ≡ reading (statement.Fallback line name) (record before { fallback = true })
 
--- the words of a statement
+-- the words of a statement; a redirect is one of its own, or an action of `http-request`
 abbrev pub SpellStatement : ℕ → Known → List (List ℕ) → Reading Statement → Type 0
 SpellStatement line before words read =
-    (SpellPlain before words × (read ≡ record { value = statement.Plain; known = before }))
-    ⊎ SpellAcl line before words read ⊎ SpellHttpRequest line before words read
-    ⊎ SpellRedirectLine line before words read ⊎ SpellBackend line before words read
-    ⊎ SpellFallback line before words read
+    (SpellPlain before words × (read ≡ reading statement.Plain before))
+    ⊎ SpellAcl line before words read
+    ⊎ SpellRule line before words read (codes "http-request") statement.Rule SpellAction
+    ⊎ SpellRule line before words read (codes "redirect") statement.Redirect SpellRedirect
+    ⊎ SpellBackend line before words read ⊎ SpellFallback line before words read
 
 -- The words of the line with this number spell this statement, after what is known before it. A
 -- line without words is no statement.
 abbrev pub SpellLine : ℕ → Known → List (List ℕ) → Reading Statement → Type 0
-SpellLine line before [] read = read ≡ record { value = statement.Plain; known = before }
+SpellLine line before [] read = read ≡ reading statement.Plain before
 SpellLine line before (word ∷ words) read =
     (statement : Reading Statement) × SpellStatement line before (word ∷ words) statement
-    × (read ≡ record { value = statement.value; known = after_statement statement.known })
+    × (read ≡ reading statement.value (record statement.known { begun = true }))

@@ -30,8 +30,8 @@ use Rattle.hx_spell.specs.declared.conv_table.ValueConv.{ValueConv}
 use Rattle.hx_spell.specs.declared.conv_table.ValueConv.TheVariants as conv_values
 use Rattle.hx_spell.specs.Codes.{bad_argument, bad_name}
 use Rattle.hx_spell.specs.Values.{boolean_of, hex_of, ipv4_address_of, ipv6_address_of, variable_name_of, digest_length_of, header_of}
-use Rattle.hx_spell.specs.Arguments.{bare, single, at_most_one, range_arguments, text_arguments, concat_arguments, substitution_arguments, mask_arguments}
-use Rattle.hx_spell.specs.Tables.{Maker, made, with_header, parameter, with_pieces, with_operand}
+use Rattle.hx_spell.specs.Arguments.{Maker, made, bare, single, at_most_one, concat_arguments, substitution_arguments}
+use Rattle.hx_spell.specs.Tables.{with_header, parameter, with_pieces, with_range, with_texts, with_masks, with_operand}
 
 abbrev pub bare_fetch : BareFetch → Fetch
 bare_fetch bares.AlwaysTrue = fetch.AlwaysTrue
@@ -107,18 +107,18 @@ piece_conv pieces.Field = with_pieces conv.Field
 piece_conv pieces.Word = with_pieces conv.Word
 
 abbrev pub text_conv_maker : TextConv → Maker Conv
-text_conv_maker texts.Bytes = made (λ found. conv.Bytes found.0 found.1) range_arguments
+text_conv_maker texts.Bytes = with_range
 text_conv_maker texts.Ltrim = made conv.Ltrim (single Some bad_argument)
 text_conv_maker texts.Rtrim = made conv.Rtrim (single Some bad_argument)
 text_conv_maker texts.Concat = made (λ found. conv.Concat found.0 found.1 found.2) concat_arguments
 text_conv_maker texts.Strcmp = made conv.Strcmp (single variable_name_of bad_name)
 text_conv_maker texts.Regsub =
     made (λ found. conv.Regsub found.0 found.1 found.2.0 found.2.1) substitution_arguments
-text_conv_maker texts.Iif = made (λ found. conv.Iif found.0 found.1) text_arguments
+text_conv_maker texts.Iif = with_texts
 
 abbrev pub value_conv : ValueConv → Maker Conv
 value_conv conv_values.UrlDec = made conv.UrlDec (at_most_one int_of bad_argument)
-value_conv conv_values.Ipmask = made (λ found. conv.Ipmask found.0 found.1) mask_arguments
+value_conv conv_values.Ipmask = with_masks
 value_conv conv_values.Sha2 = made conv.Sha2 (at_most_one digest_length_of bad_argument)
 
 abbrev pub conv_maker : ConvName → Maker Conv

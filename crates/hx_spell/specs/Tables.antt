@@ -1,39 +1,31 @@
 -- The names of fetches and of converters, each with what its arguments make (HAProxy configuration
 -- manual 2.4, sections 7.3.1 to 7.3.6). A table is a list of rows; the first row of a name counts.
-use Rattle.std.specs.Prelude.{ℕ, ℤ, if◌then◌else◌, List, [], ◌∷◌, codes, Option, Some, None, Result, Ok}
-use Rattle.std.specs.Str.{bytes_eq}
+use Rattle.std.specs.Prelude.{ℕ, ℤ, List, [], ◌∷◌, codes, Option, Some}
+pub use Rattle.hx_base.specs.Pairs.{entry_at}
+use Rattle.hx_text.specs.Network.{width_of}
 use Rattle.hx_text.specs.Number.{int_of}
 use Rattle.hx_ast.specs.declared.Val.{Val}
 use Rattle.hx_ast.specs.declared.Fetch.{Fetch}
 use Rattle.hx_ast.specs.declared.Fetch.TheVariants as fetch
 use Rattle.hx_ast.specs.declared.Conv.{Conv}
 use Rattle.hx_ast.specs.declared.Conv.TheVariants as conv
-use Rattle.hx_spell.specs.declared.fault.SpellFault.{SpellFault}
 use Rattle.hx_spell.specs.Codes.{bad_argument, bad_name}
-use Rattle.hx_spell.specs.Values.{boolean_of, hex_of, ipv4_address_of, ipv6_address_of, variable_name_of, operand_written, digest_length_of, header_of}
-use Rattle.hx_spell.specs.Arguments.{◌>>=◌, bare, single, at_most_one, header_arguments, parameter_arguments, piece_arguments, range_arguments, text_arguments, concat_arguments, substitution_arguments, mask_arguments}
-
--- what a name makes of its arguments
-abbrev pub Maker : Type 0 → Type 0
-Maker A = List (List ℕ) → Result A SpellFault
+use Rattle.hx_spell.specs.Values.{boolean_of, hex_of, ipv4_address_of, ipv6_address_of, variable_name_of, operand_written, digest_length_of, header_of, index_of, byte_of, delimiters_of, amount_of, ipv4_mask_of}
+use Rattle.hx_spell.specs.Arguments.{required, optional, made, bare, single, at_most_one, two, three, concat_arguments, substitution_arguments}
+pub use Rattle.hx_spell.specs.Arguments.{Maker}
 
 abbrev pub Table : Type 0 → Type 0
 Table A = List (List ℕ × A)
 
--- what stands in the first row of this name
-abbrev pub entry_at : {A : Type 0} → List (List ℕ × A) → List ℕ → Option A
-entry_at [] name = None
-entry_at (row ∷ rows) name = if bytes_eq row.0 name then Some row.1 else entry_at rows name
-
--- the same arguments make something else of what they write
-abbrev pub made : {A B : Type 0} → (A → B) → Maker A → Maker B
-made make read args = read args >>= (λ x. Ok (make x))
-
+-- NAME[,OCC]: the name of a header, and the number of an occurrence
 abbrev pub with_header : (List ℕ → Option ℤ → Fetch) → Maker Fetch
-with_header make = made (λ found. make found.0 found.1) header_arguments
+with_header make = made (λ found. make found.0 found.1)
+    (two 1 (required header_of bad_name) (optional index_of bad_argument))
 
+-- [NAME[,DELIM]]: the name of a parameter, and one byte
 abbrev pub parameter : Maker Fetch
-parameter = made (λ found. fetch.UrlParam found.0 found.1) parameter_arguments
+parameter = made (λ found. fetch.UrlParam found.0 found.1)
+    (two 0 (optional Some bad_argument) (optional byte_of bad_argument))
 
 unfoldable pub fetch_table : Table (Maker Fetch)
 fetch_table =
@@ -74,8 +66,26 @@ fetch_table =
     ∷ (codes "urlp", parameter)
     ∷ []
 
+-- I,DELIMS[,COUNT]: the number of a piece, delimiters, and how many pieces
 abbrev pub with_pieces : (ℤ → List ℕ → Option ℤ → Conv) → Maker Conv
-with_pieces make = made (λ found. make found.0 found.1 found.2) piece_arguments
+with_pieces make = made (λ found. make found.0 found.1 found.2)
+    (three 2 (required index_of bad_argument) (required delimiters_of bad_argument)
+    (optional amount_of bad_argument))
+
+-- OFF[,LEN]: an offset and a length
+abbrev pub with_range : Maker Conv
+with_range = made (λ found. conv.Bytes found.0 found.1)
+    (two 1 (required amount_of bad_argument) (optional amount_of bad_argument))
+
+-- T,F: two texts
+abbrev pub with_texts : Maker Conv
+with_texts = made (λ found. conv.Iif found.0 found.1)
+    (two 2 (required Some bad_argument) (required Some bad_argument))
+
+-- M4[,M6]: the mask of an IPv4 address, and how many bits of an IPv6 address
+abbrev pub with_masks : Maker Conv
+with_masks = made (λ found. conv.Ipmask found.0 found.1)
+    (two 1 (required ipv4_mask_of bad_argument) (optional (width_of 128) bad_argument))
 
 abbrev pub with_operand : (Val → Conv) → Maker Conv
 with_operand make = made make (single operand_written bad_name)
@@ -87,7 +97,7 @@ conv_table =
     ∷ (codes "length", bare conv.Length)
     ∷ (codes "field", with_pieces conv.Field)
     ∷ (codes "word", with_pieces conv.Word)
-    ∷ (codes "bytes", made (λ found. conv.Bytes found.0 found.1) range_arguments)
+    ∷ (codes "bytes", with_range)
     ∷ (codes "ltrim", made conv.Ltrim (single Some bad_argument))
     ∷ (codes "rtrim", made conv.Rtrim (single Some bad_argument))
     ∷ (codes "cut_crlf", bare conv.CutCrlf)
@@ -98,7 +108,7 @@ conv_table =
       made (λ found. conv.Regsub found.0 found.1 found.2.0 found.2.1) substitution_arguments,
     )
     ∷ (codes "url_dec", made conv.UrlDec (at_most_one int_of bad_argument))
-    ∷ (codes "iif", made (λ found. conv.Iif found.0 found.1) text_arguments)
+    ∷ (codes "iif", with_texts)
     ∷ (codes "bool", bare conv.Bool)
     ∷ (codes "even", bare conv.Even)
     ∷ (codes "odd", bare conv.Odd)
@@ -113,7 +123,7 @@ conv_table =
     ∷ (codes "or", with_operand conv.Or)
     ∷ (codes "xor", with_operand conv.Xor)
     ∷ (codes "cpl", bare conv.Cpl)
-    ∷ (codes "ipmask", made (λ found. conv.Ipmask found.0 found.1) mask_arguments)
+    ∷ (codes "ipmask", with_masks)
     ∷ (codes "base64", bare conv.Base64)
     ∷ (codes "ub64enc", bare conv.Ub64enc)
     ∷ (codes "b64dec", bare conv.B64dec)

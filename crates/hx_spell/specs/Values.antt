@@ -8,7 +8,7 @@ use Rattle.std.specs.List.{list_all, list_any}
 use Rattle.std.specs.Str.{bytes_eq}
 use Rattle.hex.specs.Hex.{decode_of}
 use Rattle.httparse.specs.Grammar.{is_token}
-use Rattle.hx_base.specs.Bytes.{full_stop}
+use Rattle.hx_base.specs.Bytes.{ascii}
 use Rattle.hx_text.specs.declared.Ip.{Ip}
 use Rattle.hx_text.specs.declared.Ip.TheVariants.{V4, V6}
 use Rattle.hx_text.specs.declared.Scope.{Scope}
@@ -41,12 +41,10 @@ nonnegative (negsuc n) = None
 abbrev pub amount_of : List ℕ → Option ℤ
 amount_of text = option_and_then nonnegative (int_of text)
 
-abbrev pub digest_length : ℕ → Option ℕ
-digest_length bits = if is_digest_length bits then Some bits else None
-
 -- the length of a digest of SHA-2 in bits; here no zero leads
 abbrev pub digest_length_of : List ℕ → Option ℕ
-digest_length_of text = option_and_then digest_length (width_of 512 text)
+digest_length_of text =
+    option_and_then (λ bits. if is_digest_length bits then Some bits else None) (width_of 512 text)
 
 -- ---- texts
 
@@ -86,23 +84,19 @@ flags_of text =
 
 -- ---- addresses
 
-abbrev pub only_ipv4 : Ip → Option Ip
-only_ipv4 (V4 a) = Some (V4 a)
-only_ipv4 (V6 a) = None
-
-abbrev pub only_ipv6 : Ip → Option Ip
-only_ipv6 (V4 a) = None
-only_ipv6 (V6 a) = Some (V6 a)
-
-abbrev pub ipv4_address_of : List ℕ → Option Ip
-ipv4_address_of text = option_and_then only_ipv4 (ip_of text)
-
-abbrev pub ipv6_address_of : List ℕ → Option Ip
-ipv6_address_of text = option_and_then only_ipv6 (ip_of text)
-
 abbrev pub ipv4_number : Ip → Option ℕ
 ipv4_number (V4 a) = Some a
 ipv4_number (V6 a) = None
+
+abbrev pub ipv6_number : Ip → Option ℕ
+ipv6_number (V4 a) = None
+ipv6_number (V6 a) = Some a
+
+abbrev pub ipv4_address_of : List ℕ → Option Ip
+ipv4_address_of text = option_map (λ a. V4 a) (option_and_then ipv4_number (ip_of text))
+
+abbrev pub ipv6_address_of : List ℕ → Option Ip
+ipv6_address_of text = option_map (λ a. V6 a) (option_and_then ipv6_number (ip_of text))
 
 -- a mask of 32 bits: how many of the first are set, or a mask in dotted decimal
 abbrev pub ipv4_mask_of : List ℕ → Option ℕ
@@ -127,22 +121,17 @@ variable_with name None = None
 variable_with name (Some scope) =
     if is_variable_text name then Some (record { scope = scope; name = name }) else None
 
-abbrev pub variable_of_parts : List ℕ × List ℕ → Option VarName
-variable_of_parts parts = variable_with parts.1 (scope_of parts.0)
-
 -- a scope, a dot and a name
 unfoldable pub variable_name_of : List ℕ → Option VarName
-variable_name_of text = option_and_then variable_of_parts (cut_of full_stop text)
+variable_name_of text =
+    option_and_then (λ parts. variable_with parts.1 (scope_of parts.0)) (cut_of (ascii ".") text)
 
 -- a variable, or nothing, which is no variable
 abbrev pub variable_or_nothing_of : List ℕ → Option (Option VarName)
 variable_or_nothing_of [] = Some None
 variable_or_nothing_of (b ∷ text) = option_map Some (variable_name_of (b ∷ text))
 
-abbrev pub operand_or_variable : Option ℤ → Option VarName → Option Val
-operand_or_variable (Some n) name = Some (val.Number n)
-operand_or_variable None name = option_map val.Var name
-
 -- a number, or else a variable
 abbrev pub operand_written : List ℕ → Option Val
-operand_written text = operand_or_variable (int_of text) (variable_name_of text)
+operand_written text =
+    option_or (option_map val.Number (int_of text)) (option_map val.Var (variable_name_of text))

@@ -1,8 +1,11 @@
 ghost use Rattle.std.specs.Prelude.{◌≡◌};
 ghost use Rattle.hx_spell.specs.Codes.{AnswersAs};
-ghost use Rattle.hx_spell.specs.Arguments.{bare, piece_arguments, range_arguments, text_arguments};
+ghost use Rattle.std.specs.Prelude.{Some};
+ghost use Rattle.hx_text.specs.Network.{width_of};
+ghost use Rattle.hx_spell.specs.Arguments.{bare, optional, required, two, three};
 ghost use Rattle.hx_spell.specs.Arguments.{concat_arguments, substitution_arguments};
-ghost use Rattle.hx_spell.specs.Arguments.{mask_arguments};
+ghost use Rattle.hx_spell.specs.Codes.{bad_argument};
+ghost use Rattle.hx_spell.specs.Values.{amount_of, delimiters_of, index_of, ipv4_mask_of};
 ghost use Rattle.hx_spell.specs.Tables.{with_operand};
 ghost use Rattle.hx_spell.specs.TableView.{bare_conv, operand_conv, piece_conv, text_conv_maker};
 ghost use Rattle.hx_spell.specs.TableView.{value_conv, conv_maker};
@@ -85,7 +88,8 @@ fn arithmetic(name: OperandConv, operand: Val) -> Conv
 }
 
 fn piece_arguments(alloc: Global, call: &Call) -> Result<(i64, Octets, Option<i64>), SpellFault>
-    ensures { AnswersAs result (piece_arguments call.now.args) }
+    ensures { AnswersAs result (three 2 (required index_of bad_argument)
+        (required delimiters_of bad_argument) (optional amount_of bad_argument) call.now.args) }
 {
     counted(call, 2, 3)?;
     let index = index_at(call, 0)?;
@@ -105,7 +109,8 @@ fn of_pieces(alloc: Global, name: PieceConv, call: &Call) -> Result<Conv, SpellF
 }
 
 fn range_arguments(call: &Call) -> Result<(i64, Option<i64>), SpellFault>
-    ensures { AnswersAs result (range_arguments call.now.args) }
+    ensures { AnswersAs result
+        (two 1 (required amount_of bad_argument) (optional amount_of bad_argument) call.now.args) }
 {
     counted(call, 1, 2)?;
     let offset = count_at(call, 0)?;
@@ -114,7 +119,8 @@ fn range_arguments(call: &Call) -> Result<(i64, Option<i64>), SpellFault>
 }
 
 fn text_arguments(alloc: Global, call: &Call) -> Result<(Octets, Octets), SpellFault>
-    ensures { AnswersAs result (text_arguments call.now.args) }
+    ensures { AnswersAs result
+        (two 2 (required Some bad_argument) (required Some bad_argument) call.now.args) }
 {
     counted(call, 2, 2)?;
     let first = text_at(alloc, call, 0)?;
@@ -155,7 +161,8 @@ fn substitution_arguments(
 }
 
 fn mask_arguments(call: &Call) -> Result<(u32, Option<u32>), SpellFault>
-    ensures { AnswersAs result (mask_arguments call.now.args) }
+    ensures { AnswersAs result (two 1 (required ipv4_mask_of bad_argument)
+        (optional (width_of 128) bad_argument) call.now.args) }
 {
     counted(call, 1, 2)?;
     let mask = mask_at(call, 0)?;

@@ -1,9 +1,10 @@
-ghost use Rattle.std.specs.Prelude.{◌≡◌, IfOk};
+ghost use Rattle.std.specs.Prelude.{◌≡◌, IfOk, Ok, Err, [], false, if◌then◌else◌};
 ghost use Rattle.hx_ast.specs.Acls.{compares_texts};
 ghost use Rattle.hx_spell.specs.Declarations.{way_of_kind, way_of, ignores_case, file_heads};
 ghost use Rattle.hx_spell.specs.Declarations.{words_head, heads_of_keys, has_no_patterns};
-ghost use Rattle.hx_spell.specs.Declarations.{bare_decl, pattern_decl, decl_by, decl_of};
-ghost use Rattle.hx_spell.specs.Known.{Known, ReadsAs, Extends};
+ghost use Rattle.hx_spell.specs.Declarations.{decl_reading, pattern_decl, decl_by, decl_of};
+ghost use Rattle.hx_spell.specs.Codes.{bad_argument};
+ghost use Rattle.hx_spell.specs.Known.{Known, ReadsAs, Extends, reading};
 
 use crate::criteria::criterion_of;
 use crate::fault::{BAD_ARGUMENT, SpellFault};
@@ -174,7 +175,8 @@ fn has_no_patterns(after: &AfterFlags<'_>) -> bool
 
 /// An ACL by `found` or `bool`.
 fn bare_decl(alloc: Global, expr: Expr, way: Way, after: AfterFlags<'_>) -> Result<Decl, SpellFault>
-    ensures { (known : Known) → ReadsAs result known (bare_decl expr way after.entry known) }
+    ensures { (known : Known) → ReadsAs result known (if has_no_patterns after.entry
+        then Ok (decl_reading expr way false [] (reading [] known)) else Err bad_argument) }
 {
     if !has_no_patterns(&after) {
         return Err(SpellFault::Code(BAD_ARGUMENT));

@@ -1,6 +1,9 @@
 ghost use Rattle.std.specs.Prelude.{◌≡◌};
 ghost use Rattle.hx_spell.specs.Codes.{AnswersAs};
-ghost use Rattle.hx_spell.specs.Arguments.{bare, header_arguments, parameter_arguments};
+ghost use Rattle.std.specs.Prelude.{Some};
+ghost use Rattle.hx_spell.specs.Arguments.{bare, optional, required, two};
+ghost use Rattle.hx_spell.specs.Codes.{bad_argument, bad_name};
+ghost use Rattle.hx_spell.specs.Values.{byte_of, header_of, index_of};
 ghost use Rattle.hx_spell.specs.TableView.{bare_fetch, value_fetch, header_fetch, named_fetch};
 ghost use Rattle.hx_spell.specs.TableView.{fetch_maker};
 
@@ -69,7 +72,8 @@ fn value(alloc: Global, name: ValueFetch, call: &Call) -> Result<Fetch, SpellFau
 }
 
 fn header_arguments(alloc: Global, call: &Call) -> Result<(Octets, Option<i64>), SpellFault>
-    ensures { AnswersAs result (header_arguments call.now.args) }
+    ensures { AnswersAs result
+        (two 1 (required header_of bad_name) (optional index_of bad_argument) call.now.args) }
 {
     counted(call, 1, 2)?;
     let name = header_at(alloc, call, 0)?;
@@ -93,7 +97,8 @@ fn parameter_arguments(
     alloc: Global,
     call: &Call,
 ) -> Result<(Option<Octets>, Option<u8>), SpellFault>
-    ensures { AnswersAs result (parameter_arguments call.now.args) }
+    ensures { AnswersAs result
+        (two 0 (optional Some bad_argument) (optional byte_of bad_argument) call.now.args) }
 {
     counted(call, 0, 2)?;
     let name = given_text(alloc, call, 0)?;

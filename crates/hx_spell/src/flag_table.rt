@@ -14,8 +14,6 @@ pub(crate) const FLAGS: [(&[u8], Flag); 7] = [
 
 /// The match methods as `-m` names them (HAProxy configuration manual 2.4, section 7.1.3).
 pub(crate) const METHODS: [(&[u8], By); 13] = [
-    (b"found", By::Found),
-    (b"bool", By::Bool),
     (b"int", By::Int),
     (b"ip", By::Ip),
     (b"bin", By::Bin),
@@ -27,6 +25,8 @@ pub(crate) const METHODS: [(&[u8], By); 13] = [
     (b"dir", By::Dir),
     (b"dom", By::Dom),
     (b"reg", By::Reg),
+    (b"found", By::Found),
+    (b"bool", By::Bool),
 ];
 
 /// A flag of an ACL.

@@ -1,20 +1,20 @@
-ghost use Rattle.std.specs.Prelude.{◌≡◌, ◌==◌, map, IfOk, OnOk, OnErr};
+ghost use Rattle.std.specs.Prelude.{◌≡◌, ◌==◌, map, [], Some, None, false, IfOk, OnOk, OnErr};
 ghost use Rattle.std.specs.List.{list_any, position};
 ghost use Rattle.std.specs.Str.{bytes_eq};
-ghost use Rattle.hx_spell.specs.Conditions.{is_known_acl, predefined_names};
-ghost use Rattle.hx_spell.specs.Declarations.{words_form};
+ghost use Rattle.hx_ast.specs.Predefined.{predefined_names};
+ghost use Rattle.hx_spell.specs.Conditions.{is_known_acl};
 ghost use Rattle.hx_spell.specs.Known.{nothing_known, is_of_file, is_head, is_output};
-ghost use Rattle.hx_spell.specs.Known.{method_number, output_number};
+ghost use Rattle.hx_spell.specs.Known.{output_number};
 ghost use Rattle.hx_spell.specs.Known.{with_file, with_reference, with_head};
 ghost use Rattle.hx_spell.specs.Known.{with_output, with_acl, with_name, after_statement};
 ghost use Rattle.hx_spell.specs.Known.{with_fallback, with_named, with_named_file};
 ghost use Rattle.hx_spell.specs.KnownView.{form_of, tables_of};
-ghost use Rattle.hx_spell.specs.Known.{lengths_of, has_columns, file_form, ReadsAs, Extends, Known};
+ghost use Rattle.hx_spell.specs.Known.{lengths_of, has_columns, reference_form, ReadsAs, Extends, Known};
 
 use crate::fault::{FILE_KIND, SpellFault, TOO_MANY_REFERENCES};
 use crate::table_specs::{HeadSpec, MapOutput, TableSpec, TableSpecs};
 use hx_ast::{Items, Texts};
-use hx_text::{By, NoMemory, Octets, Out};
+use hx_text::{NoMemory, Octets, Out};
 use std::alloc::Global;
 use std::marker::Model;
 
@@ -142,27 +142,6 @@ fn number(place: usize) -> Result<u32, NoMemory>
     }
 }
 
-/// A number for each match method, by which two are compared.
-fn method_number(by: By) -> u8
-    ensures { result ≡ method_number by }
-{
-    match by {
-        By::Found => 0,
-        By::Bool => 1,
-        By::Int => 2,
-        By::Ip => 3,
-        By::Bin => 4,
-        By::Len => 5,
-        By::Str => 6,
-        By::Beg => 7,
-        By::End => 8,
-        By::Sub => 9,
-        By::Dir => 10,
-        By::Dom => 11,
-        By::Reg => 12,
-    }
-}
-
 /// A number for each type of values.
 pub(crate) fn output_number(out: Out) -> u8
     ensures { result ≡ output_number out }
@@ -177,9 +156,7 @@ pub(crate) fn output_number(out: Out) -> u8
 fn is_head(head: &HeadSpec, other: &HeadSpec) -> bool
     ensures { result ≡ is_head head.now other.now }
 {
-    other.table == head.table
-        && method_number(other.by) == method_number(head.by)
-        && other.ci == head.ci
+    other.table == head.table && other.by.number() == head.by.number() && other.ci == head.ci
 }
 
 fn is_output(output: &MapOutput, other: &MapOutput) -> bool
@@ -208,7 +185,7 @@ fn is_constant(mut names: &[&[u8]], name: &[u8]) -> bool
     false
 }
 
-#[tactic(auto, unfolding(crate::specs::Conditions::predefined_names))]
+#[tactic(auto, unfolding(hx_ast::specs::Predefined::predefined_acls))]
 fn is_predefined(name: &[u8]) -> bool
     ensures { result ≡ list_any (bytes_eq name.now) predefined_names }
 {
@@ -330,7 +307,7 @@ impl Knowledge {
     /// The position of a new reference of a file. Code 23 where it is one too many.
     fn new_file(&mut self, line: u64, name: &[u8], two: bool) -> Result<u32, SpellFault>
         ensures answers { ReadsAs result self.new
-            (with_reference (file_form line name.now two) self.old) }
+            (with_reference (reference_form (Some name.now) None two line []) self.old) }
         ensures extends { Extends self.old self.new }
     {
         let file = Some(Octets::copy(self.alloc, name)?);
@@ -347,7 +324,7 @@ impl Knowledge {
         keys: Texts,
     ) -> Result<u32, SpellFault>
         ensures answers { ReadsAs result self.new
-            (with_reference (words_form line given keys) self.old) }
+            (with_reference (reference_form None given false line keys) self.old) }
         ensures extends { Extends self.old self.new }
     {
         self.reference(spec(None, given, false, line, keys))

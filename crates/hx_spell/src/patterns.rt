@@ -1,9 +1,9 @@
-ghost use Rattle.std.specs.Prelude.{◌≡◌, IfOk, Some, None};
+ghost use Rattle.std.specs.Prelude.{◌≡◌, ◌+ℤ◌, ◌-ℤ◌, pos, IfOk, Some, None};
 ghost use Rattle.hx_spell.specs.declared.patterns.Operator.TheVariants.{Equal};
 ghost use Rattle.std.specs.Fmt.{signed_decimal};
 ghost use Rattle.hx_text.specs.Number.{int_of};
-ghost use Rattle.hx_spell.specs.Patterns.{operator_table, from_text, up_to_text, after_number};
-ghost use Rattle.hx_spell.specs.Patterns.{before_number, operator_key, allows_range};
+ghost use Rattle.hx_spell.specs.Patterns.{operator_table, from_text, up_to_text};
+ghost use Rattle.hx_spell.specs.Patterns.{operator_key, allows_range};
 ghost use Rattle.hx_spell.specs.Patterns.{word_key, number_keys, compares_numbers, keys_of};
 ghost use Rattle.hx_spell.specs.Tables.{entry_at};
 
@@ -68,7 +68,7 @@ fn number_text(alloc: Global, n: i64) -> Result<Octets, NoMemory>
 
 #[tactic(auto, using(crate::proofs::NumberTextLemmas::after_greatest))]
 fn text_after(alloc: Global, n: i64) -> Result<Octets, NoMemory>
-    ensures { IfOk result (λ text. text ≡ signed_decimal (after_number n)) }
+    ensures { IfOk result (λ text. text ≡ signed_decimal (n +ℤ pos 1)) }
 {
     if n == i64::MAX {
         Octets::copy(alloc, AFTER_GREATEST)
@@ -79,7 +79,7 @@ fn text_after(alloc: Global, n: i64) -> Result<Octets, NoMemory>
 
 #[tactic(auto, using(crate::proofs::NumberTextLemmas::before_least))]
 fn text_before(alloc: Global, n: i64) -> Result<Octets, NoMemory>
-    ensures { IfOk result (λ text. text ≡ signed_decimal (before_number n)) }
+    ensures { IfOk result (λ text. text ≡ signed_decimal (n -ℤ pos 1)) }
 {
     if n == i64::MIN {
         Octets::copy(alloc, BEFORE_LEAST)
