@@ -10,9 +10,13 @@ use Rattle.hx_sample.specs.Find.{Entry}
 use Rattle.hx_sample.specs.Tables.{TableHead}
 use Rattle.hx_sample.specs.declared.sample.Value.{Value}
 use Rattle.hx_text.specs.declared.kinds.By.{By}
-use Rattle.hx_acl.specs.Holds.{declared_matches, is_declared, is_of, name_holds}
+use Rattle.hx_acl.specs.Holds.{declared_matches, is_declared, name_holds}
 use Rattle.hx_acl.specs.Matching.{occurrence_matches, test_matches}
 use Rattle.hx_acl.specs.Tests.{AclTest}
+
+-- a test of the ACL of this name
+abbrev is_of : List ℕ → List ℕ × AclTest → Bool
+is_of name declared = bytes_eq declared.0 name
 
 -- a name that is declared doesn't hold where none of its tests is left to match
 pub none_matched : (context : Context) (heads : List TableHead) (lists : List (List Entry)) (acls : List (List ℕ × AclTest)) (name : List ℕ) (i : ℕ) → length acls ≤ i → is_declared acls name ≡ true → declared_matches context heads lists (drop i acls) name ≡ declared_matches context heads lists acls name → false ≡ name_holds context heads lists acls name

@@ -2,6 +2,7 @@
 use Rattle.std.proofs.Common.{◌≡◌, ◌||◌, Bool, true, false, ℕ, List, [], ◌∷◌, Option, None, Some, refl, ap, sym, ◌∙◌, is_some, map}
 use Rattle.std.specs.Prelude.{◌↔◌, slice_get, option_and_then}
 use Rattle.std.specs.List.{list_any}
+use Rattle.std.specs.Option.{option_map_or}
 use Rattle.hx_ast.specs.declared.fetch.Fetch.{Fetch}
 use Rattle.hx_fetch.specs.Fetches.{occurrences_of}
 use Rattle.hx_fetch.specs.World.{Context}
@@ -13,8 +14,12 @@ use Rattle.hx_sample.specs.declared.sample.Value.{Value}
 use Rattle.hx_sample.specs.declared.sample.Value.TheVariants as value
 use Rattle.hx_text.specs.declared.kinds.By.{By}
 use Rattle.hx_text.specs.declared.kinds.By.TheVariants as method
-use Rattle.hx_acl.specs.Matching.{accepts, accepts_cast, finds_entry, occurrence_matches, test_matches}
-use Rattle.hx_acl.specs.Predefined.{keyed_matches, some_hits}
+use Rattle.hx_acl.specs.Matching.{accepts, finds_entry, occurrence_matches, test_matches}
+use Rattle.hx_acl.specs.Predefined.{keyed_matches}
+
+-- whether some of the keys hits the value
+abbrev some_hits : By → Bool → List (List ℕ) → Value → Bool
+some_hits by ci keys v = list_any (λ key. hits by ci key v) keys
 
 -- ---- what a method accepts depends on what is hit alone
 
@@ -38,7 +43,7 @@ accepts_same method.Dir f g v same = same
 accepts_same method.Dom f g v same = same
 accepts_same method.Reg f g v same = same
 
-cast_same : (by : By) (f g : Value → Bool) → ((v : Value) → f v ≡ g v) → (o : Option Value) → accepts_cast by f o ≡ accepts_cast by g o
+cast_same : (by : By) (f g : Value → Bool) → ((v : Value) → f v ≡ g v) → (o : Option Value) → option_map_or (accepts by f) o false ≡ option_map_or (accepts by g) o false
 cast_same by f g same None = refl
 cast_same by f g same (Some v) = accepts_same by f g v (same v)
 

@@ -4,7 +4,8 @@ use Rattle.std.specs.Prelude.{option_map}
 use Rattle.std.specs.List.{list_any}
 use Rattle.std.specs.Str.{bytes_eq}
 use Rattle.hx_acl.specs.declared.predefined.TheConstants.{PREDEFINED}
-use Rattle.hx_acl.specs.Predefined.{predefined_acls, predefined_of, row_of}
+use Rattle.hx_ast.specs.Predefined.{predefined_acls}
+use Rattle.hx_base.specs.Pairs.{entry_at}
 use Rattle.hx_acl.specs.PredefinedView.{keyed_acl}
 
 abbrev rows_with : {A B : Type 0} → (A → B) → List (List ℕ × A) → List (List ℕ × B)
@@ -16,18 +17,18 @@ cond_map : {A B : Type 0} (f : A → B) (b : Bool) (x : A) (o : Option A) (p : O
 cond_map f true x o p same = refl
 cond_map f false x o p same = same
 
-row_of_map : {A B : Type 0} (f : A → B) (rows : List (List ℕ × A)) (name : List ℕ)
-    → row_of (rows_with f rows) name ≡ option_map f (row_of rows name)
-row_of_map f [] name = refl
-row_of_map f (row ∷ rows) name =
-    cond_map f (bytes_eq row.0 name) row.1 (row_of rows name) (row_of (rows_with f rows) name)
-    (row_of_map f rows name)
+entry_at_map : {A B : Type 0} (f : A → B) (rows : List (List ℕ × A)) (name : List ℕ)
+    → entry_at (rows_with f rows) name ≡ option_map f (entry_at rows name)
+entry_at_map f [] name = refl
+entry_at_map f (row ∷ rows) name =
+    cond_map f (bytes_eq row.0 name) row.1 (entry_at rows name) (entry_at (rows_with f rows) name)
+    (entry_at_map f rows name)
 
 pub predefined_row : (name : List ℕ)
-    → predefined_of name
-    ≡ option_map keyed_acl (row_of (map (λ row. (row.0.now, row.1)) PREDEFINED) name)
+    → entry_at predefined_acls name
+    ≡ option_map keyed_acl (entry_at (map (λ row. (row.0.now, row.1)) PREDEFINED) name)
 unfolding predefined_acls
-predefined_row name = row_of_map keyed_acl (map (λ row. (row.0.now, row.1)) PREDEFINED) name
+predefined_row name = entry_at_map keyed_acl (map (λ row. (row.0.now, row.1)) PREDEFINED) name
 
 known_or : {A : Type 0} (b : Bool) (x : A) (o : Option A) (known : Bool) → is_some o ≡ known
     → is_some (cond b (Some x) o) ≡ (b || known)
@@ -36,9 +37,9 @@ known_or false x o known same = same
 
 -- a name has a row exactly where it is one of the names of the rows
 pub named_row : {A : Type 0} (rows : List (List ℕ × A)) (name : List ℕ)
-    → is_some (row_of rows name)
+    → is_some (entry_at rows name)
     ≡ list_any (λ known. bytes_eq known name) (map (λ row. row.0) rows)
 named_row [] name = refl
 named_row (row ∷ rows) name =
-    known_or (bytes_eq row.0 name) row.1 (row_of rows name)
+    known_or (bytes_eq row.0 name) row.1 (entry_at rows name)
     (list_any (λ known. bytes_eq known name) (map (λ r. r.0) rows)) (named_row rows name)

@@ -1,7 +1,8 @@
 -- The texts that ACLs and conditions read as regular expressions: those of the `regsub` converters
 -- of their expressions (HAProxy configuration manual 2.4, section 7.3.1).
-use Rattle.std.specs.Prelude.{Bool, true, List, []}
+use Rattle.std.specs.Prelude.{Bool, List, []}
 use Rattle.std.specs.List.{flat_map, list_all}
+use Rattle.hx_ast.specs.Acls.{cond_passes}
 use Rattle.hx_ast.specs.declared.expr.Expr.{Expr}
 use Rattle.hx_ast.specs.declared.statement.AclUse.{AclUse}
 use Rattle.hx_ast.specs.declared.statement.AclUse.TheVariants.{Named, Own}
@@ -13,16 +14,9 @@ use Rattle.hx_outside.specs.Makers.{ExpressionText}
 abbrev pub has_expressions : Expr → Bool
 has_expressions expr = list_all has_expression expr.convs
 
-abbrev pub use_has_expressions : AclUse → Bool
-use_has_expressions (Named name) = true
-use_has_expressions (Own decl) = has_expressions decl.expr
-
-abbrev pub conj_has_expressions : List Term → Bool
-conj_has_expressions conj = list_all (λ term. use_has_expressions term.acl) conj
-
 -- the same of all expressions that stand in a condition itself
 abbrev pub cond_has_expressions : List (List Term) → Bool
-cond_has_expressions cond = list_all conj_has_expressions cond
+cond_has_expressions cond = cond_passes (λ decl. has_expressions decl.expr) cond
 
 -- the texts that the expression of an ACL reads as regular expressions, where the ACL stands in the
 -- condition itself

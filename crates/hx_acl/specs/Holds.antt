@@ -38,49 +38,45 @@ HasCondHeads heads cond = All (All (λ term. HasAclHeads heads term.acl)) cond
 
 -- ---- names
 
--- a test of the ACL of this name
-abbrev pub is_of : List ℕ → List ℕ × AclTest → Bool
-is_of name declared = bytes_eq declared.0 name
+-- the ACLs that are declared, each with its name; an ACL may have several tests
+abbrev pub Acls : Type 0
+Acls = List (List ℕ × AclTest)
 
 -- whether the ACL of this name is declared
-abbrev pub is_declared : List (List ℕ × AclTest) → List ℕ → Bool
-is_declared acls name = list_any (is_of name) acls
+abbrev pub is_declared : Acls → List ℕ → Bool
+is_declared acls name = list_any (λ declared. bytes_eq declared.0 name) acls
 
 -- whether one of the tests of the ACL of this name matches
-abbrev pub declared_matches :
-    Context → List TableHead → List (List Entry) → List (List ℕ × AclTest) → List ℕ → Bool
+abbrev pub declared_matches : Context → List TableHead → List (List Entry) → Acls → List ℕ → Bool
 declared_matches context heads lists acls name =
-    list_any (λ declared. is_of name declared && test_matches context heads lists declared.1) acls
+    list_any
+    (λ declared. bytes_eq declared.0 name && test_matches context heads lists declared.1) acls
 
 -- Whether the ACL of this name holds: one of its tests matches. A name that isn't declared is that
 -- of a predefined ACL.
-abbrev pub name_holds :
-    Context → List TableHead → List (List Entry) → List (List ℕ × AclTest) → List ℕ → Bool
+abbrev pub name_holds : Context → List TableHead → List (List Entry) → Acls → List ℕ → Bool
 name_holds context heads lists acls name =
     if is_declared acls name then declared_matches context heads lists acls name
     else predefined_matches context name
 
 -- the heads of all tests are among these
-abbrev pub HasAclsHeads : List TableHead → List (List ℕ × AclTest) → Type 0
+abbrev pub HasAclsHeads : List TableHead → Acls → Type 0
 HasAclsHeads heads acls = All (λ declared. HasTestHeads heads declared.1) acls
 
 -- ---- what holds
 
-abbrev pub acl_holds :
-    Context → List TableHead → List (List Entry) → List (List ℕ × AclTest) → TermAcl → Bool
+abbrev pub acl_holds : Context → List TableHead → List (List Entry) → Acls → TermAcl → Bool
 acl_holds context heads lists acls (Named name) = name_holds context heads lists acls name
 acl_holds context heads lists acls (Own test) = test_matches context heads lists test
 
 -- a term holds where its ACL does, and one that is negated where its ACL doesn't
-abbrev pub term_holds :
-    Context → List TableHead → List (List Entry) → List (List ℕ × AclTest) → TestTerm → Bool
+abbrev pub term_holds : Context → List TableHead → List (List Entry) → Acls → TestTerm → Bool
 term_holds context heads lists acls term =
     if term.negated then not (acl_holds context heads lists acls term.acl)
     else acl_holds context heads lists acls term.acl
 
 -- a condition holds where all terms of one of its conjunctions hold
-abbrev pub cond_holds :
-    Context → List TableHead → List (List Entry) → List (List ℕ × AclTest) → List (List TestTerm)
-    → Bool
+abbrev pub cond_holds
+    : Context → List TableHead → List (List Entry) → Acls → List (List TestTerm) → Bool
 cond_holds context heads lists acls cond =
     list_any (list_all (term_holds context heads lists acls)) cond

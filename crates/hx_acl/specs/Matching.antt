@@ -1,7 +1,8 @@
 -- When a test matches: some sample that its expression gives is one that its method accepts
 -- (HAProxy configuration manual 2.4, section 7.1).
-use Rattle.std.specs.Prelude.{ℕ, Bool, true, false, List, Option, None, Some, is_some, option_and_then}
+use Rattle.std.specs.Prelude.{ℕ, Bool, true, false, List, Option, is_some, option_and_then}
 use Rattle.std.specs.List.{list_any}
+use Rattle.std.specs.Option.{option_map_or}
 use Rattle.hx_expr.specs.Values.{expr_values}
 use Rattle.hx_fetch.specs.World.{Context}
 use Rattle.hx_sample.specs.Cast.{cast_of}
@@ -22,15 +23,12 @@ accepts method.Bool is_hit (value.Bool b) = b
 accepts method.Bool is_hit v = false
 accepts by is_hit v = is_hit v
 
-abbrev pub accepts_cast : By → (Value → Bool) → Option Value → Bool
-accepts_cast by is_hit None = false
-accepts_cast by is_hit (Some v) = accepts by is_hit v
-
 -- Whether an occurrence matches: it is there, has a cast to the type that the method looks at, and
 -- is accepted. A sample that is missing matches nothing.
 abbrev pub occurrence_matches : By → (Value → Bool) → Option Value → Bool
 occurrence_matches by is_hit occurrence =
-    accepts_cast by is_hit (option_and_then (λ v. cast_of v (kind_by by)) occurrence)
+    option_map_or (accepts by is_hit)
+    (option_and_then (λ v. cast_of v (kind_by by)) occurrence) false
 
 -- whether an entry is found for the value under some of the heads
 abbrev pub finds_entry : List TableHead → List (List Entry) → List ℕ → Value → Bool

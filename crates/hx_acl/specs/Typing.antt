@@ -1,11 +1,9 @@
 -- Which ACLs and conditions have types that fit, as far as that is known when they are made
 -- (HAProxy configuration manual 2.4, section 7.1).
-use Rattle.std.specs.Prelude.{◌&&◌, Bool, true, List}
-use Rattle.std.specs.List.{list_all}
-use Rattle.hx_ast.specs.declared.statement.AclUse.{AclUse}
-use Rattle.hx_ast.specs.declared.statement.AclUse.TheVariants.{Named, Own}
+use Rattle.std.specs.Prelude.{◌&&◌, Bool, List}
 use Rattle.hx_ast.specs.declared.statement.Decl.{Decl}
 use Rattle.hx_ast.specs.declared.statement.Term.{Term}
+use Rattle.hx_ast.specs.Acls.{cond_passes}
 use Rattle.hx_ast.specs.Types.{expr_kind}
 use Rattle.hx_expr.specs.Types.{can_cast, is_typed}
 use Rattle.hx_sample.specs.Keys.{kind_by}
@@ -15,13 +13,6 @@ use Rattle.hx_sample.specs.Keys.{kind_by}
 abbrev pub is_decl_typed : Decl → Bool
 is_decl_typed decl = is_typed decl.expr && can_cast (expr_kind decl.expr) (kind_by decl.by)
 
--- the types of an ACL that has a name are judged where it is declared
-abbrev pub is_use_typed : AclUse → Bool
-is_use_typed (Named name) = true
-is_use_typed (Own decl) = is_decl_typed decl
-
-abbrev pub is_conj_typed : List Term → Bool
-is_conj_typed conj = list_all (λ term. is_use_typed term.acl) conj
-
+-- the same of the ACLs that stand in a condition itself
 abbrev pub is_cond_typed : List (List Term) → Bool
-is_cond_typed cond = list_all is_conj_typed cond
+is_cond_typed cond = cond_passes is_decl_typed cond

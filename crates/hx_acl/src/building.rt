@@ -1,7 +1,9 @@
 ghost use Rattle.std.specs.Prelude.{◌≡◌, IfOk, OnOk, IsErrOf, true, false, map};
-ghost use Rattle.hx_acl.specs.Expressions.{cond_has_expressions, cond_texts, conj_has_expressions, conj_texts, use_has_expressions, use_texts};
+ghost use Rattle.std.specs.List.{list_all};
+ghost use Rattle.hx_ast.specs.Acls.{use_passes};
+ghost use Rattle.hx_acl.specs.Expressions.{cond_has_expressions, cond_texts, conj_texts, has_expressions, use_texts};
 ghost use Rattle.hx_acl.specs.Holds.{acl_of_use, term_of, terms_of};
-ghost use Rattle.hx_acl.specs.Typing.{is_cond_typed, is_conj_typed, is_use_typed};
+ghost use Rattle.hx_acl.specs.Typing.{is_cond_typed, is_decl_typed};
 ghost use Rattle.hx_expr.specs.Faults.{CompileCountsLarge, CompileNamesLarge};
 
 use crate::term::{TermAcl, TestTerm};
@@ -14,11 +16,11 @@ use std::alloc::Global;
 
 /// The ACL of a term, built.
 fn build_acl<M: ReMaker>(alloc: Global, acl: &AclUse, maker: &mut M) -> Result<TermAcl, PlanFault>
-    requires { is_use_typed acl.now ≡ true }
+    requires { use_passes is_decl_typed acl.now ≡ true }
     ensures built { IfOk result (λ built. built ≡ acl_of_use acl.now) }
-    ensures expressions { OnOk result (use_has_expressions acl.now ≡ true) }
+    ensures expressions { OnOk result (use_passes (λ decl. has_expressions decl.expr) acl.now ≡ true) }
     ensures typed { ¬ (IsErrOf result PlanFault.BadType) }
-    ensures bad { IsErrOf result PlanFault.BadPattern → use_has_expressions acl.now ≡ false }
+    ensures bad { IsErrOf result PlanFault.BadPattern → use_passes (λ decl. has_expressions decl.expr) acl.now ≡ false }
     ensures counted { CompileCountsLarge result (M.too_large maker.old) (M.too_large maker.new) }
     ensures large { CompileNamesLarge result (use_texts acl.now) (M.large maker.old)
         (M.large maker.new) }
@@ -35,11 +37,13 @@ fn build_conj<M: ReMaker>(
     conj: &[Term],
     maker: &mut M,
 ) -> Result<Items<TestTerm>, PlanFault>
-    requires { is_conj_typed conj.now ≡ true }
+    requires { list_all (λ term. use_passes is_decl_typed term.acl) conj.now ≡ true }
     ensures built { IfOk result (λ built. built ≡ map term_of conj.now) }
-    ensures expressions { OnOk result (conj_has_expressions conj.now ≡ true) }
+    ensures expressions { OnOk result
+        (list_all (λ term. use_passes (λ decl. has_expressions decl.expr) term.acl) conj.now ≡ true) }
     ensures typed { ¬ (IsErrOf result PlanFault.BadType) }
-    ensures bad { IsErrOf result PlanFault.BadPattern → conj_has_expressions conj.now ≡ false }
+    ensures bad { IsErrOf result PlanFault.BadPattern →
+        list_all (λ term. use_passes (λ decl. has_expressions decl.expr) term.acl) conj.now ≡ false }
     ensures counted { CompileCountsLarge result (M.too_large maker.old) (M.too_large maker.new) }
     ensures large { CompileNamesLarge result (conj_texts conj.now) (M.large maker.old)
         (M.large maker.new) }

@@ -1,7 +1,7 @@
 ghost use Rattle.std.specs.Prelude.{◌≡◌, Bool, false, IfOk};
 ghost use Rattle.std.specs.List.{All};
 ghost use Rattle.std.specs.Option.{option_map_or};
-ghost use Rattle.hx_acl.specs.Matching.{accepts_cast, finds_entry, occurrence_matches, test_matches};
+ghost use Rattle.hx_acl.specs.Matching.{accepts, finds_entry, occurrence_matches, test_matches};
 ghost use Rattle.hx_acl.specs.Tests.{HasTestHeads, TakesHead};
 ghost use Rattle.hx_expr.specs.Values.{IsHeadBy};
 ghost use Rattle.hx_fetch.specs.World.{context_of};
@@ -11,7 +11,7 @@ ghost use Rattle.hx_sample.specs.Seen.{occurrence_value, value_of};
 ghost use Rattle.hx_sample.specs.declared.sample.Value.{Value};
 
 use crate::test::Test;
-use hx_expr::{eval_all, kind_by};
+use hx_expr::eval_all;
 use hx_fetch::World;
 use hx_pool::Steps;
 use hx_sample::{Sample, Tables, cast};
@@ -42,7 +42,7 @@ fn finds_entry<T: Tables, L: Ledger>(
 /// Whether the sample is true, as a boolean.
 fn is_true(alloc: Global, sample: Sample<'_>) -> Result<bool, NoMemory>
     ensures { (is_hit : Value → Bool) → IfOk result (λ holds. holds
-        ≡ accepts_cast By.Bool is_hit (cast_of (value_of sample.entry) Kind.Bool)) }
+        ≡ option_map_or (accepts By.Bool is_hit) (cast_of (value_of sample.entry) Kind.Bool) false) }
 {
     match cast(alloc, sample, Kind::Bool)? {
         Some(Sample::Bool(b)) => Ok(b),
@@ -65,7 +65,7 @@ impl Test {
             ≡ option_map_or (finds_entry (T.heads tables.now) (T.lists tables.now) self.now.heads)
             (cast_of (value_of sample.entry) (kind_by self.now.by)) false) }
     {
-        match cast(alloc, sample, kind_by(self.by))? {
+        match cast(alloc, sample, self.by.kind())? {
             Some(input) => finds_entry(alloc, self.heads.as_slice(), &input, tables, steps),
             None => Ok(false),
         }

@@ -1,7 +1,9 @@
 ghost use Rattle.std.specs.Prelude.{◌≡◌, [], ◌∷◌, codes, is_some, map, option_map};
 ghost use Rattle.std.specs.List.{list_any};
 ghost use Rattle.std.specs.Str.{bytes_eq};
-ghost use Rattle.hx_acl.specs.Predefined.{keyed_matches, predefined_matches, predefined_names, predefined_of, row_of, is_method};
+ghost use Rattle.hx_acl.specs.Predefined.{keyed_matches, predefined_matches};
+ghost use Rattle.hx_ast.specs.Predefined.{is_method, predefined_acls, predefined_names};
+ghost use Rattle.hx_base.specs.Pairs.{entry_at};
 ghost use Rattle.hx_acl.specs.PredefinedView.{keyed_acl, method_acl};
 ghost use Rattle.hx_fetch.specs.World.{context_of};
 ghost use Rattle.hx_sample.specs.Keys.{as_ipv4, is_in_network};
@@ -55,8 +57,8 @@ enum MethodAcl {
 }
 
 /// What stands in the first row of a table that has this name.
-fn row_of<T: Copy>(mut table: &[(&[u8], T)], name: &[u8]) -> Option<T>
-    ensures { result ≡ row_of (map (λ row. (row.0.now, row.1)) table.entry.now) name.now }
+fn entry_at<T: Copy>(mut table: &[(&[u8], T)], name: &[u8]) -> Option<T>
+    ensures { result ≡ entry_at (map (λ row. (row.0.now, row.1)) table.entry.now) name.now }
 {
     while let [row, rest @ ..] = table {
         if row.0 == name {
@@ -69,15 +71,15 @@ fn row_of<T: Copy>(mut table: &[(&[u8], T)], name: &[u8]) -> Option<T>
 
 /// The predefined ACL of a name.
 fn predefined_named(name: &[u8]) -> Option<Predefined>
-    ensures { predefined_of name.now ≡ option_map keyed_acl result }
+    ensures { entry_at predefined_acls name.now ≡ option_map keyed_acl result }
 {
-    row_of(&PREDEFINED, name)
+    entry_at(&PREDEFINED, name)
 }
 
 /// Whether an ACL of this name is known without being declared (HAProxy configuration manual 2.4,
 /// section 7.4).
 pub fn is_predefined(name: &[u8]) -> bool
-    ensures known { result ≡ is_some (predefined_of name.now) }
+    ensures known { result ≡ is_some (entry_at predefined_acls name.now) }
     ensures listed { result ≡ list_any (λ known. bytes_eq known name.now) predefined_names }
 {
     predefined_named(name).is_some()

@@ -3,14 +3,14 @@ use Rattle.std.proofs.Common.{◌≡◌, ℕ, ◌<◌, Bool, true, false, List, 
 use Rattle.std.specs.Prelude.{is_some, ◌||◌}
 use Rattle.std.specs.List.{join_with_byte, list_any, onto_first, slice_split}
 use Rattle.std.proofs.lemmas.List.{length-map}
-use Rattle.hx_base.specs.Bytes.{comma}
+use Rattle.hx_base.specs.Bytes.{ascii}
 use Rattle.hx_lists.specs.Blanks.{trim_blanks}
 use Rattle.hx_lists.specs.HeaderValues.{bytes_with_quoting, hdr_pieces, is_cut, Outside}
 use Rattle.hx_rules.specs.Rewrites.{piece_after, Replacement}
 
 -- the line with its values replaced
 abbrev pub joined : Replacement → List ℕ → List ℕ
-joined replacement line = join_with_byte comma (map (piece_after replacement) (hdr_pieces line))
+joined replacement line = join_with_byte (ascii ",") (map (piece_after replacement) (hdr_pieces line))
 
 -- whether one of its values is replaced
 abbrev pub any_replaced : Replacement → List ℕ → Bool
@@ -41,12 +41,12 @@ some_replaced replacement line =
 -- a piece with a comma after it
 pub text_more : (replacement : Replacement) (text rest more piece whole : List ℕ)
     → text ++ joined replacement rest ≡ whole → hdr_pieces rest ≡ piece ∷ hdr_pieces more
-    → ((text ++ piece_after replacement piece) ++ comma ∷ []) ++ joined replacement more ≡ whole
+    → ((text ++ piece_after replacement piece) ++ ascii "," ∷ []) ++ joined replacement more ≡ whole
 text_more replacement text rest more piece whole same is =
-    append_assoc (text ++ piece_after replacement piece) (comma ∷ []) (joined replacement more)
-    ∙ append_assoc text (piece_after replacement piece) (comma ∷ joined replacement more)
-    ∙ ap (λ end. text ++ end) (sym (ap (λ pieces. join_with_byte comma (map (piece_after replacement) pieces)) is
-    ∙ join_cons comma (piece_after replacement piece) (map (piece_after replacement) (hdr_pieces more)) (some_replaced replacement more)))
+    append_assoc (text ++ piece_after replacement piece) (ascii "," ∷ []) (joined replacement more)
+    ∙ append_assoc text (piece_after replacement piece) (ascii "," ∷ joined replacement more)
+    ∙ ap (λ end. text ++ end) (sym (ap (λ pieces. join_with_byte (ascii ",") (map (piece_after replacement) pieces)) is
+    ∙ join_cons (ascii ",") (piece_after replacement piece) (map (piece_after replacement) (hdr_pieces more)) (some_replaced replacement more)))
     ∙ same
 
 or_assoc : (a b c : Bool) → ((a || b) || c) ≡ (a || (b || c))

@@ -7,7 +7,8 @@ use Rattle.hx_http.specs.Parts.{Parts}
 use Rattle.hx_rules.specs.declared.action.Rewrite.{Rewrite}
 use Rattle.hx_rules.specs.declared.action.Rewrite.TheVariants as rewrite
 use Rattle.hx_rules.specs.declared.format.BuiltPart.{BuiltPart}
-use Rattle.hx_rules.specs.Rewrites.{Edit, edit_of, replacement_of, replacing_edit}
+use Rattle.hx_rules.specs.ReplacingView.{replacement_of}
+use Rattle.hx_rules.specs.Rewrites.{Edit, edit_of, replacing_edit}
 
 pub replace_header_is : (text : List BuiltPart → List ℕ) (asked : Rewrite) (head : Parts) (name pattern given sub made : List ℕ) (format : List BuiltPart)
     → asked ≡ rewrite.ReplaceHeader name pattern format → given ≡ name → sub ≡ made → made ≡ text format

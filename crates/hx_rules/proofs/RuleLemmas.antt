@@ -1,10 +1,10 @@
 -- Rules one after another: where they come to, and what follows from there.
 use Rattle.std.proofs.Common.{arith, ◌≡◌, Bool, true, false, List, [], ◌∷◌, ◌++◌, Option, None, Some, refl, ap, sym, ◌∙◌, append_assoc, drop-cons, ◌<◌, length}
 use Rattle.std.specs.Prelude.{Err, if◌then◌else◌, slice_index_or, take, drop, ◌-◌}
+use Rattle.std.specs.Option.{is_none}
 use Rattle.std.proofs.lemmas.List.{take_rest}
 use Rattle.hx_fetch.specs.declared.world.Conn.{Conn}
 use Rattle.hx_http.specs.Parts.{Parts}
-use Rattle.hx_http.specs.declared.fault.EditFault.{EditFault}
 use Rattle.hx_outside.specs.Makers.{ExpressionText, MakerState}
 use Rattle.hx_sample.specs.Changes.{ChangeCountsLarge}
 use Rattle.hx_sample.specs.Vars.{Scopes}
@@ -16,13 +16,14 @@ use Rattle.hx_rules.specs.declared.actions.Continuation.{Continuation}
 use Rattle.hx_rules.specs.declared.actions.Continuation.TheVariants as continuation
 use Rattle.hx_rules.specs.declared.program.BuiltRule.{BuiltRule}
 use Rattle.hx_rules.specs.declared.verdict.Verdict.{Verdict}
-use Rattle.hx_rules.specs.Failures.{RulesAskFor, StandsAt}
+use Rattle.hx_rules.specs.declared.verdict.Verdict.TheVariants as verdict
+use Rattle.hx_rules.specs.Failures.{Acls, is_taken_in, RulesAskFor, StandsAt}
 use Rattle.hx_rules.specs.Formats.{text_in}
 use Rattle.hx_rules.specs.Programs.{Rules}
 use Rattle.hx_rules.specs.Rewrites.{edit_of}
-use Rattle.hx_rules.specs.State.{State, TableView}
+use Rattle.hx_rules.specs.State.{in_state, State, TableView}
 use Rattle.hx_rules.specs.EffectView.{IsEvaluation, effect_of, rule_effect, RuleAsksFor}
-use Rattle.hx_rules.specs.Verdicts.{Acls, action_effect, after_rules, Ends, evaluation, Goes, is_taken, Effect, rewritten, rules_effect, Stops, then_rules}
+use Rattle.hx_rules.specs.Verdicts.{action_effect, after_rules, Ends, evaluation, Goes, Effect, rules_effect, Stops, then_rules, verdict_at}
 
 -- ---- lists of rules
 
@@ -33,7 +34,7 @@ if_then rest false done state = refl
 -- a first rule, and what the others make of where it comes to
 effect_first : {S : Type 0} (view : TableView S) (conn : Conn) (acls : Acls) (rule : BuiltRule) (rules : List BuiltRule) (state : State S) → rules_effect view conn acls (rule ∷ rules) state ≡ then_rules (rules_effect view conn acls rules) (rule_effect view conn acls rule state)
 effect_first view conn acls rule rules state =
-    if_then (rules_effect view conn acls rules) (is_taken view conn acls state rule.unless rule.cond) (action_effect view conn rule.action state) state
+    if_then (rules_effect view conn acls rules) (is_taken_in view conn acls state rule.unless rule.cond) (action_effect view conn rule.action state) state
 
 then_then : {S : Type 0} (whole first last : State S → Effect S) → ((state : State S) → whole state ≡ then_rules last (first state)) → (effect : Effect S) → then_rules whole effect ≡ then_rules last (then_rules first effect)
 then_then whole first last is (Goes state) = is state
@@ -131,16 +132,16 @@ refused_leaves : {S : Type 0} (state : State S) (strict : Bool) (given : Verdict
 refused_leaves state true given = refl
 refused_leaves state false given = tt
 
-rewritten_leaves : {S : Type 0} (state : State S) (own : Option EditFault) (head : Parts) → Leaves state (rewritten own head state)
-rewritten_leaves state None head = tt
-rewritten_leaves state (Some fault) head = refused_leaves state state.strict _
+rewritten_leaves : {S : Type 0} (state next : State S) (done : Bool) (given : Verdict) → Leaves state (if done then Goes next else if state.strict then Ends given state else Goes state)
+rewritten_leaves state next true given = tt
+rewritten_leaves state next false given = refused_leaves state state.strict given
 
 action_leaves : {S : Type 0} (view : TableView S) (conn : Conn) (action : BuiltAction) (state : State S) → Leaves state (action_effect view conn action state)
 action_leaves view conn built.Allow state = refl
 action_leaves view conn (built.Deny code) state = refl
 action_leaves view conn (built.Rewrite asked) state =
     let edit = edit_of (text_in view conn state) asked state.message in
-    rewritten_leaves state edit.fault edit.head
+    rewritten_leaves state (record state { message = edit.head }) (is_none edit.fault) verdict.Error
 action_leaves view conn (built.SetVar name expr) state = tt
 action_leaves view conn (built.UnsetVar name) state = tt
 action_leaves view conn (built.Change asked) state = tt
@@ -153,7 +154,7 @@ if_leaves state false effect leaves = tt
 
 rule_leaves : {S : Type 0} (view : TableView S) (conn : Conn) (acls : Acls) (rule : BuiltRule) (state : State S) → Leaves state (rule_effect view conn acls rule state)
 rule_leaves view conn acls rule state =
-    if_leaves state (is_taken view conn acls state rule.unless rule.cond) (action_effect view conn rule.action state) (action_leaves view conn rule.action state)
+    if_leaves state (is_taken_in view conn acls state rule.unless rule.cond) (action_effect view conn rule.action state) (action_leaves view conn rule.action state)
 
 -- the last rule leaves the state as it was
 stands_left : {S : Type 0} {view : TableView S} {conn : Conn} {program : Rules} {origin state : State S} {left : List BuiltRule} (next : State S) → Comes view conn program origin state left → next ≡ state → StandsAt view conn program origin next.message next.vars next.tables
@@ -173,7 +174,7 @@ stands_ended {S} {view} {conn} {program} {origin} {state} {rule} {left} acls nex
 -- ---- what is made of the request
 
 -- by the effect of all rules
-of_effect : {S : Type 0} (view : TableView S) (conn : Conn) (program : Rules) (origin next : State S) (given : Option Verdict) (effect : Effect S) → rules_effect view conn program.acls program.rules origin ≡ effect → IsEvaluation view conn program given next.message next.vars next.tables (after_rules view conn program effect) → IsEvaluation view conn program given next.message next.vars next.tables (evaluation view conn program origin)
+of_effect : {S : Type 0} (view : TableView S) (conn : Conn) (program : Rules) (origin next : State S) (given : Option Verdict) (effect : Effect S) → rules_effect view conn program.acls program.rules origin ≡ effect → IsEvaluation view conn program given next.message next.vars next.tables (after_rules (λ after. in_state verdict_at view conn after program) effect) → IsEvaluation view conn program given next.message next.vars next.tables (evaluation view conn program origin)
 of_effect view conn program origin next given effect is made = rw is made
 
 -- all rules were judged
@@ -213,7 +214,7 @@ asks_for {S} {view} {conn} {program} {origin} {state} {rule} {left} acls text at
   state = state;
   rules = at.rules;
   effect = at.effect;
-  applies = ap (λ (acls : Acls). is_taken view conn acls state rule.unless rule.cond) (sym same) ∙ asks.0;
+  applies = ap (λ (acls : Acls). is_taken_in view conn acls state rule.unless rule.cond) (sym same) ∙ asks.0;
   asks = asks.1;
 }
 

@@ -15,10 +15,10 @@ use Rattle.hx_rules.specs.declared.actions.Continuation.TheVariants as continuat
 use Rattle.hx_rules.specs.declared.verdict.Verdict.{Verdict}
 use Rattle.hx_rules.specs.declared.verdict.Verdict.TheVariants as verdict
 use Rattle.hx_rules.specs.declared.program.BuiltRule.{BuiltRule}
-use Rattle.hx_rules.specs.Failures.{ActionAsksFor}
+use Rattle.hx_rules.specs.Failures.{Acls, ActionAsksFor, is_taken_in}
 use Rattle.hx_rules.specs.Programs.{Rules}
-use Rattle.hx_rules.specs.State.{State, TableView}
-use Rattle.hx_rules.specs.Verdicts.{action_effect, Acls, Ends, Evaluation, Goes, is_taken, later_verdict, Effect, Stops}
+use Rattle.hx_rules.specs.State.{in_state, State, TableView}
+use Rattle.hx_rules.specs.Verdicts.{action_effect, Ends, Evaluation, Goes, Effect, Stops, verdict_at}
 
 -- the effect that leaves this state
 abbrev pub effect_of : {S : Type 0} → Continuation → State S → Effect S
@@ -43,7 +43,7 @@ rewrite_effect view conn asked state = action_effect view conn (built.Rewrite as
 -- what a rule does in a state: its action where it is taken
 abbrev pub rule_effect : {S : Type 0} → TableView S → Conn → Acls → BuiltRule → State S → Effect S
 rule_effect view conn acls rule state =
-    if is_taken view conn acls state rule.unless rule.cond
+    if is_taken_in view conn acls state rule.unless rule.cond
     then action_effect view conn rule.action state
     else Goes state
 
@@ -51,7 +51,7 @@ rule_effect view conn acls rule state =
 abbrev pub RuleAsksFor : {S : Type 0} → TableView S → Conn → Acls → BuiltRule → State S
     → ExpressionText → Type 0
 RuleAsksFor view conn acls rule state text =
-    (is_taken view conn acls state rule.unless rule.cond ≡ true)
+    (is_taken_in view conn acls state rule.unless rule.cond ≡ true)
     × ActionAsksFor view conn rule.action state text
 
 -- What rules of `http-request` leave, and the verdict that they give, if they give one, belong to
@@ -62,4 +62,4 @@ pub record IsEvaluation {S : Type 0} (view : TableView S) (conn : Conn) (program
   pub message_is : whole.state.message ≡ message
   pub vars_are : whole.state.vars ≡ vars
   pub tables_are : whole.state.tables ≡ tables
-  pub verdict_is : whole.verdict ≡ unwrap_or given (later_verdict view conn program whole.state)
+  pub verdict_is : whole.verdict ≡ unwrap_or given (in_state verdict_at view conn whole.state program)

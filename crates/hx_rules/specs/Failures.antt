@@ -1,5 +1,8 @@
 -- What stands where an evaluation comes to no end.
-use Rattle.std.specs.Prelude.{◌≡◌, true, List, ◌∷◌, ◌++◌}
+use Rattle.std.specs.Prelude.{◌≡◌, ℕ, Bool, true, List, ◌∷◌, ◌++◌, Option}
+use Rattle.hx_acl.specs.Holds.{cond_holds}
+use Rattle.hx_acl.specs.Tests.{AclTest}
+use Rattle.hx_acl.specs.declared.term.TestTerm.{TestTerm}
 use Rattle.hx_fetch.specs.declared.world.Conn.{Conn}
 use Rattle.hx_http.specs.Parts.{Parts}
 use Rattle.hx_outside.specs.Makers.{ExpressionText}
@@ -10,15 +13,25 @@ use Rattle.hx_rules.specs.declared.action.BuiltAction.TheVariants as built
 use Rattle.hx_rules.specs.declared.program.BuiltRule.{BuiltRule}
 use Rattle.hx_rules.specs.Formats.{text_in}
 use Rattle.hx_rules.specs.Programs.{Rules}
-use Rattle.hx_rules.specs.State.{State, TableView}
-use Rattle.hx_rules.specs.Verdicts.{Goes, is_taken, list_change, list_of, rules_effect}
+use Rattle.hx_rules.specs.State.{in_state, State, TableView}
+use Rattle.hx_rules.specs.Verdicts.{Goes, is_taken, list_change, rules_effect}
+
+-- the declarations of ACLs, each with its name
+abbrev pub Acls : Type 0
+Acls = List (List ℕ × AclTest)
+
+-- a rule in a state is taken
+abbrev pub is_taken_in : {S : Type 0} → TableView S → Conn → Acls → State S → Bool
+    → Option (List (List TestTerm)) → Bool
+is_taken_in view conn acls state unless cond =
+    is_taken (in_state cond_holds view conn state acls) unless cond
 
 -- an action in a state reads a key as this expression
 abbrev pub ActionAsksFor : {S : Type 0} → TableView S → Conn → BuiltAction → State S
     → ExpressionText → Type 0
 ActionAsksFor view conn (built.Change asked) state text =
-    ChangeAsksFor (view.heads state.tables) (list_of asked)
-    (list_change (text_in view conn state) asked) text
+    ChangeAsksFor (view.heads state.tables) (list_change (text_in view conn state) asked).0
+    (list_change (text_in view conn state) asked).1 text
 ActionAsksFor view conn _ state text = ⊥
 
 -- The rules of `http-request` come to a state: some of them were judged, from the first on, and
@@ -39,7 +52,7 @@ pub record RulesAskFor {S : Type 0} (view : TableView S) (conn : Conn) (program 
   pub state : State S
   pub rules : program.rules ≡ done ++ rule ∷ left
   pub effect : rules_effect view conn program.acls done origin ≡ Goes state
-  pub applies : is_taken view conn program.acls state rule.unless rule.cond ≡ true
+  pub applies : is_taken_in view conn program.acls state rule.unless rule.cond ≡ true
   pub asks : ActionAsksFor view conn rule.action state text
 
 -- the message, the variables and the tables are those of a state to which the rules come

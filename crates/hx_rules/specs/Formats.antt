@@ -12,7 +12,7 @@ use Rattle.hx_sample.specs.declared.sample.Value.TheVariants as value
 use Rattle.hx_text.specs.declared.kinds.Kind.TheVariants as kind
 use Rattle.hx_rules.specs.declared.format.BuiltPart.{BuiltPart}
 use Rattle.hx_rules.specs.declared.format.BuiltPart.TheVariants as part
-use Rattle.hx_rules.specs.State.{context_in, State, TableView}
+use Rattle.hx_rules.specs.State.{in_state, State, TableView}
 
 -- the bytes of a string
 abbrev pub bytes_of_string : Option Value → List ℕ
@@ -34,5 +34,4 @@ format_text context heads lists format = flat_map (part_text context heads lists
 
 -- the text of a format in a state
 abbrev pub text_in : {S : Type 0} → TableView S → Conn → State S → List BuiltPart → List ℕ
-text_in view conn state format =
-    format_text (context_in conn state) (view.heads state.tables) (view.lists state.tables) format
+text_in view conn state format = in_state format_text view conn state format

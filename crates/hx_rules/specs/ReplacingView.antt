@@ -1,7 +1,16 @@
--- The replacement of the values of a head, from one of its lines on.
-use Rattle.std.specs.Prelude.{ℕ, suc, zero, List, [], ◌∷◌, drop, map}
+-- The replacement of the values of a head, as the code makes it: of the whole of a value or of each
+-- between commas, and from one of the lines on.
+use Rattle.std.specs.Prelude.{ℕ, suc, zero, Bool, true, false, List, [], ◌∷◌, drop, map, None, Some, if◌then◌else◌}
+use Rattle.std.specs.List.{list_any}
+use Rattle.hx_conv_text.specs.Substitution.{expanded_of}
+use Rattle.hx_http.specs.declared.fault.EditFault.TheVariants.{BadBytes}
 use Rattle.hx_http.specs.Parts.{Parts}
-use Rattle.hx_rules.specs.Rewrites.{Edit, line_after, Replacement, replacing_fault}
+use Rattle.hx_rules.specs.Rewrites.{each_replaced, Edit, edited, is_badly_replaced, line_after, Replacement}
+
+-- what replaces the value of a line: each of its values between commas, or the whole of it
+abbrev pub replacement_of : Bool → List ℕ → List ℕ → Replacement
+replacement_of true pattern text = each_replaced (expanded_of false pattern text)
+replacement_of false pattern text = expanded_of false pattern text
 
 -- the list with its items from a position on changed
 abbrev pub map_from : {A : Type 0} → ℕ → (A → A) → List A → List A
@@ -11,7 +20,7 @@ map_from (suc n) f (x ∷ xs) = x ∷ map_from n f xs
 
 -- the replacement of the values of the lines of a name, from the line at a position on
 abbrev pub replacing_from : ℕ → List ℕ → Replacement → Parts → Edit
-replacing_from at name replacement head = record {
-  fault = replacing_fault name replacement (record head { headers = drop at head.headers });
-  head = record head { headers = map_from at (line_after name replacement) head.headers };
-}
+replacing_from at name replace head =
+    edited
+    (if list_any (is_badly_replaced name replace) (drop at head.headers) then Some BadBytes else None)
+    (record head { headers = map_from at (line_after name replace) head.headers })

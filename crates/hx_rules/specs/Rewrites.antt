@@ -1,10 +1,10 @@
 -- What rewriting actions make of the head of a request (HAProxy configuration manual 2.4, section
 -- 4.2, `http-request set-header` and the actions like it).
-use Rattle.std.specs.Prelude.{ℕ, ◌&&◌, Bool, true, false, List, ◌++◌, map, Option, None, Some, is_some, if◌then◌else◌}
+use Rattle.std.specs.Prelude.{ℕ, ◌&&◌, Bool, false, List, ◌++◌, map, Option, None, Some, is_some, if◌then◌else◌}
 use Rattle.std.specs.List.{join_with_byte, list_any}
 use Rattle.std.specs.Option.{option_map_or, unwrap_or}
 use Rattle.httparse.specs.Grammar.{is_token}
-use Rattle.hx_base.specs.Bytes.{comma, is_bad_value_byte}
+use Rattle.hx_base.specs.Bytes.{ascii, is_bad_value_byte}
 use Rattle.hx_conv_text.specs.Substitution.{expanded_of}
 use Rattle.hx_http.specs.declared.fault.EditFault.{EditFault}
 use Rattle.hx_http.specs.declared.fault.EditFault.TheVariants.{BadBytes}
@@ -22,10 +22,6 @@ use Rattle.hx_rules.specs.declared.format.BuiltPart.{BuiltPart}
 abbrev pub Replacement : Type 0
 Replacement = List ℕ → Option (List ℕ)
 
--- `replace-header`: what the text makes of the leftmost match in the value, if there is a match
-abbrev pub whole_replaced : List ℕ → List ℕ → Replacement
-whole_replaced pattern text value = expanded_of false pattern text value
-
 -- a piece of a line with its value replaced; the blanks at its ends stay
 abbrev pub piece_after : Replacement → List ℕ → List ℕ
 piece_after replacement piece =
@@ -36,12 +32,8 @@ piece_after replacement piece =
 abbrev pub each_replaced : Replacement → Replacement
 each_replaced replacement line =
     if list_any (λ piece. is_some (replacement (trim_blanks piece))) (hdr_pieces line)
-    then Some (join_with_byte comma (map (piece_after replacement) (hdr_pieces line))) else None
-
--- what replaces the value of a line: each of its values between commas, or the whole of it
-abbrev pub replacement_of : Bool → List ℕ → List ℕ → Replacement
-replacement_of true pattern text = each_replaced (whole_replaced pattern text)
-replacement_of false pattern text = whole_replaced pattern text
+    then Some (join_with_byte (ascii ",") (map (piece_after replacement) (hdr_pieces line)))
+    else None
 
 -- ---- lines
 
@@ -49,21 +41,10 @@ abbrev pub line_after : List ℕ → Replacement → List ℕ × List ℕ → Li
 line_after name replacement line =
     if has_name name line then (line.0, unwrap_or (replacement line.1) line.1) else line
 
--- the head with the values of the lines of a name replaced
-abbrev pub with_replaced_values : List ℕ → Replacement → Parts → Parts
-with_replaced_values name replacement head =
-    record head { headers = map (line_after name replacement) head.headers }
-
 -- what replaces the value of a line of the name has a byte that no value may have
 abbrev pub is_badly_replaced : List ℕ → Replacement → List ℕ × List ℕ → Bool
 is_badly_replaced name replacement line =
-    has_name name line
-    && option_map_or (list_any is_bad_value_byte) (replacement line.1) false
-
--- why the values aren't replaced: they all are, or none is
-abbrev pub replacing_fault : List ℕ → Replacement → Parts → Option EditFault
-replacing_fault name replacement head =
-    if list_any (is_badly_replaced name replacement) head.headers then Some BadBytes else None
+    has_name name line && option_map_or (list_any is_bad_value_byte) (replacement line.1) false
 
 -- ---- heads
 
@@ -72,38 +53,39 @@ pub record Edit : Type 0 where
   pub fault : Option EditFault
   pub head : Parts
 
+abbrev pub edited : Option EditFault → Parts → Edit
+edited fault head = record { fault = fault; head = head }
+
 -- a line is added only under a name that is a token (RFC 9110, section 5.1)
 abbrev pub named_fault : List ℕ → Option EditFault → Option EditFault
 named_fault name fault = if is_token name then fault else Some BadBytes
 
--- the replacement of the values of the lines of a name
+-- the replacement of the values of the lines of a name: they all are replaced, or none is
 abbrev pub replacing_edit : List ℕ → Replacement → Parts → Edit
-replacing_edit name replacement head = record {
-  fault = replacing_fault name replacement head;
-  head = with_replaced_values name replacement head;
-}
+replacing_edit name replace head =
+    edited (if list_any (is_badly_replaced name replace) head.headers then Some BadBytes else None)
+    (record head { headers = map (line_after name replace) head.headers })
 
--- the edit of a rewriting action, where `text` gives the texts of formats
+-- The edit of a rewriting action, where `text` gives the texts of formats. `replace-header` and
+-- `replace-value` put what their text makes of the leftmost match in the place of a value, if there
+-- is a match: of the whole value of a line, or of each between commas.
 abbrev pub edit_of : (List BuiltPart → List ℕ) → Rewrite → Parts → Edit
-edit_of text (rewrite.SetHeader name format) head = record {
-  fault = named_fault name (set_header_fault name (text format) head);
-  head = with_only_header name (text format) head;
-}
-edit_of text (rewrite.AddHeader name format) head = record {
-  fault = named_fault name (add_header_fault name (text format) head);
-  head = with_header name (text format) head;
-}
-edit_of text (rewrite.DelHeader name) head =
-    record { fault = None; head = without_header name head }
+edit_of text (rewrite.SetHeader name format) head =
+    edited (named_fault name (set_header_fault name (text format) head))
+    (with_only_header name (text format) head)
+edit_of text (rewrite.AddHeader name format) head =
+    edited (named_fault name (add_header_fault name (text format) head))
+    (with_header name (text format) head)
+edit_of text (rewrite.DelHeader name) head = edited None (without_header name head)
 edit_of text (rewrite.ReplaceHeader name pattern format) head =
-    replacing_edit name (replacement_of false pattern (text format)) head
+    replacing_edit name (expanded_of false pattern (text format)) head
 edit_of text (rewrite.ReplaceValue name pattern format) head =
-    replacing_edit name (replacement_of true pattern (text format)) head
+    replacing_edit name (each_replaced (expanded_of false pattern (text format))) head
 edit_of text (rewrite.SetMethod format) head =
-    record { fault = method_fault (text format); head = with_method (text format) head }
+    edited (method_fault (text format)) (with_method (text format) head)
 edit_of text (rewrite.SetUri format) head =
-    record { fault = target_fault (text format); head = with_target (text format) head }
+    edited (target_fault (text format)) (with_target (text format) head)
 edit_of text (rewrite.SetPath format) head =
-    record { fault = path_fault (text format) head.target; head = with_path (text format) head }
+    edited (path_fault (text format) head.target) (with_path (text format) head)
 edit_of text (rewrite.SetQuery format) head =
-    record { fault = query_fault (text format); head = with_query (text format) head }
+    edited (query_fault (text format)) (with_query (text format) head)

@@ -28,7 +28,10 @@ pub record State (S : Type 0) : Type 0 where
   pub tables : S
   pub strict : Bool
 
--- what the fetches of a rule look at
-abbrev pub context_in : {S : Type 0} → Conn → State S → Context
-context_in conn state =
-    record { message = state.message; conn = conn; vars = state.vars }
+-- what something is in a state, if this is what it is for a context, and for the heads and the lists
+-- of tables
+abbrev pub in_state : {S A : Type 0} → (Context → List TableHead → List (List Entry) → A)
+    → TableView S → Conn → State S → A
+in_state given view conn state =
+    given (record { message = state.message; conn = conn; vars = state.vars })
+    (view.heads state.tables) (view.lists state.tables)

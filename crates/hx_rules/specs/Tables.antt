@@ -16,7 +16,6 @@ use Rattle.hx_rules.specs.declared.format.BuiltPart.TheVariants.{Text, Value}
 use Rattle.hx_rules.specs.declared.program.BackendRule.{BackendRule}
 use Rattle.hx_rules.specs.declared.program.BuiltRule.{BuiltRule}
 use Rattle.hx_rules.specs.Programs.{Rules}
-use Rattle.hx_rules.specs.Verdicts.{list_of}
 
 -- ---- heads
 
@@ -71,6 +70,12 @@ pub record HasHeads (heads : List TableHead) (program : Rules) : Type 0 where
   pub backends : All (HasBackendHeads heads) program.backends
 
 -- ---- lists
+
+-- the position of the list that an action changes
+abbrev pub list_of : TableChange → ℕ
+list_of (change.Add table key) = table
+list_of (change.Remove table key) = table
+list_of (change.Set table key value) = table
 
 -- an action changes one of so many lists, if it changes one
 abbrev pub ChangesOneOf : ℕ → BuiltAction → Type 0

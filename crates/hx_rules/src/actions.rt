@@ -1,11 +1,13 @@
 ghost use Rattle.std.specs.Prelude.{◌≡◌, length, IfOk, OnErr, OnOk};
+ghost use Rattle.std.specs.Option.{option_map_or};
 ghost use Rattle.hx_expr.specs.Values.{expr_value, HasTableHeads};
 ghost use Rattle.hx_sample.specs.Changes.{ChangeCountsLarge};
+ghost use Rattle.hx_sample.specs.Vars.{with_var};
 ghost use Rattle.hx_rules.specs.Failures.{ActionAsksFor};
 ghost use Rattle.hx_rules.specs.State.{table_view};
 ghost use Rattle.hx_rules.specs.Tables.{ChangesOneOf, HasActionHeads, HasRewriteHeads};
 ghost use Rattle.hx_rules.specs.EffectView.{effect_of, rewrite_effect, continuation_after, continuation_refused};
-ghost use Rattle.hx_rules.specs.Verdicts.{action_effect, with_value_set};
+ghost use Rattle.hx_rules.specs.Verdicts.{action_effect};
 
 use crate::action::{BuiltAction, Rewrite};
 use crate::changes::change_list;
@@ -115,7 +117,8 @@ fn set_var(
     name: &VarName,
     value: Option<Value>,
 ) -> Result<(), NoMemory>
-    ensures ok { OnOk result (vars.new ≡ with_value_set conn.now name.now value vars.old) }
+    ensures ok { OnOk result (vars.new
+        ≡ option_map_or (with_var vars.old conn.now.id name.now) value vars.old) }
     ensures err { OnErr result (vars.new ≡ vars.old) }
 {
     match value {

@@ -1,7 +1,8 @@
 ghost use Rattle.std.specs.Prelude.{◌≡◌, IfOk};
 ghost use Rattle.std.specs.List.{All, list_all};
-ghost use Rattle.hx_acl.specs.Holds.{HasAclsHeads};
+ghost use Rattle.hx_acl.specs.Holds.{cond_holds, HasAclsHeads};
 ghost use Rattle.hx_fetch.specs.World.{context_of};
+ghost use Rattle.hx_rules.specs.Formats.{format_text};
 ghost use Rattle.hx_rules.specs.Tables.{HasBackendHeads, HasRuleHeads};
 ghost use Rattle.hx_rules.specs.Verdicts.{backend_of, is_backend_byte, named_backend, redirects_verdict};
 
@@ -31,8 +32,10 @@ pub(crate) fn redirected<'w, T: Tables, L: Ledger>(
     requires rules { All (HasRuleHeads (T.heads tables.now)) rules.now }
     requires acls { HasAclsHeads (T.heads tables.now) acls.now }
     ensures { IfOk result (λ verdict. verdict
-        ≡ redirects_verdict (context_of world.now) (T.heads tables.now) (T.lists tables.now)
-        acls.now rules.now) }
+        ≡ redirects_verdict
+        (cond_holds (context_of world.now) (T.heads tables.now) (T.lists tables.now) acls.now)
+        (format_text (context_of world.now) (T.heads tables.now) (T.lists tables.now))
+        world.now.message.now rules.now) }
 {
     let mut rest = rules;
     while let [rule, others @ ..] = rest {
@@ -97,7 +100,9 @@ pub(crate) fn backend<'w, T: Tables, L: Ledger>(
     requires rules { All (HasBackendHeads (T.heads tables.now)) rules.now }
     requires acls { HasAclsHeads (T.heads tables.now) acls.now }
     ensures { IfOk result (λ backend. backend
-        ≡ backend_of (context_of world.now) (T.heads tables.now) (T.lists tables.now) acls.now
+        ≡ backend_of
+        (cond_holds (context_of world.now) (T.heads tables.now) (T.lists tables.now) acls.now)
+        (format_text (context_of world.now) (T.heads tables.now) (T.lists tables.now))
         rules.now fallback.now) }
 {
     let mut rest = rules;

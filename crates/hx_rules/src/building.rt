@@ -1,10 +1,12 @@
-ghost use Rattle.std.specs.Prelude.{◌≡◌, IfOk, OnOk, IsErrOf, true, false, option_map};
+ghost use Rattle.std.specs.Prelude.{◌≡◌, ◌&&◌, IfOk, OnOk, IsErrOf, true, false};
 ghost use Rattle.std.specs.List.{list_all};
-ghost use Rattle.hx_acl.specs.Expressions.{has_expressions};
-ghost use Rattle.hx_acl.specs.Holds.{terms_of};
+ghost use Rattle.std.specs.Option.{option_map_or};
+ghost use Rattle.hx_acl.specs.Expressions.{cond_has_expressions, has_expressions};
+ghost use Rattle.hx_acl.specs.Typing.{is_cond_typed};
 ghost use Rattle.hx_expr.specs.Faults.{CompileCountsLarge, CompileNamesLarge};
-ghost use Rattle.hx_rules.specs.ActionView.{is_change, is_rewrite};
-ghost use Rattle.hx_rules.specs.Building.{action_exprs, action_of, action_texts, are_expressions, are_typed, backend_has_expressions, backend_rule_of, backend_texts, exprs_texts, format_exprs, format_of, is_rule_typed, is_when_typed, part_exprs, part_of, rule_has_expressions, rule_of, rule_texts, when_has_expressions, when_texts};
+ghost use Rattle.hx_expr.specs.Types.{is_typed};
+ghost use Rattle.hx_rules.specs.ActionView.{are_expressions, is_change, is_rewrite};
+ghost use Rattle.hx_rules.specs.Building.{action_exprs, action_of, action_texts, are_typed, backend_rule_of, backend_texts, exprs_texts, format_exprs, format_of, part_exprs, part_of, rule_has_expressions, rule_of, rule_texts, when_of, when_texts};
 
 use crate::action::{BuiltAction, BuiltRedirect, Rewrite, TableChange};
 use crate::format::{BuiltFormat, BuiltPart};
@@ -34,7 +36,7 @@ fn copied_name(alloc: Global, name: &VarName) -> Result<VarName, NoMemory>
 
 /// A part of a format, built.
 fn build_part<M: ReMaker>(alloc: Global, part: &Part, maker: &mut M) -> Result<BuiltPart, PlanFault>
-    requires { are_typed (part_exprs part.now) ≡ true }
+    requires { list_all is_typed (part_exprs part.now) ≡ true }
     ensures built { IfOk result (λ built. built ≡ part_of part.now) }
     ensures expressions { OnOk result (list_all has_expressions (part_exprs part.now) ≡ true) }
     ensures typed { ¬ (IsErrOf result PlanFault.BadType) }
@@ -56,7 +58,7 @@ fn build_format<M: ReMaker>(
     format: &Format,
     maker: &mut M,
 ) -> Result<BuiltFormat, PlanFault>
-    requires { are_typed (format_exprs format.now) ≡ true }
+    requires { list_all is_typed (format_exprs format.now) ≡ true }
     ensures built { IfOk result (λ built. built ≡ format_of format.now) }
     ensures expressions { OnOk result
         (list_all has_expressions (format_exprs format.now) ≡ true) }
@@ -81,7 +83,7 @@ fn build_rewrite<M: ReMaker>(
     maker: &mut M,
 ) -> Result<BuiltAction, PlanFault>
     requires group { is_rewrite action.now ≡ true }
-    requires typed { are_typed (action_exprs action.now) ≡ true }
+    requires typed { list_all is_typed (action_exprs action.now) ≡ true }
     ensures built { IfOk result (λ built. built ≡ action_of action.now) }
     ensures expressions { OnOk result (are_expressions action.now ≡ true) }
     ensures typed { ¬ (IsErrOf result PlanFault.BadType) }
@@ -135,7 +137,7 @@ fn build_change<M: ReMaker>(
     maker: &mut M,
 ) -> Result<BuiltAction, PlanFault>
     requires group { is_change action.now ≡ true }
-    requires typed { are_typed (action_exprs action.now) ≡ true }
+    requires typed { list_all is_typed (action_exprs action.now) ≡ true }
     ensures built { IfOk result (λ built. built ≡ action_of action.now) }
     ensures expressions { OnOk result (are_expressions action.now ≡ true) }
     ensures typed { ¬ (IsErrOf result PlanFault.BadType) }
@@ -172,7 +174,7 @@ fn build_action<M: ReMaker>(
     action: &Action,
     maker: &mut M,
 ) -> Result<BuiltAction, PlanFault>
-    requires { are_typed (action_exprs action.now) ≡ true }
+    requires { list_all is_typed (action_exprs action.now) ≡ true }
     ensures built { IfOk result (λ built. built ≡ action_of action.now) }
     ensures expressions { OnOk result (are_expressions action.now ≡ true) }
     ensures typed { ¬ (IsErrOf result PlanFault.BadType) }
@@ -216,11 +218,13 @@ fn build_when<M: ReMaker>(
     cond: &Option<Cond>,
     maker: &mut M,
 ) -> Result<Option<Condition>, PlanFault>
-    requires { is_when_typed cond.now ≡ true }
-    ensures built { IfOk result (λ built. built ≡ option_map terms_of cond.now) }
-    ensures expressions { OnOk result (when_has_expressions cond.now ≡ true) }
+    requires { option_map_or is_cond_typed cond.now true ≡ true }
+    ensures built { IfOk result (λ built. built ≡ when_of cond.now) }
+    ensures expressions { OnOk result
+        (option_map_or cond_has_expressions cond.now true ≡ true) }
     ensures typed { ¬ (IsErrOf result PlanFault.BadType) }
-    ensures bad { IsErrOf result PlanFault.BadPattern → when_has_expressions cond.now ≡ false }
+    ensures bad { IsErrOf result PlanFault.BadPattern
+        → option_map_or cond_has_expressions cond.now true ≡ false }
     ensures counted { CompileCountsLarge result (M.too_large maker.old) (M.too_large maker.new) }
     ensures large { CompileNamesLarge result (when_texts cond.now) (M.large maker.old)
         (M.large maker.new) }
@@ -237,7 +241,7 @@ pub(crate) fn build_rule<M: ReMaker>(
     rule: &Rule,
     maker: &mut M,
 ) -> Result<BuiltRule, PlanFault>
-    requires { is_rule_typed rule.now ≡ true }
+    requires { are_typed (action_exprs rule.now.action) rule.now.cond ≡ true }
     ensures built { IfOk result (λ built. built ≡ rule_of rule.now) }
     ensures expressions { OnOk result (rule_has_expressions rule.now ≡ true) }
     ensures typed { ¬ (IsErrOf result PlanFault.BadType) }
@@ -263,13 +267,15 @@ pub(crate) fn build_backend<M: ReMaker>(
     cond: &Option<Cond>,
     maker: &mut M,
 ) -> Result<BackendRule, PlanFault>
-    requires format { are_typed (format_exprs format.now) ≡ true }
-    requires cond { is_when_typed cond.now ≡ true }
+    requires format { list_all is_typed (format_exprs format.now) ≡ true }
+    requires cond { option_map_or is_cond_typed cond.now true ≡ true }
     ensures built { IfOk result (λ built. built ≡ backend_rule_of format.now unless cond.now) }
-    ensures expressions { OnOk result (backend_has_expressions format.now cond.now ≡ true) }
+    ensures expressions { OnOk result ((list_all has_expressions (format_exprs format.now)
+        && option_map_or cond_has_expressions cond.now true) ≡ true) }
     ensures typed { ¬ (IsErrOf result PlanFault.BadType) }
     ensures bad { IsErrOf result PlanFault.BadPattern
-        → backend_has_expressions format.now cond.now ≡ false }
+        → (list_all has_expressions (format_exprs format.now)
+        && option_map_or cond_has_expressions cond.now true) ≡ false }
     ensures counted { CompileCountsLarge result (M.too_large maker.old) (M.too_large maker.new) }
     ensures large { CompileNamesLarge result (backend_texts format.now cond.now)
         (M.large maker.old) (M.large maker.new) }

@@ -1,8 +1,8 @@
 ghost use Rattle.std.specs.Prelude.{◌≡◌, ◌<◌, length, OnOk, OnErr};
 ghost use Rattle.hx_sample.specs.Changes.{ChangeAsksFor, ChangeCountsLarge};
 ghost use Rattle.hx_rules.specs.Formats.{format_text};
-ghost use Rattle.hx_rules.specs.Tables.{HasChangeHeads};
-ghost use Rattle.hx_rules.specs.Verdicts.{list_change, list_of};
+ghost use Rattle.hx_rules.specs.Tables.{HasChangeHeads, list_of};
+ghost use Rattle.hx_rules.specs.Verdicts.{list_change};
 
 use crate::action::TableChange;
 use crate::formats::text_of;
@@ -28,24 +28,24 @@ pub(crate) fn change_list<T: Tables, M: ReMaker, L: Ledger>(
 ) -> Result<(), TableFault>
     requires heads { HasChangeHeads (T.heads tables.old) asked.now }
     requires list { list_of asked.now < length (T.lists tables.old) }
-    ensures ok { OnOk result (tables.new ≡ T.after_change tables.old (list_of asked.now)
-        (list_change (format_text (record {
-          message = message.now;
-          conn = conn.now;
-          vars = vars.now;
-        }) (T.heads tables.old)
-        (T.lists tables.old)) asked.now)) }
+    ensures ok { OnOk result (tables.new ≡ T.after_change tables.old
+        (list_change (format_text
+        (record { message = message.now; conn = conn.now; vars = vars.now })
+        (T.heads tables.old) (T.lists tables.old)) asked.now).0
+        (list_change (format_text
+        (record { message = message.now; conn = conn.now; vars = vars.now })
+        (T.heads tables.old) (T.lists tables.old)) asked.now).1) }
     ensures kept { OnErr result (tables.new ≡ tables.old) }
     ensures heads { T.heads tables.new ≡ T.heads tables.old }
     ensures lists { length (T.lists tables.new) ≡ length (T.lists tables.old) }
     ensures large { ChangeCountsLarge result
-        (ChangeAsksFor (T.heads tables.old) (list_of asked.now)
-        (list_change (format_text (record {
-          message = message.now;
-          conn = conn.now;
-          vars = vars.now;
-        }) (T.heads tables.old)
-        (T.lists tables.old)) asked.now))
+        (ChangeAsksFor (T.heads tables.old)
+        (list_change (format_text
+        (record { message = message.now; conn = conn.now; vars = vars.now })
+        (T.heads tables.old) (T.lists tables.old)) asked.now).0
+        (list_change (format_text
+        (record { message = message.now; conn = conn.now; vars = vars.now })
+        (T.heads tables.old) (T.lists tables.old)) asked.now).1)
         (record { too_large = M.too_large maker.old; large = M.large maker.old })
         (record { too_large = M.too_large maker.new; large = M.large maker.new }) }
 {

@@ -1,11 +1,11 @@
 ghost use Rattle.std.specs.Prelude.{◌≡◌, length, IfOk, OnErr, OnOk};
-ghost use Rattle.hx_acl.specs.Holds.{HasAclsHeads};
+ghost use Rattle.hx_acl.specs.Holds.{cond_holds, HasAclsHeads};
 ghost use Rattle.hx_sample.specs.Changes.{ChangeCountsLarge};
 ghost use Rattle.hx_rules.specs.Failures.{RulesAskFor, StandsAt};
 ghost use Rattle.hx_rules.specs.State.{table_view};
 ghost use Rattle.hx_rules.specs.EffectView.{IsEvaluation, effect_of, rule_effect, RuleAsksFor};
 ghost use Rattle.hx_rules.specs.Tables.{ChangesOneOf, HasHeads, HasLists, HasRuleHeads, HasWhenHeads};
-ghost use Rattle.hx_rules.specs.Verdicts.{evaluation, is_taken_at, start, verdict_at};
+ghost use Rattle.hx_rules.specs.Verdicts.{evaluation, is_taken, start, verdict_at};
 
 use crate::actions::{Continuation, act};
 use crate::backends::{backend, redirected};
@@ -35,10 +35,9 @@ fn takes<T: Tables, L: Ledger>(
 ) -> Result<bool, NoMemory>
     requires heads { HasWhenHeads (T.heads tables.now) rule.now.cond }
     requires acls { HasAclsHeads (T.heads tables.now) acls.now }
-    ensures { IfOk result (λ taken. taken ≡ is_taken_at
+    ensures { IfOk result (λ taken. taken ≡ is_taken (cond_holds
         (record { message = message.now; conn = conn.now; vars = vars.now })
-        (T.heads tables.now) (T.lists tables.now) acls.now rule.now.unless
-        rule.now.cond) }
+        (T.heads tables.now) (T.lists tables.now) acls.now) rule.now.unless rule.now.cond) }
 {
     let world = World {
         message,

@@ -1,7 +1,7 @@
-ghost use Rattle.std.specs.Prelude.{◌≡◌, ◌∷◌, [], true, false, IfOk, OnOk, IsErrOf};
+ghost use Rattle.std.specs.Prelude.{◌≡◌, ◌∷◌, [], true, false, is_some, IfOk, OnOk, IsErrOf};
 ghost use Rattle.hx_conv_text.specs.Substitution.{expanded_of};
 ghost use Rattle.hx_expr.specs.Faults.{CompileCountsLarge, CompileNamesLarge};
-ghost use Rattle.hx_rules.specs.Building.{is_expression};
+ghost use Rattle.hx_sample.specs.Keys.{key_expression};
 
 use hx_conv_text::{expand, made_regex};
 use hx_expr::PlanFault;
@@ -39,10 +39,10 @@ impl Pattern {
     ) -> Result<Pattern, PlanFault>
         ensures built { IfOk result (λ pattern. pattern ≡ text.now) }
         ensures read { OnOk result
-            (is_expression (record { text = text.now; ci = false }) ≡ true) }
+            (is_some (key_expression false text.now) ≡ true) }
         ensures typed { ¬ (IsErrOf result PlanFault.BadType) }
         ensures bad { IsErrOf result PlanFault.BadPattern
-            → is_expression (record { text = text.now; ci = false }) ≡ false }
+            → is_some (key_expression false text.now) ≡ false }
         ensures counted { CompileCountsLarge result (M.too_large maker.old)
             (M.too_large maker.new) }
         ensures large { CompileNamesLarge result (record { text = text.now; ci = false } ∷ [])

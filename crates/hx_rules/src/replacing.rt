@@ -1,8 +1,9 @@
-ghost use Rattle.std.specs.Prelude.{◌≡◌, ◌+◌, ◌<◌, ◌++◌, length, is_some, IfOk, IfErr, OnOk, OnErr, None};
+ghost use Rattle.std.specs.Prelude.{◌≡◌, ◌+◌, ◌<◌, ◌++◌, length, is_some, IfOk, IfErr, OnOk, OnErr, None, false};
+ghost use Rattle.hx_conv_text.specs.Substitution.{expanded_of};
 ghost use Rattle.hx_http.specs.Edits.{MayFail};
 ghost use Rattle.hx_lists.specs.Blanks.{trim_blanks};
-ghost use Rattle.hx_rules.specs.ReplacingView.{replacing_from};
-ghost use Rattle.hx_rules.specs.Rewrites.{each_replaced, piece_after, replacement_of, replacing_edit, whole_replaced};
+ghost use Rattle.hx_rules.specs.ReplacingView.{replacement_of, replacing_from};
+ghost use Rattle.hx_rules.specs.Rewrites.{each_replaced, piece_after, replacing_edit};
 
 use crate::pattern::Pattern;
 use hx_http::{EditFault, Message};
@@ -19,7 +20,7 @@ fn each_replaced(
     line: &[u8],
 ) -> Result<Option<Octets>, NoMemory>
     ensures { IfOk result (λ made. made
-        ≡ each_replaced (whole_replaced pattern.now sub.now) line.now) }
+        ≡ each_replaced (expanded_of false pattern.now sub.now) line.now) }
 {
     let mut text = Octets::from_vec(Vec::new(alloc));
     let mut is_changed = false;
@@ -45,9 +46,9 @@ fn push_piece(
     piece: &[u8],
 ) -> Result<bool, NoMemory>
     ensures text { OnOk result (text.new
-        ≡ text.old ++ piece_after (whole_replaced pattern.now sub.now) piece.now) }
+        ≡ text.old ++ piece_after (expanded_of false pattern.now sub.now) piece.now) }
     ensures changed { IfOk result (λ changed. changed
-        ≡ is_some (whole_replaced pattern.now sub.now (trim_blanks piece.now))) }
+        ≡ is_some (expanded_of false pattern.now sub.now (trim_blanks piece.now))) }
 {
     let (first, value, last) = cut_blanks(piece);
     let Some(new) = pattern.expand(alloc, sub, value)? else {

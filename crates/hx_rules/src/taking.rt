@@ -1,8 +1,8 @@
 ghost use Rattle.std.specs.Prelude.{◌≡◌, IfOk};
-ghost use Rattle.hx_acl.specs.Holds.{HasAclsHeads};
+ghost use Rattle.hx_acl.specs.Holds.{cond_holds, HasAclsHeads};
 ghost use Rattle.hx_fetch.specs.World.{context_of};
 ghost use Rattle.hx_rules.specs.Tables.{HasWhenHeads};
-ghost use Rattle.hx_rules.specs.Verdicts.{is_taken_at};
+ghost use Rattle.hx_rules.specs.Verdicts.{is_taken};
 
 use hx_acl::{AclSet, Condition};
 use hx_fetch::World;
@@ -25,8 +25,8 @@ pub(crate) fn is_taken<'w, T: Tables, L: Ledger>(
     requires heads { HasWhenHeads (T.heads tables.now) cond.now }
     requires acls { HasAclsHeads (T.heads tables.now) acls.now }
     ensures { IfOk result (λ taken. taken
-        ≡ is_taken_at (context_of world.now) (T.heads tables.now) (T.lists tables.now) acls.now
-        unless cond.now) }
+        ≡ is_taken (cond_holds (context_of world.now) (T.heads tables.now) (T.lists tables.now)
+        acls.now) unless cond.now) }
 {
     match cond {
         Some(cond) => {

@@ -1,5 +1,9 @@
-ghost use Rattle.std.specs.Prelude.{◌≡◌};
-ghost use Rattle.hx_rules.specs.Building.{action_exprs, are_typed, format_exprs, is_rule_typed, is_statement_typed, is_when_typed};
+ghost use Rattle.std.specs.Prelude.{◌≡◌, true};
+ghost use Rattle.std.specs.List.{list_all};
+ghost use Rattle.std.specs.Option.{option_map_or};
+ghost use Rattle.hx_acl.specs.Typing.{is_cond_typed};
+ghost use Rattle.hx_expr.specs.Types.{is_typed};
+ghost use Rattle.hx_rules.specs.Building.{action_exprs, are_typed, format_exprs, is_statement_typed};
 
 use hx_acl::{is_cond_typed, is_decl_typed};
 use hx_ast::{Action, Cond, Format, Part, Rule, Statement};
@@ -7,7 +11,7 @@ use hx_expr::is_typed;
 
 /// Whether there is a cast at each converter of the format's expressions.
 fn is_format_typed(format: &Format) -> bool
-    ensures { result ≡ are_typed (format_exprs format.now) }
+    ensures { result ≡ list_all is_typed (format_exprs format.now) }
 {
     for part in format.as_slice() {
         if let Part::Value(expr) = part {
@@ -21,7 +25,7 @@ fn is_format_typed(format: &Format) -> bool
 
 /// The same of the expressions of an action.
 fn is_action_typed(action: &Action) -> bool
-    ensures { result ≡ are_typed (action_exprs action.now) }
+    ensures { result ≡ list_all is_typed (action_exprs action.now) }
 {
     match action {
         Action::Allow | Action::Deny(_) | Action::DelHeader(_) => true,
@@ -40,7 +44,7 @@ fn is_action_typed(action: &Action) -> bool
 }
 
 fn is_when_typed(cond: &Option<Cond>) -> bool
-    ensures { result ≡ is_when_typed cond.now }
+    ensures { result ≡ option_map_or is_cond_typed cond.now true }
 {
     match cond {
         Some(cond) => is_cond_typed(cond.as_slice()),
@@ -49,7 +53,7 @@ fn is_when_typed(cond: &Option<Cond>) -> bool
 }
 
 fn is_rule_typed(rule: &Rule) -> bool
-    ensures { result ≡ is_rule_typed rule.now }
+    ensures { result ≡ are_typed (action_exprs rule.now.action) rule.now.cond }
 {
     is_action_typed(&rule.action) && is_when_typed(&rule.cond)
 }

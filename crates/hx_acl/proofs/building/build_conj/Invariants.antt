@@ -1,7 +1,9 @@
 use Rattle.std.specs.Prelude.{◌≡◌, true, drop, map, take}
-use Rattle.hx_acl.specs.Expressions.{conj_has_expressions}
+use Rattle.std.specs.List.{list_all}
+use Rattle.hx_ast.specs.Acls.{use_passes}
+use Rattle.hx_acl.specs.Expressions.{has_expressions}
 use Rattle.hx_acl.specs.Holds.{term_of}
-use Rattle.hx_acl.specs.Typing.{is_conj_typed}
+use Rattle.hx_acl.specs.Typing.{is_decl_typed}
 use Rattle.hx_acl.proofs.building.build_conj.Given as goal
 
 -- what is built so far; the types of what is left fit, and it has its expressions exactly where the
@@ -9,8 +11,9 @@ use Rattle.hx_acl.proofs.building.build_conj.Given as goal
 abbrev pub invariant-loop-term : goal.invariant-loop-term
 invariant-loop-term g l = record {
   built : l.built ≡ map term_of (take l.term-index l.conj);
-  typed : is_conj_typed (drop l.term-index l.conj) ≡ true;
-  expressions : conj_has_expressions (drop l.term-index l.conj) ≡ conj_has_expressions l.conj;
+  typed : list_all (λ term. use_passes is_decl_typed term.acl) (drop l.term-index l.conj) ≡ true;
+  expressions : list_all (λ term. use_passes (λ decl. has_expressions decl.expr) term.acl) (drop l.term-index l.conj)
+      ≡ list_all (λ term. use_passes (λ decl. has_expressions decl.expr) term.acl) l.conj;
   counted : g.M.ReMaker.too_large l.maker ≡ g.M.ReMaker.too_large l.fn.maker;
   large : g.M.ReMaker.large l.maker ≡ g.M.ReMaker.large l.fn.maker;
 }

@@ -1,6 +1,8 @@
 use Rattle.std.specs.Prelude.{◌≡◌, length}
 use Rattle.std.specs.List.{All}
+use Rattle.hx_acl.specs.Holds.{cond_holds}
 use Rattle.hx_fetch.specs.World.{context_of}
+use Rattle.hx_rules.specs.Formats.{format_text}
 use Rattle.hx_rules.specs.Tables.{HasBackendHeads}
 use Rattle.hx_rules.specs.Verdicts.{backend_of}
 use Rattle.hx_rules.proofs.backends.backend.Given as goal
@@ -9,7 +11,8 @@ use Rattle.hx_rules.proofs.backends.backend.Given as goal
 abbrev pub invariant-loop-rest : goal.invariant-loop-rest
 invariant-loop-rest g l =
     let heads = g.T.Tables.heads l.tables in
-    let backend = backend_of (context_of l.world) heads (g.T.Tables.lists l.tables) l.acls in
+    let backend = backend_of (cond_holds (context_of l.world) heads (g.T.Tables.lists l.tables) l.acls)
+    (format_text (context_of l.world) heads (g.T.Tables.lists l.tables)) in
     record {
       heads : All (HasBackendHeads heads) l.rest;
       backend : backend l.rest l.fallback ≡ backend l.rules l.fallback;

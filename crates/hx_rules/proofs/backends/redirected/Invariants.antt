@@ -1,6 +1,8 @@
 use Rattle.std.specs.Prelude.{◌≡◌, length}
 use Rattle.std.specs.List.{All}
+use Rattle.hx_acl.specs.Holds.{cond_holds}
 use Rattle.hx_fetch.specs.World.{context_of}
+use Rattle.hx_rules.specs.Formats.{format_text}
 use Rattle.hx_rules.specs.Tables.{HasRuleHeads}
 use Rattle.hx_rules.specs.Verdicts.{redirects_verdict}
 use Rattle.hx_rules.proofs.backends.redirected.Given as goal
@@ -9,7 +11,8 @@ use Rattle.hx_rules.proofs.backends.redirected.Given as goal
 abbrev pub invariant-loop-rest : goal.invariant-loop-rest
 invariant-loop-rest g l =
     let heads = g.T.Tables.heads l.tables in
-    let verdict = redirects_verdict (context_of l.world) heads (g.T.Tables.lists l.tables) l.acls in
+    let verdict = redirects_verdict (cond_holds (context_of l.world) heads (g.T.Tables.lists l.tables) l.acls)
+    (format_text (context_of l.world) heads (g.T.Tables.lists l.tables)) (context_of l.world).message in
     record {
       heads : All (HasRuleHeads heads) l.rest;
       verdict : verdict l.rest ≡ verdict l.rules;

@@ -1,7 +1,8 @@
 use Rattle.std.specs.Prelude.{◌≡◌, true, drop, take}
 use Rattle.std.specs.List.{list_all}
 use Rattle.hx_acl.specs.Expressions.{has_expressions}
-use Rattle.hx_rules.specs.Building.{are_typed, format_exprs, format_of}
+use Rattle.hx_expr.specs.Types.{is_typed}
+use Rattle.hx_rules.specs.Building.{format_exprs, format_of}
 use Rattle.hx_rules.proofs.building.build_format.Given as goal
 
 -- what is built so far; the types of what is left fit, and it has its expressions exactly where the
@@ -9,7 +10,7 @@ use Rattle.hx_rules.proofs.building.build_format.Given as goal
 abbrev pub invariant-loop-part : goal.invariant-loop-part
 invariant-loop-part g l = record {
   built : l.built ≡ format_of (take l.part-index l.format);
-  typed : are_typed (format_exprs (drop l.part-index l.format)) ≡ true;
+  typed : list_all is_typed (format_exprs (drop l.part-index l.format)) ≡ true;
   expressions : list_all has_expressions (format_exprs (drop l.part-index l.format)) ≡ list_all has_expressions (format_exprs l.format);
   counted : g.M.ReMaker.too_large l.maker ≡ g.M.ReMaker.too_large l.fn.maker;
   large : g.M.ReMaker.large l.maker ≡ g.M.ReMaker.large l.fn.maker;

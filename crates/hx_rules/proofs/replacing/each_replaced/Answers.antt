@@ -1,15 +1,15 @@
-use Rattle.std.proofs.Common.{◌≡◌, [], ◌∷◌, ◌++◌, List, ℕ, Bor, Bool, ap, ◌∙◌}
+use Rattle.std.proofs.Common.{◌≡◌, [], ◌∷◌, ◌++◌, List, ℕ, Bor, Bool, false, ap, ◌∙◌}
 use Rattle.std.specs.Prelude.{◌||◌, Option}
 use Rattle.std.specs.Option.{option_copied, option_map_or}
-use Rattle.hx_base.specs.Bytes.{comma}
+use Rattle.hx_base.specs.Bytes.{ascii}
+use Rattle.hx_conv_text.specs.Substitution.{expanded_of}
 use Rattle.hx_lists.specs.HeaderValues.{hdr_pieces}
-use Rattle.hx_rules.specs.Rewrites.{whole_replaced}
 use Rattle.hx_rules.proofs.PieceLemmas.{any_replaced, changed_more, joined, text_more}
 use Rattle.hx_rules.proofs.replacing.each_replaced.Goals as goal
 
 pub loop-text-preserved : goal.loop-text-preserved
 loop-text-preserved c =
-    let replacement = whole_replaced c.args.pattern.now c.args.sub.now in
+    let replacement = expanded_of false c.args.pattern.now c.args.sub.now in
     let piece = c.first_hdr_piece.result.0.now in
     let more = c.in-Some.more.now in
     let is : hdr_pieces c.loop-text.rest.now ≡ piece ∷ hdr_pieces more =
@@ -18,7 +18,7 @@ loop-text-preserved c =
     record {
       text =
           ap (λ (text : List ℕ). text ++ joined replacement more) c.in_ok-push_all.ensures.ok
-          ∙ ap (λ (text : List ℕ). (text ++ comma ∷ []) ++ joined replacement more) c.in_ok-is_changed.ensures.text
+          ∙ ap (λ (text : List ℕ). (text ++ ascii "," ∷ []) ++ joined replacement more) c.in_ok-is_changed.ensures.text
           ∙ text_more replacement c.loop-text.text c.loop-text.rest.now more piece (joined replacement c.args.line.now)
           c.loop-text.invariant.text is;
       changed =

@@ -1,7 +1,7 @@
-use Rattle.std.proofs.Common.{◌≡◌, ◌++◌, length}
+use Rattle.std.proofs.Common.{◌≡◌, ◌++◌, false, length}
 use Rattle.std.specs.Prelude.{◌||◌}
+use Rattle.hx_conv_text.specs.Substitution.{expanded_of}
 use Rattle.hx_lists.specs.HeaderValues.{hdr_pieces}
-use Rattle.hx_rules.specs.Rewrites.{whole_replaced}
 use Rattle.hx_rules.proofs.PieceLemmas.{any_replaced, joined}
 use Rattle.hx_rules.proofs.replacing.each_replaced.Given as goal
 
@@ -9,7 +9,7 @@ use Rattle.hx_rules.proofs.replacing.each_replaced.Given as goal
 -- is replaced
 abbrev pub invariant-loop-text : goal.invariant-loop-text
 invariant-loop-text l =
-    let replacement = whole_replaced l.pattern l.sub in
+    let replacement = expanded_of false l.pattern l.sub in
     record {
       text : l.text ++ joined replacement l.rest ≡ joined replacement l.line;
       changed : (l.is_changed || any_replaced replacement l.rest) ≡ any_replaced replacement l.line;

@@ -1,5 +1,5 @@
 use Rattle.std.proofs.Common.{rules}
-use Rattle.hx_rules.specs.Rewrites.{replacement_of}
+use Rattle.hx_rules.specs.ReplacingView.{replacement_of}
 use Rattle.hx_rules.proofs.ReplacingLemmas.{line_changed_ok, line_refused_err, line_unchanged, other_line}
 use Rattle.hx_rules.proofs.replacing.replace_line.Goals as goal
 

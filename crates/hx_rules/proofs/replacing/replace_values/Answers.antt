@@ -1,5 +1,6 @@
 use Rattle.std.proofs.Common.{ap, arith, sym, ◌∙◌}
-use Rattle.hx_rules.specs.Rewrites.{Edit, replacement_of}
+use Rattle.hx_rules.specs.ReplacingView.{replacement_of}
+use Rattle.hx_rules.specs.Rewrites.{Edit}
 use Rattle.hx_rules.proofs.ReplacingLemmas.{all_replaced}
 use Rattle.hx_rules.proofs.replacing.replace_values.Goals as goal
 

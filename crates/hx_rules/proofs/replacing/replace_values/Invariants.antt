@@ -1,6 +1,6 @@
 use Rattle.std.proofs.Common.{◌≡◌, length}
-use Rattle.hx_rules.specs.ReplacingView.{replacing_from}
-use Rattle.hx_rules.specs.Rewrites.{replacement_of, replacing_edit}
+use Rattle.hx_rules.specs.ReplacingView.{replacement_of, replacing_from}
+use Rattle.hx_rules.specs.Rewrites.{replacing_edit}
 use Rattle.hx_rules.proofs.replacing.replace_values.Given as goal
 
 -- what is left to replace in the copy is what was to be replaced in the message

@@ -1,6 +1,7 @@
 use Rattle.std.proofs.Common.{true, false}
 use Rattle.hx_rules.specs.Formats.{format_text}
-use Rattle.hx_rules.specs.Rewrites.{edit_of, replacement_of, replacing_edit}
+use Rattle.hx_rules.specs.ReplacingView.{replacement_of}
+use Rattle.hx_rules.specs.Rewrites.{edit_of, replacing_edit}
 use Rattle.hx_rules.proofs.RewriteLemmas.{fails_as, made_as, passes_as, replace_header_is, replace_value_is}
 use Rattle.hx_rules.proofs.rewrites.rewrite.Goals as goal
 
