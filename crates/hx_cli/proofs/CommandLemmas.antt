@@ -1,26 +1,32 @@
 -- Words spell a command exactly where it is the one that the function gives.
-use Rattle.std.proofs.Common.{◌≡◌, ℕ, ◌==◌, Bool, true, false, cond, List, [], ◌∷◌, ◌++◌, length, drop, refl, sym, ap, subst, ◌∙◌, arith}
-use Rattle.std.specs.Prelude.{Option, None, Some, codes, not, option_and_then, option_map}
+use Rattle.std.proofs.Common.{◌≡◌, ℕ, ◌==◌, Bool, true, false, cond, List, [], ◌∷◌, ◌++◌, length, refl, sym, ap, subst, ◌∙◌, arith}
+use Rattle.std.specs.Prelude.{Option, None, Some, codes, if◌then◌else◌, not, option_and_then}
 use Rattle.std.specs.Fmt.{decimal}
 use Rattle.std.specs.Str.{bytes_eq}
 use Rattle.std.proofs.lemmas.Bool.{and_from, and_parts, eqb-true, false≢true, lt-ltb, ltb-true, not-true, not_from_false}
 use Rattle.std.proofs.lemmas.Option.{none-some, option_and_then_some, same_Some}
 use Rattle.std.proofs.lemmas.Slice.Eq.{bytes_eq-Decides}
+use Rattle.hx_base.specs.Bytes.{ascii}
 use Rattle.hx_cli.specs.declared.command.Command.{Command}
 use Rattle.hx_cli.specs.declared.command.Command.TheVariants.{ShowAll, Show, Get, Add, AddMany, Del, Set, Clear, Prepare, Commit}
-use Rattle.hx_cli.specs.Commands.{add_command, addition, after_version, at_sign, begins_with_at, command_by, command_of, commit_command, entry_words, is_command, is_entry, is_place, kind_of_word, kind_word, of_name, of_one_word, of_two_words, payload_word, AfterVersion, show_command, spelling, Spells, set_command, version_of_digits, version_words, with_version, without_version}
+use Rattle.hx_cli.specs.Commands.{addition, begins_with_at, command_by, command_of, entry_words, is_command, is_entry, is_place, kind_word, of_two_words, of_word, payload_word, show_command, spelling, Spells, set_command, version_of_digits, version_words, versioned}
 use Rattle.hx_cli.proofs.VersionLemmas.{version_found, version_written}
+
+-- the words after `commit`, the kind and the version
+abbrev committed : Bool → Option ℕ → List (List ℕ) → Option Command
+committed is_map ver rest = option_and_then (λ n. of_word (Commit is_map n) rest) ver
 
 -- ---- from a command to its words, and back
 
-after_place : (ver : Option ℕ) (name : List ℕ) (words : List (List ℕ)) → is_place ver name ≡ true
-    → after_version (version_words ver ++ name ∷ words)
-    ≡ Some (record { ver = ver; words = name ∷ words })
-after_place None name words is =
-    ap (λ (t : Bool). cond t (option_map (with_version words) (version_of_digits (drop 1 name)))
-    (Some (without_version (name ∷ words)))) (not-true (begins_with_at name) is)
-after_place (Some number) name words is =
-    ap (option_map (with_version (name ∷ words)))
+at_place : (make : Option ℕ → List (List ℕ) → Option Command) (ver : Option ℕ) (name : List ℕ)
+    (words : List (List ℕ)) → is_place ver name ≡ true
+    → versioned make (version_words ver ++ name ∷ words) ≡ make ver (name ∷ words)
+at_place make None [] words is = refl
+at_place make None (b ∷ bs) words is =
+    ap (λ (t : Bool). cond t (option_and_then (λ n. make (Some n) words) (version_of_digits bs))
+    (make None ((b ∷ bs) ∷ words))) (not-true (b == ascii "@") is)
+at_place make (Some number) name words is =
+    ap (option_and_then (λ n. make (Some n) (name ∷ words)))
     (version_found number (ltb-true number 4294967296 is))
 
 with_kind : (verb : List ℕ) (is_map : Bool) (words : List (List ℕ))
@@ -30,10 +36,9 @@ with_kind verb false words = refl
 
 show_again : (is_map : Bool) (ver : Option ℕ) (name : List ℕ) → is_place ver name ≡ true
     → show_command is_map (version_words ver ++ name ∷ []) ≡ Some (Show is_map ver name)
-show_again is_map None name is =
-    ap (option_and_then (of_name (Show is_map))) (after_place None name [] is)
+show_again is_map None name is = at_place (λ ver. of_word (Show is_map ver)) None name [] is
 show_again is_map (Some number) name is =
-    ap (option_and_then (of_name (Show is_map))) (after_place (Some number) name [] is)
+    at_place (λ ver. of_word (Show is_map ver)) (Some number) name [] is
 
 addition_again : (is_map : Bool) (ver : Option ℕ) (name key value : List ℕ)
     → is_entry is_map key value ≡ true
@@ -59,21 +64,20 @@ command_again (Get is_map name value) is = with_kind (codes "get") is_map (name 
 command_again (Add is_map ver name key value) is =
     let parts = and_parts (is_place ver name) (is_entry is_map key value) is in
     with_kind (codes "add") is_map (version_words ver ++ name ∷ entry_words is_map key value)
-    ∙ ap (option_and_then (add_command is_map))
-    (after_place ver name (entry_words is_map key value) parts.0)
+    ∙ at_place (addition is_map) ver name (entry_words is_map key value) parts.0
     ∙ addition_again is_map ver name key value parts.1
 command_again (AddMany is_map ver name) is =
     with_kind (codes "add") is_map (version_words ver ++ name ∷ payload_word ∷ [])
-    ∙ ap (option_and_then (add_command is_map)) (after_place ver name (payload_word ∷ []) is)
+    ∙ at_place (addition is_map) ver name (payload_word ∷ []) is
 command_again (Del is_map name key) is = with_kind (codes "del") is_map (name ∷ key ∷ [])
 command_again (Set name key value) is = refl
 command_again (Clear is_map ver name) is =
     with_kind (codes "clear") is_map (version_words ver ++ name ∷ [])
-    ∙ ap (option_and_then (of_name (Clear is_map))) (after_place ver name [] is)
+    ∙ at_place (λ place. of_word (Clear is_map place)) ver name [] is
 command_again (Prepare is_map name) is = with_kind (codes "prepare") is_map (name ∷ [])
 command_again (Commit is_map ver name) is =
     with_kind (codes "commit") is_map (version_words (Some ver) ++ name ∷ [])
-    ∙ ap (option_and_then (commit_command is_map)) (after_place (Some ver) name [] is)
+    ∙ at_place (committed is_map) (Some ver) name [] is
 
 pub command_found : (command : Command) (words : List (List ℕ)) → Spells command words
     → command_of words ≡ Some command
@@ -95,7 +99,7 @@ record OneWord (make : List ℕ → Command) (words : List (List ℕ)) (c : Comm
   made : make name ≡ c
 
 one_word : (make : List ℕ → Command) (words : List (List ℕ)) (c : Command)
-    → of_one_word make words ≡ Some c → OneWord make words c
+    → of_word make words ≡ Some c → OneWord make words c
 one_word make [] c is = absurd (none-some c is)
 one_word make (name ∷ []) c is =
     record { name = name; words_are = refl; made = same_Some (make name) c is }
@@ -117,16 +121,14 @@ two_words make (name ∷ word ∷ []) c is =
     record { name = name; word = word; words_are = refl; made = same_Some (make name word) c is }
 two_words make (name ∷ word ∷ another ∷ words) c is = absurd (none-some c is)
 
--- words, of which the first may be a version
-record IsAfterVersion (words : List (List ℕ)) (after : AfterVersion) : Type 0 where
-  whole : words ≡ version_words after.ver ++ after.words
-  fits : (name : List ℕ) (rest : List (List ℕ)) → after.words ≡ name ∷ rest
-      → is_place after.ver name ≡ true
-
-at_word : (word digits : List ℕ) → begins_with_at word ≡ true → drop 1 word ≡ digits
-    → word ≡ at_sign ∷ digits
-at_word [] digits at is = absurd (false≢true at)
-at_word (b ∷ bs) digits at is = let first : b ≡ 64 = eqb-true b 64 at in cc
+-- a version, or none, and the words after it, of which the command is made
+record IsVersioned (make : Option ℕ → List (List ℕ) → Option Command) (words : List (List ℕ))
+    (c : Command) : Type 0 where
+  ver : Option ℕ
+  rest : List (List ℕ)
+  whole : words ≡ version_words ver ++ rest
+  fits : (name : List ℕ) (more : List (List ℕ)) → rest ≡ name ∷ more → is_place ver name ≡ true
+  made : make ver rest ≡ Some c
 
 plain_word : (word name : List ℕ) (words rest : List (List ℕ)) → begins_with_at word ≡ false
     → word ∷ words ≡ name ∷ rest → not (begins_with_at name) ≡ true
@@ -135,43 +137,47 @@ plain_word word name words rest plain is =
     subst (λ (w : List ℕ). not (begins_with_at w) ≡ true) same
     (not_from_false (begins_with_at word) plain)
 
-after_number : (word : List ℕ) (words : List (List ℕ)) (given : Option ℕ) (p : AfterVersion)
-    → begins_with_at word ≡ true → version_of_digits (drop 1 word) ≡ given
-    → option_map (with_version words) given ≡ Some p → IsAfterVersion (word ∷ words) p
-after_number word words None p at read is = absurd (none-some p is)
-after_number word words (Some number) p at read is =
-    let written = version_written number (drop 1 word) read in
-    subst (IsAfterVersion (word ∷ words)) (same_Some (with_version words number) p is)
-    (record {
-      whole = ap (λ (w : List ℕ). w ∷ words) (at_word word (decimal number) at written.0);
-      fits = λ name rest rest_is. lt-ltb number 4294967296 written.1;
+without_version : (make : Option ℕ → List (List ℕ) → Option Command) (word : List ℕ)
+    (words : List (List ℕ)) (c : Command) → begins_with_at word ≡ false
+    → make None (word ∷ words) ≡ Some c → IsVersioned make (word ∷ words) c
+without_version make word words c plain made = record {
+  ver = None;
+  rest = word ∷ words;
+  whole = refl;
+  fits = λ name more is. plain_word word name words more plain is;
+  made = made;
+}
+
+after_version : (make : Option ℕ → List (List ℕ) → Option Command) (b : ℕ) (digits : List ℕ)
+    (words : List (List ℕ)) (c : Command) → (b == ascii "@") ≡ true
+    → option_and_then (λ n. make (Some n) words) (version_of_digits digits) ≡ Some c
+    → IsVersioned make ((b ∷ digits) ∷ words) c
+after_version make b digits words c at is =
+    option_and_then_some (λ n. make (Some n) words) (version_of_digits digits) c is (λ n read made.
+    let written = version_written n digits read in
+    let first : b ≡ 64 = eqb-true b 64 at in
+    let same : b ∷ digits ≡ ascii "@" ∷ decimal n = rw (first, written.0) refl in
+    record {
+      ver = Some n;
+      rest = words;
+      whole = ap (λ (w : List ℕ). w ∷ words) same;
+      fits = λ name more rest_is. lt-ltb n 4294967296 written.1;
+      made = made;
     })
 
-after_by : (at : Bool) (word : List ℕ) (words : List (List ℕ)) (p : AfterVersion)
-    → begins_with_at word ≡ at
-    → cond at (option_map (with_version words) (version_of_digits (drop 1 word)))
-    (Some (without_version (word ∷ words))) ≡ Some p
-    → IsAfterVersion (word ∷ words) p
-after_by true word words p at is =
-    after_number word words (version_of_digits (drop 1 word)) p at refl is
-after_by false word words p at is =
-    subst (IsAfterVersion (word ∷ words)) (same_Some (without_version (word ∷ words)) p is)
-    (record {
-      whole = refl;
-      fits = λ name rest rest_is. plain_word word name words rest at rest_is;
-    })
-
-after_words : (words : List (List ℕ)) (p : AfterVersion) → after_version words ≡ Some p
-    → IsAfterVersion words p
-after_words [] p is =
-    subst (IsAfterVersion []) (same_Some (without_version []) p is)
-    (record { whole = refl; fits = λ name rest rest_is. cc })
-after_words (word ∷ words) p is = after_by (begins_with_at word) word words p refl is
+versioned_words : (make : Option ℕ → List (List ℕ) → Option Command) (words : List (List ℕ))
+    (c : Command) → versioned make words ≡ Some c → IsVersioned make words c
+versioned_words make [] c is =
+    record { ver = None; rest = []; whole = refl; fits = λ name more rest_is. cc; made = is }
+versioned_words make ([] ∷ words) c is = without_version make [] words c refl is
+versioned_words make ((b ∷ digits) ∷ words) c is =
+    by_test (b == ascii "@") _ _ c (λ at made. after_version make b digits words c at made)
+    (λ plain made. without_version make (b ∷ digits) words c plain made) is
 
 -- ---- each form
 
 of_one_spells : (verb : List ℕ) (is_map : Bool) (make : List ℕ → Command) (words : List (List ℕ))
-    (c : Command) → of_one_word make words ≡ Some c
+    (c : Command) → of_word make words ≡ Some c
     → ((name : List ℕ) → is_command (make name) ≡ true)
     → ((name : List ℕ) → spelling (make name) ≡ verb ∷ kind_word is_map ∷ name ∷ [])
     → Spells c (verb ∷ kind_word is_map ∷ words)
@@ -201,24 +207,23 @@ of_two_spells verb is_map make words c is fits spelled =
 
 of_name_spells : (verb : List ℕ) (is_map : Bool) (make : Option ℕ → List ℕ → Command)
     (words : List (List ℕ)) (c : Command)
-    → option_and_then (of_name make) (after_version words) ≡ Some c
+    → versioned (λ ver. of_word (make ver)) words ≡ Some c
     → ((ver : Option ℕ) (name : List ℕ) → is_place ver name ≡ true
     → is_command (make ver name) ≡ true)
     → ((ver : Option ℕ) (name : List ℕ)
     → spelling (make ver name) ≡ verb ∷ kind_word is_map ∷ version_words ver ++ name ∷ [])
     → Spells c (verb ∷ kind_word is_map ∷ words)
 of_name_spells verb is_map make words c is fits spelled =
-    option_and_then_some (of_name make) (after_version words) c is (λ p read made.
-    let place = after_words words p read in
-    let one = one_word (make p.ver) p.words c made in
+    let place = versioned_words (λ ver. of_word (make ver)) words c is in
+    let one = one_word (make place.ver) place.rest c place.made in
     subst (λ (d : Command). Spells d (verb ∷ kind_word is_map ∷ words)) one.made
     (record {
-      is = fits p.ver one.name (place.fits one.name [] one.words_are);
+      is = fits place.ver one.name (place.fits one.name [] one.words_are);
       words_are = ap (λ (ws : List (List ℕ)). verb ∷ kind_word is_map ∷ ws)
           (place.whole
-          ∙ ap (λ (ws : List (List ℕ)). version_words p.ver ++ ws) one.words_are)
-          ∙ sym (spelled p.ver one.name);
-    }))
+          ∙ ap (λ (ws : List (List ℕ)). version_words place.ver ++ ws) one.words_are)
+          ∙ sym (spelled place.ver one.name);
+    })
 
 show_spells : (is_map : Bool) (words : List (List ℕ)) (c : Command)
     → show_command is_map words ≡ Some c
@@ -299,19 +304,18 @@ addition_words is_map ver (name ∷ key ∷ value ∷ []) c is =
 addition_words is_map ver (name ∷ key ∷ value ∷ word ∷ words) c is = absurd (none-some c is)
 
 add_spells : (is_map : Bool) (words : List (List ℕ)) (c : Command)
-    → option_and_then (add_command is_map) (after_version words) ≡ Some c
+    → versioned (addition is_map) words ≡ Some c
     → Spells c (codes "add" ∷ kind_word is_map ∷ words)
 add_spells is_map words c is =
-    option_and_then_some (add_command is_map) (after_version words) c is (λ p read made.
-    let place = after_words words p read in
-    let entry = addition_words is_map p.ver p.words c made in
+    let place = versioned_words (addition is_map) words c is in
+    let entry = addition_words is_map place.ver place.rest c place.made in
     record {
       is = entry.fits (place.fits entry.name entry.rest entry.words_are);
       words_are = ap (λ (ws : List (List ℕ)). codes "add" ∷ kind_word is_map ∷ ws)
           (place.whole
-          ∙ ap (λ (ws : List (List ℕ)). version_words p.ver ++ ws) entry.words_are)
+          ∙ ap (λ (ws : List (List ℕ)). version_words place.ver ++ ws) entry.words_are)
           ∙ sym entry.spelled;
-    })
+    }
 
 set_spells : (is_map : Bool) (words : List (List ℕ)) (c : Command)
     → set_command is_map words ≡ Some c
@@ -326,23 +330,22 @@ set_spells true (name ∷ key ∷ value ∷ []) c is =
 set_spells true (name ∷ key ∷ value ∷ word ∷ words) c is = absurd (none-some c is)
 
 commit_spells : (is_map : Bool) (words : List (List ℕ)) (c : Command)
-    → option_and_then (commit_command is_map) (after_version words) ≡ Some c
+    → versioned (λ ver rest. option_and_then (λ n. of_word (Commit is_map n) rest) ver) words ≡ Some c
     → Spells c (codes "commit" ∷ kind_word is_map ∷ words)
 commit_spells is_map words c is =
-    option_and_then_some (commit_command is_map) (after_version words) c is (λ p read made.
-    option_and_then_some (λ number. of_one_word (Commit is_map number) p.words) p.ver c made
+    let place = versioned_words (committed is_map) words c is in
+    option_and_then_some (λ n. of_word (Commit is_map n) place.rest) place.ver c place.made
     (λ number ver_is one_made.
-    let place = after_words words p read in
-    let one = one_word (Commit is_map number) p.words c one_made in
+    let one = one_word (Commit is_map number) place.rest c one_made in
     subst (λ (d : Command). Spells d (codes "commit" ∷ kind_word is_map ∷ words)) one.made
     (record {
       is = subst (λ (v : Option ℕ). is_place v one.name ≡ true) ver_is
           (place.fits one.name [] one.words_are);
       words_are = ap (λ (ws : List (List ℕ)). codes "commit" ∷ kind_word is_map ∷ ws)
           (place.whole
-          ∙ ap (λ (v : Option ℕ). version_words v ++ p.words) ver_is
+          ∙ ap (λ (v : Option ℕ). version_words v ++ place.rest) ver_is
           ∙ ap (λ (ws : List (List ℕ)). version_words (Some number) ++ ws) one.words_are);
-    })))
+    }))
 
 -- ---- all forms
 
@@ -386,26 +389,50 @@ verbs_spell verb is_map words c =
     (λ test is. at (codes "commit") test (commit_spells is_map words c is))
     (λ _ is. absurd (none-some c is)))))))))
 
-kind_is : (word : List ℕ) (is_map : Bool) → kind_of_word word ≡ Some is_map
-    → word ≡ kind_word is_map
-kind_is word is_map is = go (bytes_eq word (codes "map")) (bytes_eq word (codes "acl")) refl refl is
-  where
-    go : (map_test acl_test : Bool) → bytes_eq word (codes "map") ≡ map_test
-        → bytes_eq word (codes "acl") ≡ acl_test
-        → cond map_test (Some true) (cond acl_test (Some false) None) ≡ Some is_map
-        → word ≡ kind_word is_map
-    go true acl_test map_word acl_word is =
-        (bytes_eq-Decides word (codes "map")).0 map_word ∙ ap kind_word (same_Some true is_map is)
-    go false true map_word acl_word is =
-        (bytes_eq-Decides word (codes "acl")).0 acl_word ∙ ap kind_word (same_Some false is_map is)
-    go false false map_word acl_word is = absurd (none-some is_map is)
+-- a second word that is tested for
+kind_spells : (verb kind : List ℕ) (is_map : Bool) (words : List (List ℕ)) (c : Command)
+    → bytes_eq kind (kind_word is_map) ≡ true → command_by verb is_map words ≡ Some c
+    → Spells c (verb ∷ kind ∷ words)
+kind_spells verb kind is_map words c test is =
+    subst (λ (k : List ℕ). Spells c (verb ∷ k ∷ words))
+    (sym ((bytes_eq-Decides kind (kind_word is_map)).0 test)) (verbs_spell verb is_map words c is)
 
 pub command_spells : (command : Command) (words : List (List ℕ)) → command_of words ≡ Some command
     → Spells command words
 command_spells command [] is = absurd (none-some command is)
 command_spells command (verb ∷ []) is = absurd (none-some command is)
 command_spells command (verb ∷ kind ∷ words) is =
-    option_and_then_some (λ is_map. command_by verb is_map words) (kind_of_word kind) command is
-    (λ is_map kind_read made.
-    subst (λ (k : List ℕ). Spells command (verb ∷ k ∷ words)) (sym (kind_is kind is_map kind_read))
-    (verbs_spell verb is_map words command made))
+    by_test (bytes_eq kind (codes "map")) _ _ command
+    (λ test made. kind_spells verb kind true words command test made)
+    (λ _. by_test (bytes_eq kind (codes "acl")) _ _ command
+    (λ test made. kind_spells verb kind false words command test made)
+    (λ _ none. absurd (none-some command none))) is
+
+-- words after `show` and the kind
+pub show_some : {found : Option Command} (is_map : Bool) (words : List (List ℕ))
+    → (length words == 0) ≡ false → found ≡ versioned (λ ver. of_word (Show is_map ver)) words
+    → found ≡ show_command is_map words
+show_some is_map [] some is = absurd (false≢true (sym some))
+show_some is_map (word ∷ words) some is = is
+
+-- ---- the word of the kind
+
+-- the kind that a word gives, by the answers of two tests
+abbrev kind_by : Bool → Bool → Option Bool
+kind_by is_map is_acl = if is_map then Some true else if is_acl then Some false else None
+
+by_kind : (is_map is_acl : Bool) (make : Bool → Option Command) (kind : Option Bool)
+    → kind ≡ kind_by is_map is_acl
+    → option_and_then make kind ≡ (if is_map then make true else if is_acl then make false else None)
+by_kind true is_acl make kind is = rw is refl
+by_kind false true make kind is = rw is refl
+by_kind false false make kind is = rw is refl
+
+-- the command of words, by the kind that the second gives
+pub command_of_kind : (verb word : List ℕ) (words : List (List ℕ)) (kind : Option Bool)
+    → kind ≡ kind_by (bytes_eq word (codes "map")) (bytes_eq word (codes "acl"))
+    → option_and_then (λ is_map. command_by verb is_map words) kind
+    ≡ command_of (verb ∷ word ∷ words)
+command_of_kind verb word words kind is =
+    by_kind (bytes_eq word (codes "map")) (bytes_eq word (codes "acl"))
+    (λ is_map. command_by verb is_map words) kind is

@@ -12,7 +12,7 @@ use Rattle.hx_refs.specs.declared.side.Side.TheVariants as side
 use Rattle.hx_cli.specs.declared.command.Command.{Command}
 use Rattle.hx_cli.specs.declared.command.Command.TheVariants.{ShowAll, Show, Get, Add, AddMany, Del, Set, Clear, Prepare, Commit}
 use Rattle.hx_cli.specs.Commands.{command_of}
-use Rattle.hx_cli.specs.Effects.{adding, addition_effect, command_effect, done_unless, looking, on_resolved, Effect}
+use Rattle.hx_cli.specs.Effects.{adding, addition_effect, command_effect, looking, on_resolved, unless, Effect}
 use Rattle.hx_cli.specs.Payloads.{command_line, outside_line, OpenPayloads}
 
 pub record Keeps (old new : References) : Type 0 where
@@ -35,10 +35,10 @@ change_keeps refs r change = record {
 same_keeps : (refs : References) → Keeps refs refs
 same_keeps refs = record { heads = refl; lists = refl }
 
-done_keeps : (refs after : References) (fault : Option RefFault) (lines : List (List ℕ)) → Keeps refs after
-    → Keeps refs (done_unless refs fault lines after).refs
-done_keeps refs after None lines kept = kept
-done_keeps refs after (Some refusal) lines kept = same_keeps refs
+done_keeps : (refs : References) (fault : Option RefFault) (effect : Effect) → Keeps refs effect.refs
+    → Keeps refs (unless refs fault effect).refs
+done_keeps refs None effect kept = kept
+done_keeps refs (Some refusal) effect kept = same_keeps refs
 
 resolved_keeps : (refs : References) (effect : ℕ → Effect) (answer : Result ℕ RefFault)
     → ((r : ℕ) → Keeps refs (effect r).refs) → Keeps refs (on_resolved refs effect answer).refs
@@ -48,7 +48,7 @@ resolved_keeps refs effect (Err refusal) kept = same_keeps refs
 addition_keeps : (is_map : Bool) (ver : Option ℕ) (name : List ℕ) (pairs : List Pair) (refs : References)
     → Keeps refs (addition_effect is_map ver name pairs refs).refs
 addition_keeps is_map ver name pairs refs =
-    resolved_keeps refs _ (resolution refs name (adding is_map)) (λ r. done_keeps refs _ _ [] (change_keeps refs r _))
+    resolved_keeps refs _ (resolution refs name (adding is_map)) (λ r. done_keeps refs _ _ (change_keeps refs r _))
 
 command_keeps : (command : Command) (refs : References) → Keeps refs (command_effect command refs).refs
 command_keeps (ShowAll is_map) refs = same_keeps refs
@@ -56,18 +56,19 @@ command_keeps (Show is_map ver name) refs =
     resolved_keeps refs _ (resolution refs name (looking is_map)) (λ r. same_keeps refs)
 command_keeps (Get is_map name text) refs =
     resolved_keeps refs _ (resolution refs name (looking is_map)) (λ r. same_keeps refs)
-command_keeps (Add is_map ver name key v) refs = addition_keeps is_map ver name _ refs
+command_keeps (Add is_map ver name key v) refs =
+    addition_keeps is_map ver name (record { key = key; value = v } ∷ []) refs
 command_keeps (AddMany is_map ver name) refs = same_keeps refs
 command_keeps (Del is_map name key) refs =
-    resolved_keeps refs _ (resolution refs name (looking is_map)) (λ r. done_keeps refs _ _ [] (change_keeps refs r _))
+    resolved_keeps refs _ (resolution refs name (looking is_map)) (λ r. done_keeps refs _ _ (change_keeps refs r _))
 command_keeps (Set name key v) refs =
-    resolved_keeps refs _ (resolution refs name side.Map) (λ r. done_keeps refs _ _ [] (change_keeps refs r _))
+    resolved_keeps refs _ (resolution refs name side.Map) (λ r. done_keeps refs _ _ (change_keeps refs r _))
 command_keeps (Clear is_map ver name) refs =
     resolved_keeps refs _ (resolution refs name (looking is_map)) (λ r. change_keeps refs r _)
 command_keeps (Prepare is_map name) refs =
-    resolved_keeps refs _ (resolution refs name (adding is_map)) (λ r. done_keeps refs _ _ _ (change_keeps refs r _))
+    resolved_keeps refs _ (resolution refs name (adding is_map)) (λ r. done_keeps refs _ _ (change_keeps refs r _))
 command_keeps (Commit is_map ver name) refs =
-    resolved_keeps refs _ (resolution refs name (adding is_map)) (λ r. done_keeps refs _ _ [] (change_keeps refs r _))
+    resolved_keeps refs _ (resolution refs name (adding is_map)) (λ r. done_keeps refs _ _ (change_keeps refs r _))
 
 line_keeps : (session : ℕ) (found : Option Command) (payloads : OpenPayloads) (refs : References)
     → Keeps refs (command_line session found payloads refs).refs

@@ -1,14 +1,19 @@
 -- Which entries a word of a removal or of a change of value speaks of.
-use Rattle.std.proofs.Common.{◌≡◌, ℕ, zero, suc, ◌<◌, true, false, List, [], ◌∷◌, length, drop, take, refl, arith}
+use Rattle.std.proofs.Common.{◌≡◌, ℕ, zero, suc, ◌<◌, Bool, true, false, List, [], ◌∷◌, length, drop, take, refl, arith}
 use Rattle.std.specs.Prelude.{codes, Option, None, Some, slice_get}
 use Rattle.std.specs.List.{list_any}
 use Rattle.std.specs.Str.{bytes_eq}
+use Rattle.hx_base.specs.Bytes.{is_given}
 use Rattle.hx_sample.specs.Changes.{has_key}
 use Rattle.hx_sample.specs.Find.{Entry}
 use Rattle.hx_refs.specs.Changes.{deletion_fault, fault_at, value_fault}
 use Rattle.hx_refs.specs.References.{version_entries, Reference, References}
 use Rattle.hx_refs.specs.declared.fault.RefFault.TheVariants.{KeyNotFound}
-use Rattle.hx_cli.specs.Effects.{has_this_number, is_meant, number_after_sign}
+use Rattle.hx_cli.specs.Effects.{is_meant, number_after_sign}
+
+-- the entry has the number, if there is one
+abbrev has_this_number : Option ℕ → Entry → Bool
+has_this_number number entry = is_given number entry.number
 
 pub meant_key : (word : List ℕ) → bytes_eq (take 1 word) (codes "#") ≡ false → is_meant word ≡ has_key word
 meant_key word other = rw other refl

@@ -3,14 +3,12 @@ use Rattle.std.proofs.Common.{◌≡◌, ◌≢◌, ℕ, List, [], ◌∷◌, re
 use Rattle.std.specs.Prelude.{None}
 use Rattle.hx_refs.specs.References.{References}
 use Rattle.hx_cli.specs.Commands.{command_of}
-use Rattle.hx_cli.specs.Effects.{bad_command_code}
+use Rattle.hx_cli.specs.Effects.{refused}
 use Rattle.hx_cli.specs.Payloads.{outside_line, replied, OpenPayloads}
-use Rattle.hx_cli.specs.Replies.{refused_with}
 
 -- words of no command
 pub bad_line : (session : ℕ) (words : List (List ℕ)) (payloads : OpenPayloads) (refs : References) → words ≢ []
     → command_of words ≡ None
-    → outside_line session words payloads refs
-    ≡ replied payloads (record { reply = refused_with bad_command_code; refs = refs })
+    → outside_line session words payloads refs ≡ replied payloads (refused 20 refs)
 bad_line session [] payloads refs some none = absurd (some refl)
 bad_line session (word ∷ words) payloads refs some none = rw none refl

@@ -1,6 +1,6 @@
 -- The lines of references by the numbers of the references.
 use Rattle.std.proofs.Common.{◌≡◌, ℕ, zero, suc, ◌+◌, ◌-◌, ◌<◌, Bool, true, false, List, [], ◌∷◌, length, drop, refl, sym, ap, ◌∙◌, arith}
-use Rattle.std.specs.Prelude.{filter, map, option_map, slice_get, Option, Some, if◌then◌else◌}
+use Rattle.std.specs.Prelude.{codes, map, option_map, slice_get, Option, Some, if◌then◌else◌}
 use Rattle.std.specs.BTreeMap.{insert_entry}
 use Rattle.std.specs.Cmp.{nat_cmp_total}
 use Rattle.std.specs.FinMap as finite
@@ -11,14 +11,17 @@ use Rattle.std.specs.declared.cmp.Ordering.{Ordering}
 use Rattle.std.specs.declared.cmp.Ordering.TheVariants.{Less, Equal, Greater}
 use Rattle.hx_refs.specs.References.{file_of, info_of, Reference, References}
 use Rattle.hx_refs.specs.declared.info.RefInfo.{RefInfo}
-use Rattle.hx_cli.specs.Effects.{by_number, is_told, numbered_line, told_references}
-use Rattle.hx_cli.specs.Replies.{reference_text, references_heading, refused_with, told, ReplyParts}
+use Rattle.hx_cli.specs.Effects.{lines_by_number, told_references}
+use Rattle.hx_cli.specs.Replies.{reference_text, ReplyParts}
 use Rattle.hx_cli.proofs.ReplyLemmas.{with_lines}
 
 -- the lines of the references that are told, in the order of their numbers
 abbrev pub numbered_lines : Bool → List Reference → List (ℕ × List ℕ)
-numbered_lines is_map references =
-    finite.entries (by_number (map numbered_line (filter (is_told is_map) references)))
+numbered_lines is_map references = finite.entries (lines_by_number is_map references)
+
+-- whether a reference is told
+abbrev is_told : Bool → Reference → Bool
+is_told is_map reference = if is_map then reference.two_column else reference.acl
 
 -- ---- an insertion in a map of std is that in a finite map
 
@@ -43,8 +46,8 @@ dropped_all (x ∷ xs) = dropped_all xs
 
 no_lines : (is_map : Bool) → numbered_lines is_map [] ≡ []
 no_lines is_map =
-    nothing_left (finite.entries (by_number []))
-    (sym (len-entries (by_number [])) ∙ len-empty nat_cmp (List ℕ))
+    nothing_left (numbered_lines is_map [])
+    (sym (len-entries (lines_by_number is_map [])) ∙ len-empty nat_cmp (List ℕ))
 
 -- after the last reference there are none
 pub none_after_all : (is_map : Bool) (refs : References) (entries : List (ℕ × List ℕ)) → entries ≡ []
@@ -59,7 +62,7 @@ pub line_more : (is_map : Bool) (reference : Reference) (references : List Refer
     → old ≡ numbered_lines is_map references → new ≡ insert_entry nat_cmp old reference.id line
     → new ≡ numbered_lines is_map (reference ∷ references)
 line_more is_map reference references old new line told text before inserted =
-    let others = by_number (map numbered_line (filter (is_told is_map) references)) in
+    let others = lines_by_number is_map references in
     inserted ∙ ap (λ es. insert_entry nat_cmp es reference.id line) before
     ∙ ap (λ t. insert_entry nat_cmp (finite.entries others) reference.id t) text
     ∙ sym (same_put reference.id (reference_text (info_of reference) reference.file) (finite.entries others))
@@ -130,9 +133,10 @@ line_kept is_map refs r info lines some said untold before =
 -- ---- the reply
 
 pub told_first : (is_map : Bool) (refs : References) (new pushed : ReplyParts) (first : List ℕ) (entries : List (ℕ × List ℕ))
-    → new ≡ refused_with 0 → first ≡ references_heading → entries ≡ numbered_lines is_map refs.references
+    → new ≡ record { code = 0; lines = [] } → first ≡ codes "# id (file)"
+    → entries ≡ numbered_lines is_map refs.references
     → pushed ≡ with_lines new (first ∷ [])
-    → with_lines pushed (map (λ entry. entry.1) entries) ≡ told (told_references is_map refs)
+    → with_lines pushed (map (λ entry. entry.1) entries) ≡ record { code = 0; lines = told_references is_map refs }
 unfolding told_references
 told_first is_map refs new pushed first entries new_is first_is entries_are pushed_is =
     rw (pushed_is, new_is, first_is, entries_are) refl

@@ -8,9 +8,10 @@ use Rattle.hx_text.specs.declared.kinds.By.{By}
 use Rattle.hx_sample.specs.Find.{first_item, Entry}
 use Rattle.hx_sample.specs.Tables.{TableHead}
 use Rattle.hx_refs.specs.References.{References}
-use Rattle.hx_refs.specs.Uses.{ordered_methods, use_parts, use_with, uses_by, uses_from, uses_in_order, uses_of, with_cases, with_first, Use}
+use Rattle.hx_text.specs.Methods.{pattern_methods}
+use Rattle.hx_refs.specs.Uses.{use_parts, use_with, uses_by, uses_from, uses_in_order, uses_of, with_cases, with_first, Use}
 use Rattle.hx_cli.specs.Effects.{found_for, told_uses}
-use Rattle.hx_cli.specs.Replies.{refused_with, told, use_text, ReplyParts}
+use Rattle.hx_cli.specs.Replies.{use_text, ReplyParts}
 use Rattle.hx_cli.proofs.ReplyLemmas.{with_line_first, with_lines, with_no_lines}
 
 -- ---- each use has a head
@@ -80,7 +81,7 @@ ordered_is refs r = refl
 ordered_heads : (refs : References) (r : ℕ) → Each (HasHead refs.heads) (ordered_uses refs r)
 unfolding ordered_uses
 ordered_heads refs r =
-    each_by (HasHead refs.heads) (with_cases ordered_methods) (uses_of refs.heads r)
+    each_by (HasHead refs.heads) (with_cases pattern_methods) (uses_of refs.heads r)
     (each_from refs.heads refs.heads 0 r (λ i. let place : 0 + i ≡ i = omega arith in rw place refl))
 
 few_first : (found : Option Use) (uses : List Use) (n : ℕ) → length uses ≤ n → length (with_first found uses) ≤ suc n
@@ -93,7 +94,7 @@ few_by (way ∷ ways) uses = few_first (use_with way.0 way.1 uses) (uses_by ways
 
 pub few_ordered : (refs : References) (r : ℕ) → length (ordered_uses refs r) ≤ 22
 unfolding ordered_uses
-few_ordered refs r = few_by (with_cases ordered_methods) (uses_of refs.heads r)
+few_ordered refs r = few_by (with_cases pattern_methods) (uses_of refs.heads r)
 
 -- ---- the use at a place
 
@@ -161,10 +162,10 @@ use_line is_map refs text u = use_text is_map u.by u.ci (found_for refs text u.b
 pub record Tells (is_map : Bool) (refs : References) (r : ℕ) (text : List ℕ) (reply : ReplyParts) (k : ℕ) : Type 0 where
   pub reply_is :
       with_lines reply (map (use_line is_map refs text) (drop k (ordered_uses refs r)))
-      ≡ told (told_uses is_map refs r text)
+      ≡ record { code = 0; lines = told_uses is_map refs r text }
   pub within : k ≤ length (ordered_uses refs r)
 
-pub tells_none : (is_map : Bool) (refs : References) (r : ℕ) (text : List ℕ) (reply : ReplyParts) → reply ≡ refused_with 0
+pub tells_none : (is_map : Bool) (refs : References) (r : ℕ) (text : List ℕ) (reply : ReplyParts) → reply ≡ record { code = 0; lines = [] }
     → Tells is_map refs r text reply 0
 unfolding told_uses ordered_uses
 tells_none is_map refs r text reply empty = record { reply_is = rw empty refl; within = omega arith }
@@ -214,7 +215,7 @@ none_from (x ∷ xs) (suc k) none = none_from xs k none
 
 pub tells_all : {is_map : Bool} {refs : References} {r : ℕ} {text : List ℕ} {reply : ReplyParts} {k : ℕ}
     → Tells is_map refs r text reply k → slice_get (ordered_uses refs r) k ≡ None
-    → reply ≡ told (told_uses is_map refs r text)
+    → reply ≡ record { code = 0; lines = told_uses is_map refs r text }
 tells_all {is_map = is_map} {refs = refs} {r = r} {text = text} {reply = reply} {k = k} tells none =
     sym (with_no_lines reply)
     ∙ ap (λ (uses : List Use). with_lines reply (map (use_line is_map refs text) uses)) (sym (none_from (ordered_uses refs r) k none))

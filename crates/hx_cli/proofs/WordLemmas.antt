@@ -1,8 +1,9 @@
 -- The code's one pass: the words so far, with those of what is left, are the words of the line.
-use Rattle.std.proofs.Common.{◌≡◌, ℕ, List, [], ◌∷◌, ◌++◌, map, length, refl, sym, ap, ◌∙◌, append-nil, append_assoc}
-use Rattle.std.specs.Prelude.{Option, None, Some, is_none, filter, filter_map}
+use Rattle.std.proofs.Common.{◌≡◌, ℕ, true, List, [], ◌∷◌, ◌++◌, map, length, refl, sym, ap, ◌∙◌, append-nil, append_assoc, arith}
+use Rattle.std.specs.Prelude.{nat_lt, Option, None, Some, is_none, filter, filter_map}
 use Rattle.std.specs.List.{slice_split, onto_first}
-use Rattle.hx_cli.specs.CommandLine.{is_run, line_bytes, runs, words_of}
+use Rattle.std.proofs.lemmas.Bool.{lt-ltb}
+use Rattle.hx_cli.specs.CommandLine.{line_bytes, runs, words_of}
 
 -- the bytes of a word, none of them a gap
 abbrev pub own_bytes : List ℕ → List (Option ℕ)
@@ -10,7 +11,7 @@ own_bytes word = map (λ b. Some b) word
 
 -- the words of these parts, those that have bytes
 abbrev texts : List (List (Option ℕ)) → List (List ℕ)
-texts parts = map (λ run. filter_map (λ b. b) run) (filter is_run parts)
+texts parts = map (filter_map (λ b. b)) (filter (λ run. nat_lt 0 (length run)) parts)
 
 -- ---- parts
 
@@ -27,10 +28,13 @@ part_at_end : (word : List ℕ) → slice_split is_none (own_bytes word) ≡ own
 part_at_end [] = refl
 part_at_end (b ∷ bs) = ap (onto_first (Some b)) (part_at_end bs)
 
+some_bytes : (b : ℕ) (bs : List ℕ) → nat_lt 0 (length (own_bytes (b ∷ bs))) ≡ true
+some_bytes b bs = lt-ltb 0 (length (own_bytes (b ∷ bs))) (omega arith)
+
 texts_first : (word : List ℕ) (parts : List (List (Option ℕ)))
     → texts (own_bytes word ∷ parts) ≡ texts (own_bytes word ∷ []) ++ texts parts
 texts_first [] parts = refl
-texts_first (b ∷ bs) parts = refl
+texts_first (b ∷ bs) parts = rw (some_bytes b bs) refl
 
 runs_at_gap : (word : List ℕ) (bytes : List (Option ℕ))
     → runs (own_bytes word ++ None ∷ bytes) ≡ runs (own_bytes word) ++ runs bytes
@@ -43,7 +47,7 @@ runs_at_gap word bytes =
 pub one_run : (word : List ℕ) → (length word ≡ 0 → ⊥) → word ∷ [] ≡ runs (own_bytes word)
 one_run [] some = absurd (some refl)
 one_run (b ∷ bs) some =
-    sym (ap texts (part_at_end (b ∷ bs)) ∙ ap (λ (w : List ℕ). w ∷ []) (values (b ∷ bs)))
+    sym (ap texts (part_at_end (b ∷ bs)) ∙ rw (some_bytes b bs) (ap (λ (w : List ℕ). w ∷ []) (values (b ∷ bs))))
 
 one_more : (word : List ℕ) (b : ℕ) (bytes : List (Option ℕ))
     → own_bytes (word ++ b ∷ []) ++ bytes ≡ own_bytes word ++ Some b ∷ bytes

@@ -6,12 +6,12 @@ use Rattle.hx_sample.specs.declared.tables.TableFault.TheVariants as table
 use Rattle.hx_refs.specs.declared.fault.RefFault.{RefFault}
 use Rattle.hx_refs.specs.declared.fault.RefFault.TheVariants as fault
 use Rattle.hx_cli.specs.Effects.{code_of}
-use Rattle.hx_cli.specs.Replies.{refused_with, told, ReplyParts}
+use Rattle.hx_cli.specs.Replies.{ReplyParts}
 
 -- a change that takes no memory
 abbrev pub change_reply : Result ⊤ RefFault → ReplyParts
-change_reply (Ok done) = told []
-change_reply (Err refusal) = refused_with (code_of refusal)
+change_reply (Ok done) = record { code = 0; lines = [] }
+change_reply (Err refusal) = record { code = code_of refusal; lines = [] }
 
 -- a change of values, for which memory may run out
 abbrev pub value_reply : Result ⊤ RefFault → Result ReplyParts NoMemory

@@ -2,15 +2,13 @@
 -- 2.4, section 9.3, `add acl`, `clear acl`, `commit acl`, `del acl`, `get acl`, `prepare acl`,
 -- `show acl`, and the same of `map`, and `set map`). `Spells` is to be read first, and `command_of`
 -- then.
-use Rattle.std.specs.Prelude.{◌≡◌, ℕ, ◌-◌, ◌^◌, ◌&&◌, ◌==◌, nat_lt, Bool, true, false, not, List, [], ◌∷◌, ◌++◌, length, drop, codes, Option, None, Some, option_map, option_and_then, if◌then◌else◌}
+use Rattle.std.specs.Prelude.{◌≡◌, ℕ, ◌-◌, ◌^◌, ◌&&◌, ◌==◌, nat_lt, Bool, true, false, not, List, [], ◌∷◌, ◌++◌, length, codes, Option, None, Some, option_and_then, if◌then◌else◌}
 use Rattle.std.specs.Fmt.{decimal}
 use Rattle.std.specs.Str.{bytes_eq}
+use Rattle.hx_base.specs.Bytes.{ascii}
 use Rattle.hx_text.specs.Number.{number_up_to}
 use Rattle.hx_cli.specs.declared.command.Command.{Command}
 use Rattle.hx_cli.specs.declared.command.Command.TheVariants.{ShowAll, Show, Get, Add, AddMany, Del, Set, Clear, Prepare, Commit}
-
-abbrev pub at_sign : ℕ
-at_sign = 64
 
 -- ---- words
 
@@ -20,7 +18,7 @@ kind_word is_map = if is_map then codes "map" else codes "acl"
 
 -- a version: `@`, and its number
 abbrev pub version_word : ℕ → List ℕ
-version_word number = at_sign ∷ decimal number
+version_word number = ascii "@" ∷ decimal number
 
 -- the word of a version, and none for that which is searched
 abbrev pub version_words : Option ℕ → List (List ℕ)
@@ -59,7 +57,7 @@ is_version number = nat_lt number (2 ^ 32)
 
 abbrev pub begins_with_at : List ℕ → Bool
 begins_with_at [] = false
-begins_with_at (b ∷ bs) = b == at_sign
+begins_with_at (b ∷ bs) = b == ascii "@"
 
 -- a word that begins with `@` names no reference where a version may stand
 abbrev pub is_place : Option ℕ → List ℕ → Bool
@@ -84,7 +82,7 @@ pub record Spells (command : Command) (words : List (List ℕ)) : Type 0 where
   pub is : is_command command ≡ true
   pub words_are : words ≡ spelling command
 
--- ---- versions, as a function of words
+-- ---- versions, as functions of words
 
 -- the version that these digits write, without a zero before them
 abbrev pub version_of_digits : List ℕ → Option ℕ
@@ -92,98 +90,64 @@ version_of_digits digits =
     option_and_then (λ number. if bytes_eq digits (decimal number) then Some number else None)
     (number_up_to (2 ^ 32 - 1) digits)
 
--- a version, or none, and the words after it
-pub record AfterVersion : Type 0 where
-  pub ver : Option ℕ
-  pub words : List (List ℕ)
-
-abbrev pub without_version : List (List ℕ) → AfterVersion
-without_version words = record { ver = None; words = words }
-
-abbrev pub with_version : List (List ℕ) → ℕ → AfterVersion
-with_version words number = record { ver = Some number; words = words }
-
--- the words from where a version may stand; none where a word that begins with `@` is no version
-abbrev pub after_version : List (List ℕ) → Option AfterVersion
-after_version [] = Some (without_version [])
-after_version (word ∷ words) =
-    if begins_with_at word then option_map (with_version words) (version_of_digits (drop 1 word))
-    else Some (without_version (word ∷ words))
+-- What is made of the words of which the first may be a version: of that version, or none, and of
+-- the words after it. Nothing, where a word that begins with `@` is no version.
+abbrev pub versioned : (Option ℕ → List (List ℕ) → Option Command) → List (List ℕ) → Option Command
+versioned make ((b ∷ digits) ∷ words) =
+    if b == ascii "@" then option_and_then (λ n. make (Some n) words) (version_of_digits digits)
+    else make None ((b ∷ digits) ∷ words)
+versioned make words = make None words
 
 -- ---- commands, as functions of words
 
 -- a command of one word
-abbrev pub of_one_word : (List ℕ → Command) → List (List ℕ) → Option Command
-of_one_word make (name ∷ []) = Some (make name)
-of_one_word make _ = None
+abbrev pub of_word : (List ℕ → Command) → List (List ℕ) → Option Command
+of_word make (name ∷ []) = Some (make name)
+of_word make _ = None
 
 -- a command of two words
 abbrev pub of_two_words : (List ℕ → List ℕ → Command) → List (List ℕ) → Option Command
 of_two_words make (name ∷ word ∷ []) = Some (make name word)
 of_two_words make _ = None
 
--- a command of a version, or none, and one word
-abbrev pub of_name : (Option ℕ → List ℕ → Command) → AfterVersion → Option Command
-of_name make after = of_one_word (make after.ver) after.words
-
 -- the words after `show` and the kind
 abbrev pub show_command : Bool → List (List ℕ) → Option Command
 show_command is_map [] = Some (ShowAll is_map)
-show_command is_map (word ∷ words) =
-    option_and_then (of_name (Show is_map)) (after_version (word ∷ words))
+show_command is_map words = versioned (λ ver. of_word (Show is_map ver)) words
 
--- an addition of two words: of the entries that follow, or of a key without a value
-abbrev pub addition_of_two : Bool → Option ℕ → List ℕ → List ℕ → Option Command
-addition_of_two is_map ver name word =
-    if bytes_eq word payload_word then Some (AddMany is_map ver name)
-    else if is_map then None else Some (Add false ver name word [])
-
--- an addition to a version, or to that which is searched
+-- an addition to a version, or to that which is searched: of the entries that follow, of a key
+-- without a value, or in a map of a key and a value
 abbrev pub addition : Bool → Option ℕ → List (List ℕ) → Option Command
-addition is_map ver (name ∷ word ∷ []) = addition_of_two is_map ver name word
+addition is_map ver (name ∷ word ∷ []) =
+    if bytes_eq word (codes "<<") then Some (AddMany is_map ver name)
+    else if is_map then None else Some (Add false ver name word [])
 addition is_map ver (name ∷ key ∷ value ∷ []) =
     if is_map then Some (Add true ver name key value) else None
 addition is_map ver _ = None
-
--- the words after `add`, the kind and where a version may stand
-abbrev pub add_command : Bool → AfterVersion → Option Command
-add_command is_map after = addition is_map after.ver after.words
 
 -- the words after `set` and the kind; only a map has values
 abbrev pub set_command : Bool → List (List ℕ) → Option Command
 set_command true (name ∷ key ∷ value ∷ []) = Some (Set name key value)
 set_command _ _ = None
 
--- the words after `commit`, the kind and the version, which is there
-abbrev pub commit_command : Bool → AfterVersion → Option Command
-commit_command is_map after =
-    option_and_then (λ number. of_one_word (Commit is_map number) after.words) after.ver
-
--- the command of a first word, for lists or for maps, with the words after these two
+-- the command of a first word, for lists or for maps, with the words after these two; a commit
+-- names its version
 abbrev pub command_by : List ℕ → Bool → List (List ℕ) → Option Command
 command_by verb is_map words =
     if bytes_eq verb (codes "show") then show_command is_map words
     else if bytes_eq verb (codes "get") then of_two_words (Get is_map) words
-    else if bytes_eq verb (codes "add")
-    then option_and_then (add_command is_map) (after_version words)
+    else if bytes_eq verb (codes "add") then versioned (addition is_map) words
     else if bytes_eq verb (codes "del") then of_two_words (Del is_map) words
     else if bytes_eq verb (codes "set") then set_command is_map words
-    else if bytes_eq verb (codes "clear")
-    then option_and_then (of_name (Clear is_map)) (after_version words)
-    else if bytes_eq verb (codes "prepare") then of_one_word (Prepare is_map) words
+    else if bytes_eq verb (codes "clear") then versioned (λ ver. of_word (Clear is_map ver)) words
+    else if bytes_eq verb (codes "prepare") then of_word (Prepare is_map) words
     else if bytes_eq verb (codes "commit")
-    then option_and_then (commit_command is_map) (after_version words)
-    else None
-
--- whether a word is that of maps, or that of lists
-abbrev pub kind_of_word : List ℕ → Option Bool
-kind_of_word word =
-    if bytes_eq word (kind_word true) then Some true
-    else if bytes_eq word (kind_word false) then Some false
+    then versioned (λ ver rest. option_and_then (λ n. of_word (Commit is_map n) rest) ver) words
     else None
 
 -- the command that these words spell, if they spell one
 abbrev pub command_of : List (List ℕ) → Option Command
 command_of (verb ∷ kind ∷ words) =
-    option_and_then (λ is_map. command_by verb is_map words) (kind_of_word kind)
+    if bytes_eq kind (codes "map") then command_by verb true words
+    else if bytes_eq kind (codes "acl") then command_by verb false words else None
 command_of _ = None

@@ -1,7 +1,6 @@
-ghost use Rattle.std.specs.Prelude.{◌≡◌};
+ghost use Rattle.std.specs.Prelude.{◌≡◌, []};
 ghost use Rattle.hx_cli.specs.ChangeReplies.{addition_reply, change_reply, value_reply};
 ghost use Rattle.hx_cli.specs.Effects.{code_of};
-ghost use Rattle.hx_cli.specs.Replies.{refused_with};
 
 use crate::reply::Reply;
 use hx_refs::RefFault;
@@ -29,7 +28,7 @@ fn code_of(fault: RefFault) -> u32
 
 /// The reply to a command that is refused.
 pub(crate) fn refusal_reply(alloc: Global, fault: RefFault) -> Reply
-    ensures { result ≡ refused_with (code_of fault) }
+    ensures { result ≡ record { code = code_of fault; lines = [] } }
 {
     Reply::new(alloc, code_of(fault))
 }

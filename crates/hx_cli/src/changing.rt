@@ -1,7 +1,7 @@
 ghost use Rattle.std.specs.Prelude.{◌≡◌, ◌<◌, [], ◌∷◌, IfOk, OnOk, OnErr, length};
 ghost use Rattle.hx_sample.specs.Changes.{ChangeCountsLarge};
 ghost use Rattle.hx_refs.specs.Changes.{after_commit, after_preparation, answer, commit_fault, fault_at, preparation_fault, prepared_version};
-ghost use Rattle.hx_cli.specs.Effects.{addition_effect, command_effect, done_unless, one_pair, AdditionCommandAsksFor};
+ghost use Rattle.hx_cli.specs.Effects.{addition_effect, command_effect, done, unless, AdditionCommandAsksFor};
 ghost use Rattle.hx_cli.specs.Replies.{prepared_text};
 ghost use Rattle.hx_cli.specs.declared.command.Command.TheVariants.{Clear, Commit, Del, Prepare, Set};
 
@@ -21,7 +21,8 @@ use std::sync::ledger::{Blank, Ledger};
 
 /// The one pair of an addition.
 pub(crate) fn one_pair(alloc: Global, key: &[u8], value: &[u8]) -> Result<Pairs, NoMemory>
-    ensures { IfOk result (λ pairs. pairs ≡ one_pair key.now value.now) }
+    ensures { IfOk result (λ pairs.
+        pairs ≡ record { key = key.now; value = value.now } ∷ []) }
 {
     let mut pairs = Pairs::new(alloc);
     pairs.push(key, value)?;
@@ -119,13 +120,13 @@ pub(crate) fn clear(
 fn prepare_at(alloc: Global, refs: &mut Refs, r: u32) -> Result<Reply, NoMemory>
     requires { r < length refs.old.references }
     ensures reply { IfOk result (λ reply. reply
-        ≡ (done_unless refs.old (fault_at refs.old r (preparation_fault refs.old.limits))
-        (prepared_text (prepared_version refs.old r) ∷ [])
-        (after_preparation refs.old r)).reply) }
+        ≡ (unless refs.old (fault_at refs.old r (preparation_fault refs.old.limits))
+        (done (prepared_text (prepared_version refs.old r) ∷ [])
+        (after_preparation refs.old r))).reply) }
     ensures refs { OnOk result (refs.new
-        ≡ (done_unless refs.old (fault_at refs.old r (preparation_fault refs.old.limits))
-        (prepared_text (prepared_version refs.old r) ∷ [])
-        (after_preparation refs.old r)).refs) }
+        ≡ (unless refs.old (fault_at refs.old r (preparation_fault refs.old.limits))
+        (done (prepared_text (prepared_version refs.old r) ∷ [])
+        (after_preparation refs.old r))).refs) }
     ensures kept { OnErr result (refs.new ≡ refs.old) }
 {
     let version = u64::from(refs.info(r).next) + 1;

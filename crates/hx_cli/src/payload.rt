@@ -2,7 +2,8 @@ ghost use Rattle.std.specs.Prelude.{◌≡◌, IfOk, OnOk, OnErr};
 ghost use Rattle.std.specs.List.{list_all};
 ghost use Rattle.hx_base.specs.Bytes.{is_blank};
 ghost use Rattle.hx_sample.specs.Changes.{ChangeCountsLarge};
-ghost use Rattle.hx_cli.specs.Payloads.{ends_payload, new_payload, payload_effect, with_line, PayloadAsksFor};
+ghost use Rattle.hx_cli.specs.Effects.{addition_effect};
+ghost use Rattle.hx_cli.specs.Payloads.{new_payload, with_line, PayloadAsksFor};
 
 use crate::changing::add;
 use crate::reply::Reply;
@@ -21,7 +22,7 @@ fn is_blank(byte: u8) -> bool
 
 /// Whether a line is empty or has blanks alone, which ends a payload.
 pub(crate) fn ends_payload(text: &[u8]) -> bool
-    ensures { result ≡ ends_payload text.now }
+    ensures { result ≡ list_all is_blank text.now }
 {
     text.iter().all(|byte| is_blank(*byte))
 }
@@ -76,8 +77,12 @@ impl Payload {
         refs: &mut Refs,
         maker: &mut M,
     ) -> Result<Reply, TableFault>
-        ensures reply { IfOk result (λ reply. reply ≡ (payload_effect self.now refs.old).reply) }
-        ensures refs { OnOk result (refs.new ≡ (payload_effect self.now refs.old).refs) }
+        ensures reply { IfOk result (λ reply. reply
+            ≡ (addition_effect self.now.is_map self.now.ver self.now.name self.now.pairs
+            refs.old).reply) }
+        ensures refs { OnOk result (refs.new
+            ≡ (addition_effect self.now.is_map self.now.ver self.now.name self.now.pairs
+            refs.old).refs) }
         ensures kept { OnErr result (refs.new ≡ refs.old) }
         ensures large { ChangeCountsLarge result (PayloadAsksFor self.now refs.old)
             (record { too_large = M.too_large maker.old; large = M.large maker.old })

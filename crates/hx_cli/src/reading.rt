@@ -1,12 +1,13 @@
-ghost use Rattle.std.specs.Prelude.{◌≡◌, ◌≢◌, ◌<◌, ◌↔◌, None, Some, [], length, slice_index};
-ghost use Rattle.std.specs.Prelude.{IfOk, IfSome, IsErrOf, IsTrue, MatchOption, option_and_then};
+ghost use Rattle.std.specs.Prelude.{◌≡◌, ◌≢◌, ◌<◌, ◌↔◌, ℕ, Option, None, Some, List, [], ◌∷◌};
+ghost use Rattle.std.specs.Prelude.{IfOk, IfSome, IsErrOf, IsTrue, MatchOption, codes, false, option_and_then};
+ghost use Rattle.std.specs.Prelude.{if◌then◌else◌, length, slice_index, true};
+ghost use Rattle.std.specs.Str.{bytes_eq};
 ghost use Rattle.hx_cli.specs.CommandLine.{words_of};
-ghost use Rattle.hx_cli.specs.Commands.{add_command, addition, addition_of_two, after_version};
-ghost use Rattle.hx_cli.specs.Commands.{command_by, command_of, commit_command, kind_of_word};
-ghost use Rattle.hx_cli.specs.Commands.{of_name, of_one_word, of_two_words, set_command};
-ghost use Rattle.hx_cli.specs.Commands.{show_command, Spells, version_of_digits};
+ghost use Rattle.hx_cli.specs.Commands.{addition, command_by, command_of, of_two_words};
+ghost use Rattle.hx_cli.specs.Commands.{of_word, set_command, show_command, Spells};
+ghost use Rattle.hx_cli.specs.Commands.{version_of_digits, versioned};
 ghost use Rattle.hx_cli.specs.declared.command.Command.{Command};
-ghost use Rattle.hx_cli.specs.declared.command.Command.TheVariants.{Clear, Del, Get, Prepare};
+ghost use Rattle.hx_cli.specs.declared.command.Command.TheVariants.{Clear, Commit, Del, Get, Prepare};
 
 use crate::command::Command;
 use crate::fault::CommandFault;
@@ -47,6 +48,7 @@ pub fn read_command(alloc: Global, line: &[u8]) -> Result<Option<Command>, Comma
 }
 
 /// The command that these words spell, if they spell one.
+#[tactic(auto, using(crate::proofs::CommandLemmas::command_of_kind))]
 fn command_of(alloc: Global, words: &Items<Octets>) -> Result<Option<Command>, NoMemory>
     ensures { IfOk result (λ found. found ≡ command_of words.now) }
 {
@@ -64,7 +66,8 @@ fn command_of(alloc: Global, words: &Items<Octets>) -> Result<Option<Command>, N
 
 /// Whether a word is that of maps, or that of lists.
 fn kind_of_word(word: &[u8]) -> Option<bool>
-    ensures { result ≡ kind_of_word word.now }
+    ensures { result ≡ (if bytes_eq word.now (codes "map") then Some true
+        else if bytes_eq word.now (codes "acl") then Some false else None) }
 {
     if word == b"map".as_slice() {
         Some(true)
@@ -114,8 +117,10 @@ struct AfterVersion<'a> {
 
 /// The words from where a version may stand. None where a word that begins with `@` is no version.
 fn after_version(words: &[Octets]) -> Option<AfterVersion<'_>>
-    ensures { MatchOption result (after_version words.now ≡ None) (λ after.
-        after_version words.now ≡ Some (record { ver = after.ver; words = after.words.now })) }
+    ensures { MatchOption result
+        ((make : Option ℕ → List (List ℕ) → Option Command) → versioned make words.now ≡ None)
+        (λ after. (make : Option ℕ → List (List ℕ) → Option Command)
+        → versioned make words.now ≡ make after.ver after.words.now) }
 {
     let Some((word, rest)) = words.split_first() else {
         return Some(AfterVersion { ver: None, words });
@@ -184,8 +189,7 @@ fn get_command(alloc: Global, is_map: bool, words: &[Octets]) -> Result<Option<C
 
 /// The words after `add` and the kind.
 fn add_command(alloc: Global, is_map: bool, words: &[Octets]) -> Result<Option<Command>, NoMemory>
-    ensures { IfOk result (λ found.
-        found ≡ option_and_then (add_command is_map) (after_version words.now)) }
+    ensures { IfOk result (λ found. found ≡ versioned (addition is_map) words.now) }
 {
     match after_version(words) {
         Some(after) => addition(alloc, is_map, after.ver, after.words),
@@ -228,7 +232,8 @@ fn addition_of_two(
     name: &[u8],
     word: &[u8],
 ) -> Result<Option<Command>, NoMemory>
-    ensures { IfOk result (λ found. found ≡ addition_of_two is_map ver name.now word.now) }
+    ensures { IfOk result (λ found.
+        found ≡ addition is_map ver (name.now ∷ word.now ∷ [])) }
 {
     if word == b"<<".as_slice() {
         Ok(Some(Command::AddMany {
@@ -283,7 +288,7 @@ fn set_command(alloc: Global, is_map: bool, words: &[Octets]) -> Result<Option<C
 /// The words after `clear` and the kind.
 fn clear_command(alloc: Global, is_map: bool, words: &[Octets]) -> Result<Option<Command>, NoMemory>
     ensures { IfOk result (λ found.
-        found ≡ option_and_then (of_name (Clear is_map)) (after_version words.now)) }
+        found ≡ versioned (λ ver. of_word (Clear is_map ver)) words.now) }
 {
     let Some(after) = after_version(words) else {
         return Ok(None);
@@ -304,7 +309,7 @@ fn prepare_command(
     is_map: bool,
     words: &[Octets],
 ) -> Result<Option<Command>, NoMemory>
-    ensures { IfOk result (λ found. found ≡ of_one_word (Prepare is_map) words.now) }
+    ensures { IfOk result (λ found. found ≡ of_word (Prepare is_map) words.now) }
 {
     let [name] = words else {
         return Ok(None);
@@ -321,8 +326,8 @@ fn commit_command(
     is_map: bool,
     words: &[Octets],
 ) -> Result<Option<Command>, NoMemory>
-    ensures { IfOk result (λ found.
-        found ≡ option_and_then (commit_command is_map) (after_version words.now)) }
+    ensures { IfOk result (λ found. found ≡ versioned
+        (λ ver rest. option_and_then (λ n. of_word (Commit is_map n) rest) ver) words.now) }
 {
     let Some(after) = after_version(words) else {
         return Ok(None);

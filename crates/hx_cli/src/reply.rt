@@ -1,6 +1,5 @@
 ghost use Rattle.std.specs.Prelude.{◌≡◌, [], ◌∷◌, ◌++◌, length, slice_get, OnOk, OnErr};
 ghost use Rattle.std.specs.Option.{option_copied};
-ghost use Rattle.hx_cli.specs.Replies.{refused_with};
 
 use hx_ast::Items;
 use hx_text::{NoMemory, Octets};
@@ -26,7 +25,7 @@ impl Model for Reply {
 impl Reply {
     /// A reply without lines. It takes no memory.
     pub(crate) fn new(alloc: Global, code: u32) -> Reply
-        ensures { result ≡ refused_with code }
+        ensures { result ≡ record { code = code; lines = [] } }
     {
         Reply {
             code,

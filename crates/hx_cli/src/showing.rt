@@ -1,10 +1,10 @@
-ghost use Rattle.std.specs.Prelude.{◌≡◌, ◌<◌, IfOk, OnOk, filter, length, map, if◌then◌else◌};
+ghost use Rattle.std.specs.Prelude.{◌≡◌, ◌<◌, IfOk, OnOk, length, map, if◌then◌else◌};
 ghost use Rattle.std.specs.BTreeMap.{insert_entry};
 ghost use Rattle.std.specs.FinMap as finite;
 ghost use Rattle.std.specs.Ordering.{nat_cmp};
 ghost use Rattle.hx_refs.specs.References.{entries_in, file_of};
-ghost use Rattle.hx_cli.specs.Effects.{by_number, command_effect, is_told, numbered_line, told_references, told_uses};
-ghost use Rattle.hx_cli.specs.Replies.{entry_text, reference_text, told};
+ghost use Rattle.hx_cli.specs.Effects.{command_effect, lines_by_number, told_references, told_uses};
+ghost use Rattle.hx_cli.specs.Replies.{entry_text, reference_text};
 ghost use Rattle.hx_cli.specs.declared.command.Command.TheVariants.{Get, Show};
 
 use crate::change_replies::refusal_reply;
@@ -49,8 +49,8 @@ fn lines_by_number(
     refs: &Refs,
     is_map: bool,
 ) -> Result<BTreeMap<u32, Octets>, NoMemory>
-    ensures { IfOk result (λ lines. lines.entries ≡ finite.entries
-        (by_number (map numbered_line (filter (is_told is_map) refs.now.references)))) }
+    ensures { IfOk result (λ lines.
+        lines.entries ≡ finite.entries (lines_by_number is_map refs.now.references)) }
 {
     let mut lines = BTreeMap::new(alloc);
     // From the last on, since of a number that stood twice the first reference would be told.
@@ -66,7 +66,8 @@ fn lines_by_number(
 
 /// `show acl`, `show map`: the references, in the order of their numbers.
 pub(crate) fn show_all(alloc: Global, refs: &Refs, is_map: bool) -> Result<Reply, NoMemory>
-    ensures { IfOk result (λ reply. reply ≡ told (told_references is_map refs.now)) }
+    ensures { IfOk result (λ reply.
+        reply ≡ record { code = 0; lines = told_references is_map refs.now }) }
 {
     let mut lines = lines_by_number(alloc, refs, is_map)?;
     let mut reply = Reply::new(alloc, 0);
@@ -86,8 +87,8 @@ fn entries_reply(
     ver: Option<u32>,
 ) -> Result<Reply, NoMemory>
     requires { r < length refs.now.references }
-    ensures { IfOk result (λ reply.
-        reply ≡ told (map (entry_text is_map) (entries_in refs.now r ver))) }
+    ensures { IfOk result (λ reply. reply
+        ≡ record { code = 0; lines = map (entry_text is_map) (entries_in refs.now r ver) }) }
 {
     let mut reply = Reply::new(alloc, 0);
     let mut entries = refs.entries(r, ver);
@@ -128,7 +129,8 @@ fn uses_reply<L: Ledger>(
     requires name { blank.name ≡ L.name }
     requires parts { blank.parts ≡ L.parts }
     requires some { 0 < L.parts }
-    ensures { IfOk result (λ reply. reply ≡ told (told_uses is_map refs.now r text.now)) }
+    ensures { IfOk result (λ reply.
+        reply ≡ record { code = 0; lines = told_uses is_map refs.now r text.now }) }
 {
     let mut steps = Steps::<L>::open(blank);
     let mut reply = Reply::new(alloc, 0);

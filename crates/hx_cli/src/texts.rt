@@ -1,7 +1,11 @@
-ghost use Rattle.std.specs.Prelude.{◌≡◌, [], ◌++◌, IfOk, OnOk, option_copied, option_map, unwrap_or};
+ghost use Rattle.std.specs.Prelude.{◌≡◌, [], ◌++◌, IfOk, OnOk, codes, option_copied, option_map};
+ghost use Rattle.std.specs.Prelude.{if◌then◌else◌, unwrap_or};
+ghost use Rattle.std.specs.Option.{option_map_or};
 ghost use Rattle.std.specs.Fmt.{decimal};
+ghost use Rattle.std.specs.Int.{to_be_bytes, w64};
+ghost use Rattle.hex.specs.Hex.{encode_lower};
 ghost use Rattle.hx_sample.specs.Tables.{entry_of};
-ghost use Rattle.hx_cli.specs.Replies.{case_name, entry_text, found_text, method_name, number_text, prepared_text, reference_text, references_heading, use_text, value_column};
+ghost use Rattle.hx_cli.specs.Replies.{entry_text, prepared_text, reference_text, use_text};
 
 use hx_refs::RefInfo;
 use hx_sample::Hit;
@@ -16,9 +20,9 @@ fn append_decimal(line: &mut Octets, number: u64) -> Result<(), NoMemory>
     line.push_all(digits.format(number).as_bytes())
 }
 
-#[tactic(auto, unfolding(crate::specs::Replies::number_text))]
 fn append_number(line: &mut Octets, number: u64) -> Result<(), NoMemory>
-    ensures { OnOk result (line.new ≡ line.old ++ number_text number) }
+    ensures { OnOk result
+        (line.new ≡ line.old ++ (codes "0x" ++ encode_lower (to_be_bytes w64 number))) }
 {
     let mut digits = [0; 16];
     let Ok(()) = hex::encode_to_slice(number.to_be_bytes(), &mut digits) else {
@@ -29,7 +33,8 @@ fn append_number(line: &mut Octets, number: u64) -> Result<(), NoMemory>
 }
 
 fn append_value(line: &mut Octets, is_map: bool, value: &[u8]) -> Result<(), NoMemory>
-    ensures { OnOk result (line.new ≡ line.old ++ value_column is_map value.now) }
+    ensures { OnOk result
+        (line.new ≡ line.old ++ (if is_map then codes " " ++ value.now else [])) }
 {
     if !is_map {
         return Ok(());
@@ -49,8 +54,8 @@ fn append_entry(line: &mut Octets, is_map: bool, entry: &Hit<'_>) -> Result<(), 
 }
 
 fn append_found(line: &mut Octets, is_map: bool, found: &Option<Hit<'_>>) -> Result<(), NoMemory>
-    ensures { OnOk result
-        (line.new ≡ line.old ++ found_text is_map (option_map entry_of found.now)) }
+    ensures { OnOk result (line.new ≡ line.old
+        ++ option_map_or (entry_text is_map) (option_map entry_of found.now) (codes "none")) }
 {
     match found {
         Some(entry) => append_entry(line, is_map, entry),
@@ -58,28 +63,8 @@ fn append_found(line: &mut Octets, is_map: bool, found: &Option<Hit<'_>>) -> Res
     }
 }
 
-fn method_name(by: By) -> &'static [u8]
-    ensures { result.now ≡ method_name by }
-{
-    match by {
-        By::Found => b"found",
-        By::Bool => b"bool",
-        By::Int => b"int",
-        By::Ip => b"ip",
-        By::Bin => b"bin",
-        By::Len => b"len",
-        By::Str => b"str",
-        By::Beg => b"beg",
-        By::End => b"end",
-        By::Sub => b"sub",
-        By::Dir => b"dir",
-        By::Dom => b"dom",
-        By::Reg => b"reg",
-    }
-}
-
 fn case_name(ci: bool) -> &'static [u8]
-    ensures { result.now ≡ case_name ci }
+    ensures { result.now ≡ (if ci then codes "ci" else codes "cs") }
 {
     if ci { b"ci" } else { b"cs" }
 }
@@ -105,7 +90,7 @@ pub(crate) fn use_line(
     ensures { IfOk result (λ line.
         line ≡ use_text is_map by ci (option_map entry_of found.now)) }
 {
-    let mut line = Octets::copy(alloc, method_name(by))?;
+    let mut line = Octets::copy(alloc, by.name())?;
     line.push_all(b" ")?;
     line.push_all(case_name(ci))?;
     line.push_all(b" ")?;
@@ -115,7 +100,7 @@ pub(crate) fn use_line(
 
 /// The line above the references.
 pub(crate) fn heading(alloc: Global) -> Result<Octets, NoMemory>
-    ensures { IfOk result (λ line. line ≡ references_heading) }
+    ensures { IfOk result (λ line. line ≡ codes "# id (file)") }
 {
     Octets::copy(alloc, b"# id (file)")
 }
@@ -130,7 +115,7 @@ fn append_file(line: &mut Octets, file: Option<&[u8]>) -> Result<(), NoMemory>
 }
 
 /// The line of a reference: its number, its file, its versions, and the number of its entries.
-#[tactic(auto, unfolding(crate::specs::Replies::reference_text))]
+#[tactic(auto, unfolding(crate::specs::Replies::reference_line))]
 pub(crate) fn reference_line(
     alloc: Global,
     info: RefInfo,

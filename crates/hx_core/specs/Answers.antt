@@ -1,5 +1,5 @@
 -- The lines that answer an event: a request, or a line of the management socket.
-use Rattle.std.specs.Prelude.{ℕ, List, [], ◌++◌, ◌&&◌, ◌==◌, Bool, true, false, ◌∷◌, codes, Option, None, Some, if◌then◌else◌}
+use Rattle.std.specs.Prelude.{ℕ, List, [], ◌++◌, ◌&&◌, ◌==◌, Bool, true, false, ◌∷◌, codes, unwrap_or, if◌then◌else◌}
 use Rattle.std.specs.Fmt.{decimal}
 use Rattle.std.specs.List.{flat_map}
 use Rattle.std.specs.Str.{bytes_eq}
@@ -8,18 +8,13 @@ use Rattle.hx_rules.specs.declared.Verdict.{Verdict}
 use Rattle.hx_rules.specs.declared.Verdict.TheVariants.{Deny, Error, Pass, Redirect}
 use Rattle.hx_cli.specs.Replies.{ReplyParts}
 
--- the answer to a request whose bytes begin with no head of at most 101 header lines
-abbrev pub bad_line : ℕ → List ℕ
-bad_line number = decimal number ++ codes " bad 400\n"
-
 -- ---- heads
 
 abbrev pub are_same_lines : List (List ℕ × List ℕ) → List (List ℕ × List ℕ) → Bool
 are_same_lines [] [] = true
-are_same_lines [] (line ∷ lines) = false
-are_same_lines (line ∷ lines) [] = false
 are_same_lines (line ∷ lines) (other ∷ others) =
     bytes_eq line.0 other.0 && bytes_eq line.1 other.1 && are_same_lines lines others
+are_same_lines _ _ = false
 
 -- two heads have the same method, target and version, and the same header lines
 abbrev pub is_same_head : Parts → Parts → Bool
@@ -42,23 +37,15 @@ changed_text read made = if is_same_head read made then [] else head_text made
 
 -- ---- verdicts
 
-abbrev pub backend_text : Option (List ℕ) → List ℕ
-backend_text None = codes "-"
-backend_text (Some name) = name
-
 -- what follows the number of a request: its verdict; after one that passes, the head, where it was
 -- changed; after one that is sent elsewhere, the location
 abbrev pub verdict_text : Verdict → Parts → Parts → List ℕ
 verdict_text (Pass backend) read made =
-    codes " pass " ++ (backend_text backend ++ (codes "\n" ++ changed_text read made))
+    codes " pass " ++ (unwrap_or backend (codes "-") ++ (codes "\n" ++ changed_text read made))
 verdict_text (Deny code) read made = codes " deny " ++ (decimal code ++ codes "\n")
 verdict_text (Redirect code location) read made =
     codes " redirect " ++ (decimal code ++ (codes "\n| location: " ++ (location ++ codes "\n")))
 verdict_text Error read made = codes " error 500\n"
-
--- the lines that answer the request with this number, where its head was read so and made so
-abbrev pub answer_text : ℕ → Verdict → Parts → Parts → List ℕ
-answer_text number verdict read made = decimal number ++ verdict_text verdict read made
 
 -- ---- lines of the management socket
 
@@ -91,8 +78,3 @@ reply_end code =
 abbrev pub reply_text : ℕ → ReplyParts → List ℕ
 reply_text session reply =
     flat_map (told_line session) reply.lines ++ told_line session (reply_end reply.code)
-
--- the lines that answer a line of a session, if it has a reply
-abbrev pub session_text : ℕ → Option ReplyParts → List ℕ
-session_text session None = []
-session_text session (Some reply) = reply_text session reply

@@ -1,7 +1,9 @@
 -- One event of a record: whether it may stand where it stands, its answer, and the world after it.
-use Rattle.std.specs.Prelude.{◌≡◌, ⊤, ℕ, ◌+◌, ◌-◌, ◌^◌, min, List, [], Option, None, Some, Result, Err, if◌then◌else◌}
+use Rattle.std.specs.Prelude.{◌≡◌, ⊤, ℕ, ◌+◌, ◌-◌, ◌^◌, min, Bool, List, [], ◌++◌, codes, Option, None, Some, Result, Err, if◌then◌else◌}
 use Rattle.std.specs.FinMap as map
-use Rattle.hx_cli.specs.Payloads.{line_effect, LineAsksFor, LineEffect}
+use Rattle.std.specs.Fmt.{decimal}
+use Rattle.std.specs.Option.{option_map_or}
+use Rattle.hx_cli.specs.Payloads.{line_effect, LineAsksFor}
 use Rattle.hx_fetch.specs.declared.Conn.{Conn as Connection}
 use Rattle.hx_http.specs.Head.{Head, head_of, many, message, none}
 use Rattle.hx_http.specs.Parts.{Parts}
@@ -13,21 +15,21 @@ use Rattle.hx_refs.specs.References.{References}
 use Rattle.hx_rules.specs.Failures.{RulesAskFor}
 use Rattle.hx_rules.specs.Verdicts.{evaluation, Evaluation, start}
 use Rattle.hx_sample.specs.Vars.{after_request, after_session}
-use Rattle.hx_core.specs.Answers.{answer_text, bad_line, session_text}
+use Rattle.hx_core.specs.Answers.{reply_text, verdict_text}
 use Rattle.hx_core.specs.World.{refs_view, World}
 use Rattle.hx_core.specs.declared.fault.StepFault.{StepFault}
 use Rattle.hx_core.specs.declared.fault.StepFault.TheVariants.{UnknownConn, ConnOpen, TooLarge}
 
 -- ---- events that may not stand where they stand
 
+abbrev pub is_open : World → ℕ → Bool
+is_open world id = map.contains_key world.connections id
+
 -- a request or an end of a connection that isn't open, and the opening of one that is
 abbrev pub refusal_of : World → Event → Option StepFault
-refusal_of world (Conn id src src_port dst dst_port) =
-    if map.contains_key world.connections id then Some ConnOpen else None
-refusal_of world (Req id bytes) =
-    if map.contains_key world.connections id then None else Some UnknownConn
-refusal_of world (Close id) =
-    if map.contains_key world.connections id then None else Some UnknownConn
+refusal_of world (Conn id _ _ _ _) = if is_open world id then Some ConnOpen else None
+refusal_of world (Req id bytes) = if is_open world id then None else Some UnknownConn
+refusal_of world (Close id) = if is_open world id then None else Some UnknownConn
 refusal_of world (Cli session text) = None
 
 -- ---- requests
@@ -44,38 +46,20 @@ request_evaluation world conn head =
 abbrev pub after_number : World → World
 after_number world = record world { requests = next_number world.requests }
 
--- the world after the rules: the variables of the request end with it
-abbrev pub after_evaluation : Evaluation References → World → World
-after_evaluation made world = record world {
-  requests = next_number world.requests;
-  vars = after_request made.state.vars;
-  refs = made.state.tables;
-}
-
--- the world after a request; the rules aren't asked where its bytes begin with no head
+-- The world after a request: the variables of the request end with it. The rules aren't asked where
+-- its bytes begin with no head.
 abbrev pub after_head : World → Connection → Head → World
 after_head world conn (message head len) =
-    after_evaluation (request_evaluation world conn head) world
-after_head world conn many = after_number world
-after_head world conn none = after_number world
-
-abbrev pub after_request_by : World → Option Connection → List ℕ → World
-after_request_by world None bytes = after_number world
-after_request_by world (Some conn) bytes = after_head world conn (head_of bytes)
-
-abbrev pub evaluation_text : ℕ → Parts → Evaluation References → List ℕ
-evaluation_text number head made = answer_text number made.verdict head made.state.message
+    let state = (request_evaluation world conn head).state in
+    record (after_number world) { vars = after_request state.vars; refs = state.tables }
+after_head world conn _ = after_number world
 
 -- the lines that answer a request
 abbrev pub head_answer : World → Connection → Head → List ℕ
 head_answer world conn (message head len) =
-    evaluation_text (next_number world.requests) head (request_evaluation world conn head)
-head_answer world conn many = bad_line (next_number world.requests)
-head_answer world conn none = bad_line (next_number world.requests)
-
-abbrev pub request_answer : World → Option Connection → List ℕ → List ℕ
-request_answer world None bytes = []
-request_answer world (Some conn) bytes = head_answer world conn (head_of bytes)
+    let made = request_evaluation world conn head in
+    decimal (next_number world.requests) ++ verdict_text made.verdict head made.state.message
+head_answer world conn _ = decimal (next_number world.requests) ++ codes " bad 400\n"
 
 -- a rule asks for this expression where it is evaluated on a request with this head
 abbrev pub HeadAsksFor : World → Connection → Head → ExpressionText → Type 0
@@ -88,41 +72,30 @@ abbrev pub RequestAsksFor : World → Option Connection → List ℕ → Express
 RequestAsksFor world None bytes text = ⊥
 RequestAsksFor world (Some conn) bytes text = HeadAsksFor world conn (head_of bytes) text
 
--- ---- lines of the management socket
-
-abbrev pub session_effect : World → ℕ → List ℕ → LineEffect
-session_effect world session text = line_effect session text world.payloads world.refs
-
-abbrev pub after_line : LineEffect → World → World
-after_line effect world = record world { refs = effect.refs; payloads = effect.payloads }
-
 -- ---- events
 
 abbrev pub world_after : World → Event → World
 world_after world (Conn id src src_port dst dst_port) =
-    record world {
-      connections = map.insert world.connections id (record {
-        id = id;
-        src = src;
-        src_port = src_port;
-        dst = dst;
-        dst_port = dst_port;
-      });
-    }
-world_after world (Req id bytes) = after_request_by world (map.get world.connections id) bytes
-world_after world (Close id) = record world {
-  connections = map.remove world.connections id;
-  vars = after_session world.vars id;
-}
-world_after world (Cli session text) = after_line (session_effect world session text) world
+    let conn : Connection =
+    record { id = id; src = src; src_port = src_port; dst = dst; dst_port = dst_port } in
+    record world { connections = map.insert world.connections id conn }
+world_after world (Req id bytes) =
+    option_map_or (λ conn. after_head world conn (head_of bytes)) (map.get world.connections id)
+    (after_number world)
+world_after world (Close id) =
+    let connections = map.remove world.connections id in
+    record world { connections = connections; vars = after_session world.vars id }
+world_after world (Cli session text) =
+    let effect = line_effect session text world.payloads world.refs in
+    record world { refs = effect.refs; payloads = effect.payloads }
 
 -- the answer to an event: the lines of a request, and those of a reply; to any other nothing
 abbrev pub answer_of : World → Event → List ℕ
-answer_of world (Conn id src src_port dst dst_port) = []
-answer_of world (Req id bytes) = request_answer world (map.get world.connections id) bytes
-answer_of world (Close id) = []
+answer_of world (Req id bytes) =
+    option_map_or (λ conn. head_answer world conn (head_of bytes)) (map.get world.connections id) []
 answer_of world (Cli session text) =
-    session_text session (session_effect world session text).reply
+    option_map_or (reply_text session) (line_effect session text world.payloads world.refs).reply []
+answer_of world _ = []
 
 -- an event reads a key as this expression
 abbrev pub EventAsksFor : World → Event → ExpressionText → Type 0

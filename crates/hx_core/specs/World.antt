@@ -2,14 +2,14 @@
 use Rattle.std.specs.Prelude.{ℕ, length, Option, None}
 use Rattle.std.specs.FinMap as map
 use Rattle.std.specs.Ordering.{nat_cmp}
-use Rattle.hx_cli.specs.Payloads.{no_payloads, OpenPayloads}
+use Rattle.hx_cli.specs.Payloads.{OpenPayloads}
 use Rattle.hx_fetch.specs.declared.Conn.{Conn}
 use Rattle.hx_refs.specs.References.{References, searched_lists}
 use Rattle.hx_refs.specs.TableChanges.{after_table_change}
 use Rattle.hx_rules.specs.Programs.{Rules}
-use Rattle.hx_rules.specs.State.{table_view, TableView}
+use Rattle.hx_rules.specs.State.{TableView}
 use Rattle.hx_rules.specs.Tables.{HasHeads, HasLists}
-use Rattle.hx_sample.specs.Vars.{no_vars, Scopes}
+use Rattle.hx_sample.specs.Vars.{Scopes}
 use Rattle.hx_core.specs.declared.fault.StepFault.{StepFault}
 
 -- The world between two events: the rules of the configuration, the connections that are open by
@@ -29,14 +29,14 @@ first_world rules refs = record {
   rules = rules;
   connections = map.empty;
   requests = 0;
-  vars = no_vars;
+  vars = map.empty;
   refs = refs;
-  payloads = no_payloads;
+  payloads = map.empty;
 }
 
 -- references as rules know them
 abbrev pub refs_view : TableView References
-refs_view = table_view (λ refs. refs.heads) searched_lists after_table_change
+refs_view = record { heads = λ now. now.heads; lists = searched_lists; after = after_table_change }
 
 -- the heads that rules name are heads of the references, with their methods, and each list that
 -- they change is one of theirs

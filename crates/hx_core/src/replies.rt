@@ -2,7 +2,7 @@ ghost use Rattle.std.specs.Prelude.{◌≡◌, ◌≢◌, [], ◌++◌, codes, s
 ghost use Rattle.std.specs.Fmt.{decimal};
 ghost use Rattle.std.specs.List.{flat_map};
 ghost use Rattle.std.specs.Option.{option_map_or};
-ghost use Rattle.hx_core.specs.Answers.{refusal_name, reply_end, reply_text, session_text, told_line};
+ghost use Rattle.hx_core.specs.Answers.{refusal_name, reply_end, reply_text, told_line};
 
 use hx_cli::Reply;
 use hx_text::NoMemory;
@@ -15,7 +15,8 @@ pub(crate) fn append_reply(
     session: u32,
     reply: &Option<Reply>,
 ) -> Result<(), NoMemory>
-    ensures { OnOk result (bytes.new.items ≡ bytes.old.items ++ session_text session reply.now) }
+    ensures { OnOk result (bytes.new.items ≡ bytes.old.items
+        ++ option_map_or (reply_text session) reply.now []) }
 {
     match reply {
         Some(reply) => append_given(bytes, session, reply),

@@ -1,10 +1,12 @@
-ghost use Rattle.std.specs.Prelude.{◌≡◌, [], IfErr, IfOk, OnOk};
+ghost use Rattle.std.specs.Prelude.{◌≡◌, [], ◌++◌, codes, IfErr, IfOk, OnOk};
+ghost use Rattle.std.specs.Fmt.{decimal};
 ghost use Rattle.hx_http.specs.Head.{head_of};
 ghost use Rattle.hx_rules.specs.Failures.{RulesAskFor};
 ghost use Rattle.hx_rules.specs.Verdicts.{start};
-ghost use Rattle.hx_core.specs.Answers.{bad_line};
+ghost use Rattle.hx_sample.specs.Vars.{after_request};
+ghost use Rattle.hx_core.specs.Answers.{verdict_text};
 ghost use Rattle.hx_core.specs.StepView.{DoesStep};
-ghost use Rattle.hx_core.specs.Steps.{after_evaluation, after_head, after_number, EventAsksFor, evaluation_text, HeadAsksFor, head_answer, IsRefusal, next_number, request_evaluation, StepCountsLarge};
+ghost use Rattle.hx_core.specs.Steps.{after_head, after_number, EventAsksFor, HeadAsksFor, head_answer, IsRefusal, next_number, request_evaluation, StepCountsLarge};
 ghost use Rattle.hx_core.specs.World.{refs_view};
 
 use crate::answer::Answer;
@@ -73,7 +75,8 @@ impl KeptWorld {
     fn answer_bad(&mut self, mut room: Vec<u8>) -> Result<Answer, NoMemory>
         requires { room.items ≡ [] }
         ensures world { OnOk result (self.new ≡ after_number self.old) }
-        ensures text { IfOk result (λ text. text ≡ bad_line (next_number self.old.requests)) }
+        ensures text { IfOk result (λ text. text
+            ≡ decimal (next_number self.old.requests) ++ codes " bad 400\n") }
     {
         self.requests = self.requests.saturating_add(1);
         append_bad(&mut room, self.requests)?;
@@ -89,11 +92,14 @@ impl KeptWorld {
         maker: &mut M,
     ) -> Result<Answer, StepFault>
         requires { room.items ≡ [] }
-        ensures world { OnOk result (self.new ≡ after_evaluation
-            (request_evaluation self.old conn.now read.now) self.old) }
+        ensures world { OnOk result (self.new ≡ record (after_number self.old) {
+          vars = after_request (request_evaluation self.old conn.now read.now).state.vars;
+          refs = (request_evaluation self.old conn.now read.now).state.tables;
+        }) }
         ensures text { IfOk result (λ text. text
-            ≡ evaluation_text (next_number self.old.requests) read.now
-            (request_evaluation self.old conn.now read.now)) }
+            ≡ decimal (next_number self.old.requests)
+            ++ verdict_text (request_evaluation self.old conn.now read.now).verdict read.now
+            (request_evaluation self.old conn.now read.now).state.message) }
         ensures kind { IfErr result (λ fault. ¬ (IsRefusal fault)) }
         ensures large { StepCountsLarge result (RulesAskFor refs_view conn.now self.old.rules
             (start read.now self.old.vars self.old.refs))

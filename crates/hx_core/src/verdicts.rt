@@ -2,7 +2,7 @@ ghost use Rattle.std.specs.Prelude.{◌≡◌, [], ◌++◌, codes, slice_get, O
 ghost use Rattle.std.specs.Fmt.{decimal};
 ghost use Rattle.std.specs.List.{flat_map};
 ghost use Rattle.std.specs.Option.{option_map_or};
-ghost use Rattle.hx_core.specs.Answers.{answer_text, bad_line, changed_text, head_text, header_text, verdict_text};
+ghost use Rattle.hx_core.specs.Answers.{changed_text, head_text, header_text, verdict_text};
 
 use hx_http::Message;
 use hx_rules::Verdict;
@@ -12,7 +12,8 @@ use itoa::Buffer;
 /// Appends the line that answers the request with this number, whose bytes begin with no head;
 /// where memory runs out, perhaps the first bytes of it.
 pub(crate) fn append_bad(bytes: &mut Vec<u8>, number: u64) -> Result<(), NoMemory>
-    ensures { OnOk result (bytes.new.items ≡ bytes.old.items ++ bad_line number) }
+    ensures { OnOk result (bytes.new.items ≡ bytes.old.items
+        ++ (decimal number ++ codes " bad 400\n")) }
 {
     let mut digits = Buffer::new();
     bytes.extend_from_slice(digits.format(number).as_bytes())?;
@@ -30,7 +31,8 @@ pub(crate) fn append_answer(
     made: &Message,
 ) -> Result<(), NoMemory>
     ensures { OnOk result (bytes.new.items
-        ≡ bytes.old.items ++ answer_text number verdict.now read.now made.now) }
+        ≡ bytes.old.items
+        ++ (decimal number ++ verdict_text verdict.now read.now made.now)) }
 {
     let mut digits = Buffer::new();
     bytes.extend_from_slice(digits.format(number).as_bytes())?;

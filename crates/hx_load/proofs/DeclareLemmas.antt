@@ -1,6 +1,6 @@
 -- The references of a configuration before they have entries.
 use Rattle.std.proofs.Common.{◌≡◌, ◌≢◌, ℕ, zero, suc, ◌+◌, ◌≤◌, ◌==◌, Bool, true, false, List, [], ◌∷◌, ◌++◌, length, map, refl, sym, ap, ◌∙◌, arith, inl, inr, append-nil}
-use Rattle.std.specs.Prelude.{Option, None, Some, IfSome, slice_get, slice_set, ⊤}
+use Rattle.std.specs.Prelude.{Option, None, Some, IfSome, drop, slice_get, slice_set, unwrap_or, ⊤}
 use Rattle.std.specs.List.{All}
 use Rattle.std.specs.Bool.{beq}
 use Rattle.std.proofs.lemmas.Bool.{cases_Bool, eqb-true, eq-eqb}
@@ -15,10 +15,11 @@ use Rattle.hx_refs.proofs.UseLemmas.{use_is}
 use Rattle.hx_refs.specs.declared.Limits.{Limits}
 use Rattle.hx_spell.specs.declared.HeadSpec.{HeadSpec}
 use Rattle.hx_spell.specs.declared.TableSpec.{TableSpec}
-use Rattle.hx_spell.specs.Known.{is_head, method_number, most_references}
+use Rattle.hx_text.specs.Methods.{method_number}
+use Rattle.hx_spell.specs.Known.{is_head, most_references}
 use Rattle.hx_spell.specs.TableSpecs.{HaveDistinctFiles, HaveDistinctHeads, IsHeadOf}
 use Rattle.hx_load.specs.Declaring.{AreDistinct, HasRoomForAll}
-use Rattle.hx_load.specs.References.{after_first, declared_references, first_or_zero, numbers_of, table_head, with_heads, with_outputs, with_table, with_tables}
+use Rattle.hx_load.specs.References.{declared_references, numbers_of, table_head, with_heads, with_outputs, with_table, with_tables}
 
 -- ---- heads
 
@@ -199,8 +200,8 @@ pub tables_count : (numbers : List ℕ) (specs : List TableSpec) (refs : Referen
     → length (with_tables numbers specs refs).references ≡ length refs.references + length specs
 tables_count numbers [] refs = omega arith
 tables_count numbers (spec ∷ specs) refs =
-    let one = table_count (first_or_zero numbers) spec refs in
-    let more = tables_count (after_first numbers) specs (with_table (first_or_zero numbers) spec refs) in
+    let one = table_count (unwrap_or (slice_get numbers 0) 0) spec refs in
+    let more = tables_count (drop 1 numbers) specs (with_table (unwrap_or (slice_get numbers 0) 0) spec refs) in
     omega (arith, one, more)
 
 only_these : (numbers : List ℕ) (specs : List TableSpec) (limits : Limits)
@@ -214,10 +215,10 @@ pub tables_heads : (numbers : List ℕ) (specs : List TableSpec) (refs : Referen
     → (with_tables numbers specs refs).heads ≡ refs.heads
 tables_heads numbers [] refs = refl
 tables_heads numbers (spec ∷ specs) refs =
-    tables_heads (after_first numbers) specs (with_table (first_or_zero numbers) spec refs)
+    tables_heads (drop 1 numbers) specs (with_table (unwrap_or (slice_get numbers 0) 0) spec refs)
     ∙ table_heads
   where
-    table_heads : (with_table (first_or_zero numbers) spec refs).heads ≡ refs.heads
+    table_heads : (with_table (unwrap_or (slice_get numbers 0) 0) spec refs).heads ≡ refs.heads
     table_heads = elim (cases_Bool spec.out_int) [
       | inl int ↦ elim (cases_Bool spec.out_ip) [
         | inl ip ↦ rw (int, ip) refl
@@ -244,8 +245,8 @@ tables_empty : (numbers : List ℕ) (specs : List TableSpec) (refs : References)
     → AllEmpty (map versions_of (with_tables numbers specs refs).references)
 tables_empty numbers [] refs empty = empty
 tables_empty numbers (spec ∷ specs) refs empty =
-    let shown = table_shown versions_of (λ o x. refl) (first_or_zero numbers) spec refs in
-    tables_empty (after_first numbers) specs (with_table (first_or_zero numbers) spec refs)
+    let shown = table_shown versions_of (λ o x. refl) (unwrap_or (slice_get numbers 0) 0) spec refs in
+    tables_empty (drop 1 numbers) specs (with_table (unwrap_or (slice_get numbers 0) 0) spec refs)
     (rw shown (empty_more (map versions_of refs.references) empty))
 
 had_none : (xs : List Reference) (r : ℕ) → AllEmpty (map versions_of xs)

@@ -1,6 +1,6 @@
 -- How references are filled one after the other.
 use Rattle.std.proofs.Common.{◌≡◌, ◌≢◌, ℕ, ◌+◌, ◌⊎◌, Bool, true, false, cond, inl, inr, List, [], ◌∷◌, ◌++◌, length, map, Option, None, Some, Ok, Err, refl, sym, ap, ◌∙◌, subst, arith, append_assoc, drop-cons, length-append}
-use Rattle.std.specs.Prelude.{IfSome, IsSomeAnd, drop, slice_get, slice_index_or, slice_set, take, ◌-◌, ◌<◌}
+use Rattle.std.specs.Prelude.{IfSome, IsSomeAnd, option_map, drop, slice_get, slice_index_or, slice_set, take, ◌-◌, ◌<◌}
 use Rattle.std.specs.Bool.{Decides}
 use Rattle.std.specs.List.{All, AllByRecursion}
 use Rattle.std.specs.Option.{option_map_or}
@@ -17,7 +17,7 @@ use Rattle.hx_refs.specs.declared.RefFault.{RefFault}
 use Rattle.hx_spell.specs.TableSpecs.{HaveDistinctFiles}
 use Rattle.hx_spell.specs.declared.TableSpec.{TableSpec}
 use Rattle.hx_load.specs.Filling.{AsksOne, FillAsksLast, FillReadsLast, Filling, FillsHeld, FillsOne, HasPairs, IsFileOf, Reached, RefusesOne, pairs_of_text}
-use Rattle.hx_load.specs.References.{Filled, FillingAsksFor, FillingReads, HasFiles, Missing, Refused, Whole, after_fault, after_pairs, entry_code, filled_from, name_of, pairs_of_file, pairs_of_spec}
+use Rattle.hx_load.specs.References.{AreFilled, Filled, FillingAsksFor, FillingReads, HasFiles, Missing, Refused, Whole, after_fault, after_pairs, entry_code, filled_from, name_of, pairs_of_spec}
 use Rattle.hx_load.specs.declared.load_fault.LoadFault.{LoadFault}
 use Rattle.hx_load.specs.declared.load_fault.LoadFault.TheVariants as load
 
@@ -68,6 +68,15 @@ same_whole (Whole refs) other = refs
 same_whole (Refused refusal) other = other
 same_whole (Missing name) other = other
 
+-- references that the function fills are filled
+pub are_filled : (files : NamedBytes) (r : ℕ) (specs : List TableSpec) (old now : References) → filled_from files r specs old ≡ Whole now
+    → AreFilled files r specs old now
+are_filled files r [] old now is = sym (ap (λ (f : Filled). same_whole f old) is)
+are_filled files r (spec ∷ specs) old now is =
+    let (given, given_is, none, more) =
+    added spec old r (pairs_of_spec files spec) (λ filled. filled_from files (r + 1) specs filled) now is in
+    (given, given_is, none, are_filled files (r + 1) specs (after_addition old r None given) now more)
+
 -- where the first part is filled, the whole list is filled as the rest is
 filled_after : (files : NamedBytes) (r n : ℕ) (before left : List TableSpec) (old now : References) → filled_from files r before old ≡ Whole now
     → n ≡ r + length before → filled_from files r (before ++ left) old ≡ filled_from files n left now
@@ -116,25 +125,25 @@ same_name name = (bytes_eq-Decides name name).1 refl
 
 -- a further file in front changes nothing for references with other files
 other_file : (two : Bool) (keys : List Pair) (files : NamedBytes) (name text : List ℕ) (file : Option (List ℕ)) → (file ≡ Some name → ⊥)
-    → option_map_or (λ n. pairs_of_file two (value_at ((name, text) ∷ files) n)) file (Some keys)
-    ≡ option_map_or (λ n. pairs_of_file two (value_at files n)) file (Some keys)
+    → option_map_or (λ n. option_map (text_pairs two) (value_at ((name, text) ∷ files) n)) file (Some keys)
+    ≡ option_map_or (λ n. option_map (text_pairs two) (value_at files n)) file (Some keys)
 other_file two keys files name text None differ = refl
 other_file two keys files name text (Some n) differ =
     let differs : bytes_eq name n ≡ false = off (bytes_eq name n) (bytes_eq-Decides name n) (λ same. differ (ap Some (sym same))) in
-    ap (λ (b : Bool). pairs_of_file two (cond b (Some text) (value_at files n))) differs
+    ap (λ (b : Bool). option_map (text_pairs two) (cond b (Some text) (value_at files n))) differs
 
 own_file : (files : NamedBytes) (spec : TableSpec) (name text : List ℕ) → spec.file ≡ Some name → value_at files name ≡ Some text
     → pairs_of_spec files spec ≡ Some (text_pairs spec.two_column text)
 own_file files spec name text is there =
-    ap (λ (o : Option (List ℕ)). option_map_or (λ n. pairs_of_file spec.two_column (value_at files n)) o (Some (map key_alone spec.inline))) is
-    ∙ ap (pairs_of_file spec.two_column) there
+    ap (λ (o : Option (List ℕ)). option_map_or (λ n. option_map (text_pairs spec.two_column) (value_at files n)) o (Some (map key_alone spec.inline))) is
+    ∙ ap (option_map (text_pairs spec.two_column)) there
 
 new_file : (files : NamedBytes) (name text : List ℕ) → value_at ((name, text) ∷ files) name ≡ Some text
 new_file files name text = ap (λ (b : Bool). cond b (Some text) (value_at files name)) (same_name name)
 
 no_file : (files : NamedBytes) (spec : TableSpec) → spec.file ≡ None → pairs_of_spec files spec ≡ Some (map key_alone spec.inline)
 no_file files spec is =
-    ap (λ (o : Option (List ℕ)). option_map_or (λ n. pairs_of_file spec.two_column (value_at files n)) o (Some (map key_alone spec.inline))) is
+    ap (λ (o : Option (List ℕ)). option_map_or (λ n. option_map (text_pairs spec.two_column) (value_at files n)) o (Some (map key_alone spec.inline))) is
 
 holds_at : {X : Type 0} (P : X → Type 0) (before : List X) (x : X) (left : List X) → AllByRecursion P (before ++ x ∷ left) → P x
 holds_at P [] x left all = all.0

@@ -1,5 +1,7 @@
 -- Lemmas on what a configuration loads as, by what its lines, its numbers and its files come to.
-use Rattle.std.proofs.Common.{◌≡◌, ℕ, ◌+◌, suc, List, [], ◌∷◌, Option, None, Some, Result, Ok, Err, IsSomeAnd, inl, inr, length, refl, sym, ap, ◌∙◌, subst}
+use Rattle.std.proofs.Common.{◌≡◌, ℕ, ◌+◌, suc, List, [], ◌∷◌, Option, None, Some, Result, Ok, Err, IsSomeAnd, inl, inr, length, refl, sym, ap, ◌∙◌, subst, cond, Bool, true, false, ◌&&◌, ◌||◌}
+use Rattle.std.specs.Prelude.{is_none, is_some, not}
+use Rattle.std.specs.List.{list_all}
 use Rattle.hx_ast.specs.declared.Statement.{Statement}
 use Rattle.hx_base.specs.Pairs.{NamedBytes}
 use Rattle.hx_outside.specs.Makers.{ExpressionText}
@@ -22,14 +24,32 @@ use Rattle.hx_load.specs.References.{Filled, FillingAsksFor, FillingReads, HasFi
 use Rattle.hx_load.specs.References as filled
 use Rattle.hx_load.specs.declared.load_fault.LoadFault.{LoadFault}
 use Rattle.hx_load.specs.declared.load_fault.LoadFault.TheVariants as load
+use Rattle.hx_load.proofs.FillLemmas.{are_filled}
+use Rattle.hx_load.proofs.NumberLemmas.{given_distinct}
 use Rattle.hx_load.proofs.LoadingLemmas.{lines_give}
 
 -- ---- the relation
 
+named_or : (file : Option (List ℕ)) (named : Bool) (line : ℕ) (unknown : Option ℕ)
+    → cond (is_some file && not named) (Some line) unknown ≡ None
+    → ((is_none file || named) ≡ true) × (unknown ≡ None)
+named_or None named line unknown is = (refl, is)
+named_or (Some file) true line unknown is = (refl, is)
+named_or (Some file) false line unknown is = absurd (cc is)
+
+-- where none is unknown, each file is named
+none_unknown : (specs : List TableSpec) → first_unknown specs ≡ None
+    → list_all (λ spec. is_none spec.file || spec.named) specs ≡ true
+none_unknown [] is = refl
+none_unknown (spec ∷ specs) is =
+    let (first, others) = named_or spec.file spec.named spec.line (first_unknown specs) is in
+    rw (first, none_unknown specs others) refl
+
 entries_load : (env : Env) (limits : Limits) (files : NamedBytes) (config : List ℕ) (read : Reading (List Statement)) (f : Filled)
     → GivesReferences env config read → filled_of limits files read.known ≡ f
     → Loads env limits files config (loading_filled read.value f)
-entries_load env limits files config read (filled.Whole references) lines is = (read, lines, is, refl)
+entries_load env limits files config read (filled.Whole references) lines is =
+    (read, lines, are_filled files 0 (table_specs read.known) (declared limits read.known) references is, refl)
 entries_load env limits files config read (filled.Refused refusal) lines is =
     inr (inr (inr (record { read = read; lines = lines; refused = is })))
 entries_load env limits files config read (filled.Missing name) lines is = (read, lines, is)
@@ -41,7 +61,11 @@ names_load env limits files config read (Some line) given once is =
     inr (inr (inl (record { read = read; given = given; once = once; line = is; code = refl })))
 names_load env limits files config read None given once is =
     entries_load env limits files config read (filled_of limits files read.known)
-    (record { given = given; once = once; known = is }) refl
+    (record {
+      given = given;
+      once = given_distinct [] (table_specs read.known) once;
+      named = none_unknown (table_specs read.known) is;
+    }) refl
 
 numbers_load : (env : Env) (limits : Limits) (files : NamedBytes) (config : List ℕ) (read : Reading (List Statement)) (repeated : Option ℕ)
     → GiveStatements env 1 (lines_of config) nothing_known read → repeated_after [] (table_specs read.known) ≡ repeated
@@ -200,8 +224,8 @@ gives_references : (env : Env) (limits : Limits) (config : List ℕ) (known : Kn
 gives_references env limits config known program specs refs d = record {
   given = subst (λ (said : Result (Reading (List Statement)) Refusal). LinesGive env 1 (lines_of config) nothing_known said) d.brings.lines.given
       (lines_give env 1 (lines_of config) nothing_known);
-  once = of_known env config known program specs (repeated_after []) None d.brings d.once;
-  known = of_known env config known program specs first_unknown None d.brings d.named;
+  once = given_distinct [] (table_specs known) (of_known env config known program specs (repeated_after []) None d.brings d.once);
+  named = none_unknown (table_specs known) (of_known env config known program specs first_unknown None d.brings d.named);
 }
 
 -- the references as they are declared are those of what is known

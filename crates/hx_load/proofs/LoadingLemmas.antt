@@ -40,7 +40,7 @@ says_judged : (env : Env) (number : ℕ) (line : List ℕ) (before : Known) (rea
     → is_statement_typed read.value ≡ typed → is_statement_readable read.value ≡ readable
     → LineSays env number line before (judged read typed readable)
 says_judged env number line before read true true spelled fits reads =
-    record { spelled = spelled; typed = fits; readable = reads }
+    (spelled.words, spelled.cut, spelled.spelled, fits, reads)
 says_judged env number line before read true false spelled fits reads =
     inr (inr (inr (record { read = read; spelled = spelled; typed = fits; unreadable = reads; coded = refl })))
 says_judged env number line before read false readable spelled fits reads =
@@ -107,8 +107,9 @@ by_judged env number line before read typed readable s fits reads =
 given_is : (env : Env) (number : ℕ) (line : List ℕ) (before : Known) (read : Reading Statement)
     → GivesStatement env number line before read
     → line_statement env number line before ≡ Ok read
-given_is env number line before read g =
-    by_judged env number line before read true true g.spelled g.typed g.readable
+given_is env number line before read (words, cut, spelled, fits, reads) =
+    by_judged env number line before read true true
+    (record { words = words; cut = cut; spelled = spelled }) fits reads
 
 refused_is : (env : Env) (number : ℕ) (line : List ℕ) (before : Known) (code : ℕ)
     → IsRefused env number line before code

@@ -1,15 +1,15 @@
 -- The numbers that references are given.
 use Rattle.std.proofs.Common.{◌≡◌, ◌≢◌, ◌⊎◌, ℕ, suc, ◌+◌, ◌-◌, ◌<◌, ◌≤◌, ◌==◌, ◌||◌, Bool, true, false, List, [], ◌∷◌, ◌++◌, length, refl, sym, ap, ◌∙◌, arith, inl, inr, append-nil, subst}
-use Rattle.std.specs.Prelude.{Option, None, Some}
+use Rattle.std.specs.Prelude.{Option, None, Some, drop, slice_get, unwrap_or}
 use Rattle.std.specs.BTreeSet.{BTreeSet, contains}
-use Rattle.std.specs.List.{All}
+use Rattle.std.specs.List.{All, AllByRecursion, IsDistinct}
 use Rattle.std.specs.Option.{option_map_or}
 use Rattle.std.specs.Ordering.{nat_cmp}
-use Rattle.std.proofs.lemmas.Bool.{cases_Bool, cases_lt, eqb-false, eq-eqb}
-use Rattle.std.proofs.lemmas.List.Elements.{All-cons, All-head, All-nil, All-same, All-tail}
+use Rattle.std.proofs.lemmas.Bool.{cases_Bool, cases_lt, eqb-false, eq-eqb, ne_eqb}
+use Rattle.std.proofs.lemmas.List.Elements.{All-cons, All-head, All-nil, All-same, All-tail, recursion_from_All}
 use Rattle.hx_spell.specs.declared.TableSpec.{TableSpec}
 use Rattle.hx_load.specs.Declaring.{AreDistinct}
-use Rattle.hx_load.specs.References.{after_first, first_or_zero, free_numbers, given_numbers, is_among, numbers_by, numbers_of, repeated_after}
+use Rattle.hx_load.specs.References.{free_numbers, given_numbers, is_among, numbers_by, numbers_of, repeated_after}
 use Rattle.hx_load.proofs.FreeNumberLemmas.{free_count, free_is_distinct, free_is_not_given, free_range, free_range_has, free_range_splits}
 
 -- the set has the numbers that are given before the rest, none of them twice
@@ -141,8 +141,8 @@ free_is_taken numbers free first spec rest others specs before list is found =
     let split : free_from free specs ≡ first ∷ free_from (first + 1) specs =
     rw left at (free_range_splits (given_numbers specs) free (length specs - free) first found.least
     (omega (arith, low, has.below)) found.free found.before) in
-    let taken : numbers ++ (first_or_zero (free_from free specs)
-    ∷ numbers_by (after_first (free_from free specs)) others) ≡ numbers_of specs =
+    let taken : numbers ++ (unwrap_or (slice_get (free_from free specs) 0) 0
+    ∷ numbers_by (drop 1 (free_from free specs)) others) ≡ numbers_of specs =
     rw is at has.same in
     record {
       below = omega (arith, low);
@@ -163,7 +163,7 @@ numbers_by_count : (free : List ℕ) (specs : List TableSpec) → length (number
 numbers_by_count free [] = refl
 numbers_by_count free (spec ∷ specs) = elim (given_or_not spec.given) [
   | inl given ↦ rw (given.1) (ap suc (numbers_by_count free specs))
-  | inr none ↦ rw none (ap suc (numbers_by_count (after_first free) specs))
+  | inr none ↦ rw none (ap suc (numbers_by_count (drop 1 free) specs))
 ]
 
 pub numbers_count : (specs : List TableSpec) → length (numbers_of specs) ≡ length specs
@@ -193,8 +193,35 @@ given_apart seen n (spec ∷ specs) among once = elim (given_or_not spec.given) 
   ]
 ]
 
+differ_all : (n : ℕ) (numbers : List ℕ) → AllByRecursion (λ m. n ≢ m) numbers
+    → AllByRecursion (λ m. (n == m) ≡ false) numbers
+differ_all n [] all = tt
+differ_all n (m ∷ numbers) all = (ne_eqb n m all.0, differ_all n numbers all.1)
+
+-- and so the numbers that are given are distinct
+pub given_distinct : (seen : List ℕ) (specs : List TableSpec) → repeated_after seen specs ≡ None
+    → IsDistinct (λ n m. n == m) (given_numbers specs)
+unfolding IsDistinct
+given_distinct seen [] once = tt
+given_distinct seen (spec ∷ specs) once = elim (given_or_not spec.given) [
+  | inr none ↦ rw none (given_distinct seen specs (rw none at once))
+  | inl given ↦ elim (cases_Bool (is_among seen given.0)) [
+    | inl again ↦ absurd (cc (rw (given.1, again) at once))
+    | inr new ↦
+        let later : repeated_after (given.0 ∷ seen) specs ≡ None = rw (given.1, new) at once in
+        let among : is_among (given.0 ∷ seen) given.0 ≡ true =
+        rw (eq-eqb given.0 given.0 refl) refl in
+        let apart = given_apart (given.0 ∷ seen) given.0 specs among later in
+        rw (given.1) (
+          differ_all given.0 (given_numbers specs)
+              (recursion_from_All (λ m. given.0 ≢ m) (given_numbers specs) apart),
+          given_distinct (given.0 ∷ seen) specs later,
+        )
+  ]
+]
+
 -- a list that isn't empty is its first number and those after it
-first_and_after : (free : List ℕ) → 0 < length free → free ≡ first_or_zero free ∷ after_first free
+first_and_after : (free : List ℕ) → 0 < length free → free ≡ unwrap_or (slice_get free 0) 0 ∷ drop 1 free
 first_and_after [] some = absurd (omega (arith, some))
 first_and_after (n ∷ free) some = refl
 
@@ -214,11 +241,11 @@ apart_from_all n free (spec ∷ specs) many apart given = elim (given_or_not spe
       let more : unnumbered_count specs + 1 ≤ length free = rw none at many in
       let split = first_and_after free (omega (arith, more)) in
       let count = ap length split in
-      let all = All-same (λ m. n ≢ m) (first_or_zero free ∷ after_first free) free (sym split) apart in
-      rw none (All-cons (λ m. n ≢ m) (first_or_zero free) (numbers_by (after_first free) specs)
-      (All-head (λ m. n ≢ m) (first_or_zero free) (after_first free) all)
-      (apart_from_all n (after_first free) specs (omega (arith, more, count))
-      (All-tail (λ m. n ≢ m) (first_or_zero free) (after_first free) all) (rw none at given)))
+      let all = All-same (λ m. n ≢ m) (unwrap_or (slice_get free 0) 0 ∷ drop 1 free) free (sym split) apart in
+      rw none (All-cons (λ m. n ≢ m) (unwrap_or (slice_get free 0) 0) (numbers_by (drop 1 free) specs)
+      (All-head (λ m. n ≢ m) (unwrap_or (slice_get free 0) 0) (drop 1 free) all)
+      (apart_from_all n (drop 1 free) specs (omega (arith, more, count))
+      (All-tail (λ m. n ≢ m) (unwrap_or (slice_get free 0) 0) (drop 1 free) all) (rw none at given)))
 ]
 
 -- a number that isn't among these differs from each
@@ -270,8 +297,8 @@ numbers_by_distinct free seen (spec ∷ specs) many distinct none once = elim (g
       let more : unnumbered_count specs + 1 ≤ length free = rw out at many in
       let split = first_and_after free (omega (arith, more)) in
       let count = ap length split in
-      let first = first_or_zero free in
-      let after = after_first free in
+      let first = unwrap_or (slice_get free 0) 0 in
+      let after = drop 1 free in
       let apart : AreDistinct (first ∷ after) = subst AreDistinct split distinct in
       let others : All (IsNotAmong (given_numbers specs)) free = rw out at none in
       let all = All-same (IsNotAmong (given_numbers specs)) (first ∷ after) free (sym split) others in

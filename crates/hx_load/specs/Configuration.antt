@@ -4,16 +4,15 @@ use Rattle.std.specs.Prelude.{◌≡◌, ℕ, ◌+◌, ◌==◌, ◌&&◌, ◌�
 use Rattle.std.specs.List.{slice_split, list_all}
 use Rattle.std.specs.Option.{option_map_or}
 use Rattle.std.specs.Io.BufRead.{strip_last}
-use Rattle.hx_ast.specs.declared.AclUse.{AclUse}
-use Rattle.hx_ast.specs.declared.AclUse.TheVariants.{Named, Own}
+use Rattle.hx_ast.specs.Acls.{cond_passes}
 use Rattle.hx_ast.specs.declared.Decl.{Decl}
 use Rattle.hx_ast.specs.declared.Statement.{Statement}
 use Rattle.hx_ast.specs.declared.Statement.TheVariants as statement
 use Rattle.hx_ast.specs.declared.Term.{Term}
-use Rattle.hx_base.specs.Bytes.{carriage_return, line_feed}
+use Rattle.hx_base.specs.Bytes.{ascii}
 use Rattle.hx_match.specs.Patterns.{text_fault}
 use Rattle.hx_rules.specs.Building.{is_statement_typed, statement_has_expressions}
-use Rattle.hx_spell.specs.Known.{Known, Reading}
+use Rattle.hx_spell.specs.Known.{Known, Reading, reading}
 use Rattle.hx_spell.specs.Lines.{line_of}
 use Rattle.hx_spell.specs.Relation.{SpellLine}
 use Rattle.hx_spell.specs.declared.SpellFault.{SpellFault}
@@ -31,7 +30,7 @@ pub record Refusal : Type 0 where
 -- the lines of a configuration, without the line feeds between them and without the one carriage
 -- return that may end each
 abbrev pub lines_of : List ℕ → List (List ℕ)
-lines_of config = map (strip_last carriage_return) (slice_split (λ b. b == line_feed) config)
+lines_of config = map (strip_last (ascii "\r")) (slice_split (λ b. b == ascii "\n") config)
 
 -- the code of a fault of words
 abbrev pub fault_code : WordFault → ℕ
@@ -56,32 +55,21 @@ bad_pattern = 16
 abbrev pub has_patterns : Decl → Bool
 has_patterns decl = list_all (λ word. is_none (text_fault decl.by decl.ci word)) decl.words
 
-abbrev pub use_has_patterns : AclUse → Bool
-use_has_patterns (Named name) = true
-use_has_patterns (Own decl) = has_patterns decl
-
-abbrev pub conj_has_patterns : List Term → Bool
-conj_has_patterns conj = list_all (λ term. use_has_patterns term.acl) conj
-
-abbrev pub cond_has_patterns : List (List Term) → Bool
-cond_has_patterns cond = list_all conj_has_patterns cond
-
+-- the same of the ACLs that stand in a condition itself, if there is one
 abbrev pub when_has_patterns : Option (List (List Term)) → Bool
-when_has_patterns cond = option_map_or cond_has_patterns cond true
+when_has_patterns cond = option_map_or (cond_passes has_patterns) cond true
 
 -- whether the inline patterns of a statement's ACLs are patterns of their methods
 abbrev pub statement_has_patterns : Statement → Bool
-statement_has_patterns statement.Plain = true
 statement_has_patterns (statement.Acl line name decl) = has_patterns decl
 statement_has_patterns (statement.Rule rule) = when_has_patterns rule.cond
 statement_has_patterns (statement.Redirect rule) = when_has_patterns rule.cond
 statement_has_patterns (statement.Backend line format unless cond) = when_has_patterns cond
-statement_has_patterns (statement.Fallback line name) = true
+statement_has_patterns _ = true
 
 -- whether all regular expressions and inline patterns of a statement are some
 abbrev pub is_statement_readable : Statement → Bool
-is_statement_readable statement =
-    statement_has_expressions statement && statement_has_patterns statement
+is_statement_readable item = statement_has_expressions item && statement_has_patterns item
 
 -- ---- the relation between lines and their statements
 
@@ -92,12 +80,11 @@ pub record SpellsStatement (env : Env) (number : ℕ) (line : List ℕ) (before 
   pub cut : words_of env line ≡ Ok words
   pub spelled : SpellLine number before words read
 
--- the same, its types fit, and its patterns are some
-pub record GivesStatement (env : Env) (number : ℕ) (line : List ℕ) (before : Known)
-    (read : Reading Statement) : Type 0 where
-  pub spelled : SpellsStatement env number line before read
-  pub typed : is_statement_typed read.value ≡ true
-  pub readable : is_statement_readable read.value ≡ true
+-- the same, its types fit, and its regular expressions and patterns are some
+abbrev pub GivesStatement : Env → ℕ → List ℕ → Known → Reading Statement → Type 0
+GivesStatement env number line before read =
+    (words : List (List ℕ)) × (words_of env line ≡ Ok words) × SpellLine number before words read
+    × (is_statement_typed read.value ≡ true) × (is_statement_readable read.value ≡ true)
 
 -- a line's words have a fault with this code
 pub record HasWordFault (env : Env) (line : List ℕ) (code : ℕ) : Type 0 where
@@ -139,10 +126,10 @@ IsRefused env number line before code =
 
 -- lines, the first of which has this number, give these statements, one each
 abbrev pub GiveStatements : Env → ℕ → List (List ℕ) → Known → Reading (List Statement) → Type 0
-GiveStatements env number [] before read = read ≡ record { value = []; known = before }
+GiveStatements env number [] before read = read ≡ reading [] before
 GiveStatements env number (line ∷ lines) before read =
     (first : Reading Statement) × (others : Reading (List Statement))
-    × (read ≡ record { value = first.value ∷ others.value; known = others.known })
+    × (read ≡ reading (first.value ∷ others.value) others.known)
     × GivesStatement env number line before first
     × GiveStatements env (number + 1) lines first.known others
 
@@ -192,7 +179,7 @@ line_statement env number line before =
 abbrev pub before_statements : Statement → Result (Reading (List Statement)) Refusal
     → Result (Reading (List Statement)) Refusal
 before_statements first (Ok others) =
-    Ok (record { value = first ∷ others.value; known = others.known })
+    Ok (reading (first ∷ others.value) others.known)
 before_statements first (Err refusal) = Err refusal
 
 -- what a line with this number says, and then what the lines after it say: the first fault is the
@@ -206,7 +193,7 @@ then_statements (Ok first) number after = before_statements first.value (after f
 -- the statements of lines, the first of which has this number
 abbrev pub statements_from : Env → ℕ → List (List ℕ) → Known
     → Result (Reading (List Statement)) Refusal
-statements_from env number [] before = Ok (record { value = []; known = before })
+statements_from env number [] before = Ok (reading [] before)
 statements_from env number (line ∷ lines) before =
     then_statements (line_statement env number line before) number
     (λ known. statements_from env (number + 1) lines known)

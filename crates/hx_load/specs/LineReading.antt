@@ -6,7 +6,7 @@ use Rattle.hx_outside.specs.Makers.{ExpressionText, MakerState}
 use Rattle.hx_rules.specs.Building.{is_statement_typed, with_statement}
 use Rattle.hx_rules.specs.Programs.{Rules, no_rules}
 use Rattle.hx_rules.specs.Tables.{HasHeads, HasLists}
-use Rattle.hx_spell.specs.Known.{Known, Reading, nothing_known}
+use Rattle.hx_spell.specs.Known.{Known, Reading, nothing_known, reading}
 use Rattle.hx_spell.specs.declared.HeadSpec.{HeadSpec}
 use Rattle.hx_words.specs.Variable.{Env}
 use Rattle.hx_load.specs.Configuration.{GiveStatements, SpellsStatement, line_statement, lines_of, statements_from}
@@ -47,7 +47,7 @@ pub record AddsStatement (env : Env) (number : ℕ) (line : List ℕ) (before af
     (program new_program : Rules) : Type 0 where
   pub statement : Statement
   pub says : line_statement env number line before
-      ≡ Ok (record { value = statement; known = after })
+      ≡ Ok (reading statement after)
   pub is : new_program ≡ with_statement statement program
 
 -- each head that a program names is one of these, with the method by which it is searched, and each
@@ -68,7 +68,7 @@ pub record IsReadAs (env : Env) (config : List ℕ) (known : Known) (program : R
     : Type 0 where
   pub statements : List Statement
   pub given : statements_from env 1 (lines_of config) nothing_known
-      ≡ Ok (record { value = statements; known = known })
+      ≡ Ok (reading statements known)
   pub is : program ≡ with_statements statements no_rules
 
 -- ---- a loop over lines
@@ -86,5 +86,5 @@ pub record HasRead (env : Env) (config : List ℕ) (count : ℕ) (known : Known)
     (left : List (List ℕ)) : Type 0 where
   pub statements : List Statement
   pub gave : GaveStatements env config nothing_known count
-      (record { value = statements; known = known }) left
+      (reading statements known) left
   pub is : program ≡ with_statements statements no_rules

@@ -1,7 +1,8 @@
 -- What a configuration loads as: a program, the refusal of its first fault, or nothing where a file
 -- is missing. First all lines are judged, then the numbers that they give, then the files that
 -- their rules change, and then files and inline patterns in the order of their first appearance.
-use Rattle.std.specs.Prelude.{◌≡◌, ℕ, ◌+◌, ◌⊎◌, ◌&&◌, not, true, List, [], ◌∷◌, ◌++◌, length, Contains, Option, None, Some, is_some, Result, Ok, Err, if◌then◌else◌}
+use Rattle.std.specs.Prelude.{◌≡◌, fold, ℕ, ◌+◌, ◌==◌, ◌⊎◌, ◌&&◌, ◌||◌, not, true, is_none, List, [], ◌∷◌, ◌++◌, length, Contains, Option, None, Some, is_some, Result, Ok, Err, if◌then◌else◌}
+use Rattle.std.specs.List.{IsDistinct, list_all}
 use Rattle.hx_ast.specs.declared.AclUse.{AclUse}
 use Rattle.hx_ast.specs.declared.AclUse.TheVariants.{Named, Own}
 use Rattle.hx_ast.specs.declared.Decl.{Decl}
@@ -20,15 +21,13 @@ use Rattle.hx_spell.specs.declared.TableSpec.{TableSpec}
 use Rattle.hx_text.specs.declared.By.TheVariants as method
 use Rattle.hx_words.specs.Variable.{Env}
 use Rattle.hx_load.specs.Configuration.{GiveStatements, IsFirstRefused, Refusal, SpellsStatement, lines_of, statements_from}
-use Rattle.hx_load.specs.References.{Filled, Whole, Refused as FillRefused, Missing as FillMissing, FillingAsksFor, FillingReads, declared_references, filled_from, id_taken, repeated_after, unknown_table}
+use Rattle.hx_load.specs.References.{Filled, Whole, Refused as FillRefused, Missing as FillMissing, AreFilled, FillingAsksFor, FillingReads, declared_references, filled_from, given_numbers, id_taken, repeated_after, unknown_table}
 
 -- ---- programs
 
 -- a program, with what statements add to it, in their order
 abbrev pub with_statements : List Statement → Rules → Rules
-with_statements [] program = program
-with_statements (statement ∷ statements) program =
-    with_statements statements (with_statement statement program)
+with_statements statements rules = fold (λ now next. with_statement next now) rules statements
 
 -- ---- loading
 
@@ -83,8 +82,8 @@ loaded env limits files config =
 pub record GivesReferences (env : Env) (config : List ℕ) (read : Reading (List Statement))
     : Type 0 where
   pub given : GiveStatements env 1 (lines_of config) nothing_known read
-  pub once : repeated_after [] (table_specs read.known) ≡ None
-  pub known : first_unknown (table_specs read.known) ≡ None
+  pub once : IsDistinct (λ n m. n == m) (given_numbers (table_specs read.known))
+  pub named : list_all (λ spec. is_none spec.file || spec.named) (table_specs read.known) ≡ true
 
 -- the references with their entries, or why they don't have all
 abbrev pub filled_of : Limits → NamedBytes → Known → Filled
@@ -113,14 +112,20 @@ pub record HasEntryFault (env : Env) (limits : Limits) (files : NamedBytes) (con
   pub lines : GivesReferences env config read
   pub refused : filled_of limits files read.known ≡ FillRefused refusal
 
+-- A configuration is accepted: its lines give statements, which make the program, and the
+-- references that these bring have all their entries.
+abbrev pub GivesProgram : Env → Limits → NamedBytes → List ℕ → Rules → References → Type 0
+GivesProgram env limits files config program references =
+    (read : Reading (List Statement)) × GivesReferences env config read
+    × AreFilled files 0 (table_specs read.known) (declared limits read.known) references
+    × (program ≡ with_statements read.value no_rules)
+
 -- What a configuration loads as. It is refused at the first line with a fault; else where a number
 -- is given twice; else where a rule changes a file that is named nowhere else; else at the first
 -- entry with a fault.
 abbrev pub Loads : Env → Limits → NamedBytes → List ℕ → Loading → Type 0
 Loads env limits files config (Accepted program references) =
-    (read : Reading (List Statement)) × GivesReferences env config read
-    × (filled_of limits files read.known ≡ Whole references)
-    × (program ≡ with_statements read.value no_rules)
+    GivesProgram env limits files config program references
 Loads env limits files config (Refused refusal) =
     IsFirstRefused env 1 (lines_of config) nothing_known refusal
     ⊎ (GivesTwice env config refusal ⊎ (ChangesUnknown env config refusal

@@ -1,8 +1,8 @@
 -- The references of a configuration: their numbers, and the entries of their files and inline
 -- patterns (HAProxy configuration manual 2.4, sections 7.1 and 7.3.1, `map`; management guide 2.4,
 -- section 9.3).
-use Rattle.std.specs.Prelude.{◌≡◌, ℕ, ◌+◌, ◌==◌, ◌⊎◌, ⊤, Bool, not, List, [], ◌∷◌, length, map, Option, None, Some, filter, filter_map, if◌then◌else◌}
-use Rattle.std.specs.List.{list_any, range_with_len}
+use Rattle.std.specs.Prelude.{◌≡◌, fold, ℕ, ◌+◌, ◌⊎◌, not, List, [], ◌∷◌, length, map, Option, None, Some, IfSome, option_map, unwrap_or, slice_get, drop, filter, filter_map, if◌then◌else◌}
+use Rattle.std.specs.List.{range_with_len}
 use Rattle.std.specs.Option.{option_map_or}
 use Rattle.hx_base.specs.Pairs.{NamedBytes, value_at}
 use Rattle.hx_outside.specs.Makers.{ExpressionText}
@@ -16,6 +16,7 @@ use Rattle.hx_refs.specs.declared.RefFault.TheVariants as ref_fault
 use Rattle.hx_sample.specs.Tables.{TableHead}
 use Rattle.hx_spell.specs.declared.HeadSpec.{HeadSpec}
 use Rattle.hx_spell.specs.declared.TableSpec.{TableSpec}
+pub use Rattle.hx_spell.specs.Values.{is_among}
 use Rattle.hx_text.specs.declared.Out.TheVariants as out
 use Rattle.hx_load.specs.Configuration.{Refusal, bad_pattern}
 
@@ -28,9 +29,6 @@ id_taken = 22
 -- the code of a file that a rule changes, and that is named nowhere else
 abbrev pub unknown_table : ℕ
 unknown_table = 21
-
-abbrev pub is_among : List ℕ → ℕ → Bool
-is_among numbers n = list_any (λ m. m == n) numbers
 
 -- the line of the first reference whose number is given again, after these numbers
 abbrev pub repeated_after : List ℕ → List TableSpec → Option ℕ
@@ -49,20 +47,12 @@ abbrev pub free_numbers : List TableSpec → List ℕ
 free_numbers specs =
     filter (λ n. not (is_among (given_numbers specs) n)) (range_with_len 0 (length specs))
 
-abbrev pub first_or_zero : List ℕ → ℕ
-first_or_zero [] = 0
-first_or_zero (n ∷ numbers) = n
-
-abbrev pub after_first : List ℕ → List ℕ
-after_first [] = []
-after_first (n ∷ numbers) = numbers
-
 -- the references' numbers: that which is given, or else the next one that is free
 abbrev pub numbers_by : List ℕ → List TableSpec → List ℕ
 numbers_by free [] = []
 numbers_by free (spec ∷ specs) =
     option_map_or (λ n. n ∷ numbers_by free specs) spec.given
-    (first_or_zero free ∷ numbers_by (after_first free) specs)
+    (unwrap_or (slice_get free 0) 0 ∷ numbers_by (drop 1 free) specs)
 
 abbrev pub numbers_of : List TableSpec → List ℕ
 numbers_of specs = numbers_by (free_numbers specs) specs
@@ -84,11 +74,10 @@ with_table number spec refs =
 abbrev pub with_tables : List ℕ → List TableSpec → References → References
 with_tables numbers [] refs = refs
 with_tables numbers (spec ∷ specs) refs =
-    with_tables (after_first numbers) specs (with_table (first_or_zero numbers) spec refs)
+    with_tables (drop 1 numbers) specs (with_table (unwrap_or (slice_get numbers 0) 0) spec refs)
 
 abbrev pub with_heads : List HeadSpec → References → References
-with_heads [] refs = refs
-with_heads (head ∷ heads) refs = with_heads heads (after_use refs head.table head.by head.ci)
+with_heads heads refs = fold (λ now head. after_use now head.table head.by head.ci) refs heads
 
 -- the references in their order, with their heads, before they have entries
 abbrev pub declared_references : Limits → List TableSpec → List HeadSpec → References
@@ -103,18 +92,13 @@ table_head head = record { by = head.by; ci = head.ci; list = head.table }
 
 -- the files that the configuration names are those that are held, where that is known
 abbrev pub HasFiles : Option NamedBytes → NamedBytes → Type 0
-HasFiles None files = ⊤
-HasFiles (Some held) files = files ≡ held
+HasFiles held files = IfSome held (λ known. files ≡ known)
 
 -- the keys and values of a reference: of a file the lines of its text, of inline patterns these;
 -- none where there is no such file
-abbrev pub pairs_of_file : Bool → Option (List ℕ) → Option (List Pair)
-pairs_of_file two None = None
-pairs_of_file two (Some text) = Some (text_pairs two text)
-
 abbrev pub pairs_of_spec : NamedBytes → TableSpec → Option (List Pair)
 pairs_of_spec files spec =
-    option_map_or (λ name. pairs_of_file spec.two_column (value_at files name))
+    option_map_or (λ name. option_map (text_pairs spec.two_column) (value_at files name))
     spec.file (Some (map key_alone spec.inline))
 
 -- the code of a fault of an entry: its key is no pattern (16), its value isn't readable (18), or it
@@ -155,6 +139,15 @@ filled_from files r [] refs = Whole refs
 filled_from files r (spec ∷ specs) refs =
     after_pairs spec refs r (pairs_of_spec files spec)
     (λ filled. filled_from files (r + 1) specs filled)
+
+-- The same as a relation: each reference from a position on has its file, no entry is refused, and
+-- these are the references with all entries.
+abbrev pub AreFilled : NamedBytes → ℕ → List TableSpec → References → References → Type 0
+AreFilled files r [] refs filled = filled ≡ refs
+AreFilled files r (spec ∷ specs) refs filled =
+    (pairs : List Pair) × (pairs_of_spec files spec ≡ Some pairs)
+    × (addition_fault refs r None pairs ≡ None)
+    × AreFilled files (r + 1) specs (after_addition refs r None pairs) filled
 
 -- an entry that is added to one of the references from a position on, with no fault before it, is
 -- read as this regular expression

@@ -1,10 +1,10 @@
 ghost use Rattle.std.specs.Prelude.{◌≡◌, [], IfSome, OnOk, true, false, is_none};
-ghost use Rattle.std.specs.List.{All};
-ghost use Rattle.hx_ast.specs.Acls.{IsAclUse, IsCond, takes_patterns};
+ghost use Rattle.std.specs.List.{All, list_all};
+ghost use Rattle.hx_ast.specs.Acls.{IsAclUse, IsCond, cond_passes, takes_patterns, use_passes};
 ghost use Rattle.hx_ast.specs.Statements.{IsStatement};
 ghost use Rattle.hx_match.specs.Patterns.{text_fault};
 ghost use Rattle.hx_rules.specs.Building.{is_statement_typed, with_statement};
-ghost use Rattle.hx_load.specs.Configuration.{cond_has_patterns, conj_has_patterns, has_patterns, is_statement_readable, statement_has_patterns, use_has_patterns, when_has_patterns};
+ghost use Rattle.hx_load.specs.Configuration.{has_patterns, is_statement_readable, statement_has_patterns, when_has_patterns};
 ghost use Rattle.hx_load.specs.Loads.{IsCondPattern, IsConjPattern, IsPatternText, IsStatementPattern, IsUsePattern, IsWhenPattern, StatementReads};
 ghost use Rattle.hx_load.specs.Judging.{IsTextOfWord, JudgedAs};
 
@@ -73,7 +73,7 @@ fn judge_when<M: ReMaker>(
 /// Judges the inline patterns of the ACLs that stand in a condition itself.
 fn judge_cond<M: ReMaker>(alloc: Global, cond: &Cond, maker: &mut M) -> Result<(), LineFault>
     requires { IsCond cond.now }
-    ensures { JudgedAs true (cond_has_patterns cond.now) (IsCondPattern cond.now)
+    ensures { JudgedAs true (cond_passes has_patterns cond.now) (IsCondPattern cond.now)
         (record { too_large = M.too_large maker.old; large = M.large maker.old })
         (record { too_large = M.too_large maker.new; large = M.large maker.new }) result }
 {
@@ -85,7 +85,8 @@ fn judge_cond<M: ReMaker>(alloc: Global, cond: &Cond, maker: &mut M) -> Result<(
 
 fn judge_conj<M: ReMaker>(alloc: Global, conj: &[Term], maker: &mut M) -> Result<(), LineFault>
     requires { All (λ term. IsAclUse term.acl) conj.now }
-    ensures { JudgedAs true (conj_has_patterns conj.now) (IsConjPattern conj.now)
+    ensures { JudgedAs true
+        (list_all (λ term. use_passes has_patterns term.acl) conj.now) (IsConjPattern conj.now)
         (record { too_large = M.too_large maker.old; large = M.large maker.old })
         (record { too_large = M.too_large maker.new; large = M.large maker.new }) result }
 {
@@ -97,7 +98,7 @@ fn judge_conj<M: ReMaker>(alloc: Global, conj: &[Term], maker: &mut M) -> Result
 
 fn judge_use<M: ReMaker>(alloc: Global, acl: &AclUse, maker: &mut M) -> Result<(), LineFault>
     requires { IsAclUse acl.now }
-    ensures { JudgedAs true (use_has_patterns acl.now) (IsUsePattern acl.now)
+    ensures { JudgedAs true (use_passes has_patterns acl.now) (IsUsePattern acl.now)
         (record { too_large = M.too_large maker.old; large = M.large maker.old })
         (record { too_large = M.too_large maker.new; large = M.large maker.new }) result }
 {

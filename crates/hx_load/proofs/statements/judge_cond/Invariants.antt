@@ -1,12 +1,12 @@
 use Rattle.std.specs.Prelude.{◌≡◌, drop}
-use Rattle.hx_ast.specs.Acls.{IsCond}
-use Rattle.hx_load.specs.Configuration.{cond_has_patterns}
+use Rattle.hx_ast.specs.Acls.{IsCond, cond_passes}
+use Rattle.hx_load.specs.Configuration.{has_patterns}
 use Rattle.hx_load.proofs.statements.judge_cond.Given as goal
 
 -- as with the terms of a conjunction
 abbrev pub invariant-loop-conj : goal.invariant-loop-conj
 invariant-loop-conj g l = record {
-  patterns : cond_has_patterns (drop l.conj-index l.cond) ≡ cond_has_patterns l.cond;
+  patterns : cond_passes has_patterns (drop l.conj-index l.cond) ≡ cond_passes has_patterns l.cond;
   allowed : IsCond (drop l.conj-index l.cond);
   count : g.M.ReMaker.too_large l.maker ≡ g.M.ReMaker.too_large l.fn.maker;
   last : g.M.ReMaker.large l.maker ≡ g.M.ReMaker.large l.fn.maker;
