@@ -1,10 +1,9 @@
--- No reference has a number or a file that was looked for at each position, and nothing was added
--- to one that is being described.
-use Rattle.std.proofs.Common.{◌≡◌, ◌≢◌, ℕ, zero, suc, ◌+◌, ◌≤◌, Bool, List, [], ◌∷◌, ◌++◌, length, refl, ap, subst, ◌∙◌, arith}
+-- No reference has a number or a file that was looked for at each position and not found.
+use Rattle.std.proofs.Common.{◌≡◌, ◌≢◌, ℕ, zero, suc, ◌+◌, ◌≤◌, List, [], ◌∷◌, length, ap, subst, ◌∙◌, arith}
 use Rattle.std.specs.Prelude.{Option, None, Some, IfSome, slice_get, option_map, option_and_then, ⊤}
 use Rattle.std.specs.List.{All}
 use Rattle.std.proofs.lemmas.List.Elements.{All-cons, All-nil}
-use Rattle.hx_refs.specs.References.{info_of, new_reference, with_new, AreEmpty, HasHadNone, Reference, References}
+use Rattle.hx_refs.specs.References.{info_of, Reference}
 use Rattle.hx_refs.specs.declared.info.RefInfo.{RefInfo}
 
 -- P holds of the references before a place
@@ -63,15 +62,3 @@ pub no_file_so_far : (name : List ℕ) (n : ℕ) (xs : List Reference) (file : O
     → HoldsBefore (HasOtherFile name) (n + 1) xs
 no_file_so_far name n xs file before is other =
     one_place_more (HasOtherFile name) n xs before (other_file name (slice_get xs n) file is other)
-
--- ---- one more
-
-last_is : (P : Reference → Type 0) (xs : List Reference) (x : Reference) → P x → IfSome (slice_get (xs ++ x ∷ []) (length xs)) P
-last_is P [] x is = is
-last_is P (y ∷ xs) x is = last_is P xs x is
-
--- nothing was added to the last
-pub new_has_none : (refs : References) (id : ℕ) (file : Option (List ℕ)) (two acl : Bool)
-    → HasHadNone (with_new refs id file two acl) (length refs.references)
-new_has_none refs id file two acl =
-    last_is (λ reference. AreEmpty reference.versions) refs.references (new_reference id file two acl) (refl, tt)

@@ -1,11 +1,12 @@
 -- The uses of a reference have its heads.
-use Rattle.std.proofs.Common.{◌≡◌, ℕ, zero, suc, ◌+◌, ◌-◌, ◌==◌, Bool, List, [], ◌∷◌, refl, ap, arith, inl, inr}
+use Rattle.std.proofs.Common.{◌≡◌, ℕ, zero, suc, ◌+◌, ◌==◌, Bool, List, [], ◌∷◌, refl, ap, arith, inl, inr}
 use Rattle.std.specs.Prelude.{Option, None, Some, IfSome, slice_get, option_map, ⊤}
 use Rattle.std.proofs.lemmas.Bool.{cases_Bool}
 use Rattle.hx_text.specs.declared.kinds.By.{By}
 use Rattle.hx_sample.specs.Tables.{TableHead}
 use Rattle.hx_expr.specs.Values.{IsHeadBy}
-use Rattle.hx_refs.specs.Uses.{Use, is_use, ordered_methods, use_parts, use_with, uses_by, uses_from, uses_in_order, uses_of, with_cases, with_first}
+use Rattle.hx_text.specs.Methods.{pattern_methods}
+use Rattle.hx_refs.specs.Uses.{Use, is_use, use_parts, use_with, uses_by, uses_from, uses_in_order, uses_of, with_cases, with_first}
 
 -- the head of the use is one of these, which are numbered from `number` on
 abbrev IsOf : ℕ → List TableHead → Use → Type 0
@@ -79,4 +80,4 @@ pub told_use_has_head : (heads : List TableHead) (r k : ℕ) (method : By) (ci :
 told_use_has_head heads r k method ci head parts =
     head_of_parts heads (slice_get (uses_in_order (uses_of heads r)) k) (method, ci, head)
     (each_at (IsOf 0 heads) (uses_in_order (uses_of heads r)) k
-    (each_by (IsOf 0 heads) (with_cases ordered_methods) (uses_of heads r) (each_from 0 heads r))) parts
+    (each_by (IsOf 0 heads) (with_cases pattern_methods) (uses_of heads r) (each_from 0 heads r))) parts

@@ -291,16 +291,16 @@ fn step(
 }
 
 /// `references LIMITS REFERENCES STEP ..`: what each step on references answers. LIMITS is
-/// `ENTRIES,ADDITIONS,VERSIONS` or `-`. A reference is `COLUMNS,NUMBER,FILE,PARTS`: COLUMNS is
-/// `acl`, `map`, `both` or `neither`, FILE may be `-`, and PARTS are methods, which `-i` may follow,
-/// and outputs, as `=int`, or `-`. The steps are on the first of them, after `at@R` on that at the
-/// position R.
+/// `ENTRIES,ADDITIONS,VERSIONS` or `-`. REFERENCES stand with `;` between, each as
+/// `COLUMNS,NUMBER,FILE,PARTS`: COLUMNS is `acl`, `map`, `both` or `neither`, FILE may be `-`, and
+/// PARTS are methods, which `-i` may follow, and outputs, as `=int`, or `-`. A step is on the first
+/// of them, and after `at@R` on that at the position R.
 ///
-/// Without a version it is the one that is searched in `add:KEY=VALUE`, `add@VERSION:KEY=VALUE`,
-/// `addmany` with many pairs, `clear`, `clear@VERSION`, `show` and `show@VERSION`. The other steps
-/// are `del:KEY`, `delid:VERSION.SERIAL`, `set:KEY=VALUE`, `setid:VERSION.SERIAL=VALUE`, `prepare`,
+/// The steps `add:KEY=VALUE`, `addmany:KEY=VALUE;..`, `clear` and `show` are on the version that is
+/// searched, and with `@VERSION` behind their name on that version. The others are `del:KEY`,
+/// `delid:VERSION.SERIAL`, `set:KEY=VALUE`, `setid:VERSION.SERIAL=VALUE`, `prepare`,
 /// `commit@VERSION`, `info`, `resolve@SIDE:WORD` with the sides `acl`, `write` and `map`, and
-/// `change@CHANGE:KEY` with the changes `add`, `del`, `delmap`, and `set` for KEY=VALUE.
+/// `change@CHANGE:KEY` with the changes `add`, `del`, `delmap`, and `set`, which has KEY=VALUE.
 pub fn references_case(alloc: Global, out: &mut String, args: &[Vec<u8>]) -> Result<(), CaseFault> {
     let [most, described, steps @ ..] = args else {
         return Err(CaseFault::BadArguments);

@@ -5,7 +5,7 @@ use Rattle.std.specs.Prelude.{ℕ, ◌==◌, List, [], ◌∷◌, ◌++◌, Opti
 use Rattle.std.specs.Borrow.{Bor}
 use Rattle.std.specs.Option.{option_map_or}
 use Rattle.std.specs.Str.{bytes_eq}
-use Rattle.hx_base.specs.Bytes.{line_feed, space}
+use Rattle.hx_base.specs.Bytes.{ascii}
 use Rattle.hx_text.specs.Cut.{cut_of}
 use Rattle.hxeval.specs.Run.{command_of}
 use Rattle.hxeval.specs.declared.explain.TheConstants.{CONFIG_CODES, RECORD_CODES, RECORD_UNREAD, STATUS_TEXTS, UNKNOWN_CODE, UNKNOWN_STATUS}
@@ -26,11 +26,12 @@ cut_or_end byte text = unwrap_or (cut_of byte text) (text, [])
 
 -- the line or the offset in a last line `config LINE CODE` or `record OFFSET CODE`
 abbrev pub location_of : List ℕ → List ℕ
-location_of line = (cut_or_end space (cut_or_end space line).1).0
+location_of line = (cut_or_end (ascii " ") (cut_or_end (ascii " ") line).1).0
 
 -- the code in it
 abbrev pub code_in : List ℕ → List ℕ
-code_in line = (cut_or_end line_feed (cut_or_end space (cut_or_end space line).1).1).0
+code_in line =
+    (cut_or_end (ascii "\n") (cut_or_end (ascii " ") (cut_or_end (ascii " ") line).1).1).0
 
 -- the name and the reason of a code, by the first row that begins with it; without one, those of an
 -- unknown code

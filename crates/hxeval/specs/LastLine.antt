@@ -1,7 +1,7 @@
 -- The beginning of the last line of a text, as it is known while the text goes by.
 use Rattle.std.specs.Prelude.{ℕ, Bool, not, ◌==◌, List, [], ◌∷◌, ◌++◌, take, if◌then◌else◌}
 use Rattle.std.specs.List.{list_all}
-use Rattle.hx_base.specs.Bytes.{line_feed}
+use Rattle.hx_base.specs.Bytes.{ascii}
 
 -- the beginning of a line, of at most 64 bytes, and whether the line ended
 pub record LineStart : Type 0 where
@@ -18,7 +18,7 @@ abbrev pub start_after : LineStart → ℕ → LineStart
 start_after start byte =
     record {
       bytes = take 64 ((if start.ended then [] else start.bytes) ++ byte ∷ []);
-      ended = byte == line_feed;
+      ended = byte == ascii "\n";
     }
 
 -- so many bytes further
@@ -28,4 +28,4 @@ start_after_all start (byte ∷ bytes) = start_after_all (start_after start byte
 
 -- bytes of which none ends a line
 abbrev pub is_inside : List ℕ → Bool
-is_inside bytes = list_all (λ byte. not (byte == line_feed)) bytes
+is_inside bytes = list_all (λ byte. not (byte == ascii "\n")) bytes

@@ -4,7 +4,7 @@ use Rattle.std.specs.Prelude.{◌≡◌, ℕ, true, nat_lt, List, length, filter
 use Rattle.std.specs.List.{list_any}
 use Rattle.std.specs.declared.alloc.Global.{Global}
 use Rattle.std.specs.declared.vec.Vec.{Vec}
-use Rattle.hx_base.specs.Bytes.{equals_sign}
+use Rattle.hx_base.specs.Bytes.{ascii}
 use Rattle.hx_base.specs.Pairs.{NamedBytes}
 use Rattle.hx_text.specs.Cut.{cut_of}
 
@@ -18,7 +18,7 @@ HasLonger bytes texts = list_any (λ text. nat_lt bytes (length text)) texts ≡
 
 -- the variable that an entry is, cut at its first `=`; one without `=` is none
 unfoldable pub entry_variable : List ℕ → Option (List ℕ × List ℕ)
-entry_variable entry = cut_of equals_sign entry
+entry_variable entry = cut_of (ascii "=") entry
 
 abbrev pub variables_of : List (List ℕ) → NamedBytes
 variables_of entries = filter_map entry_variable entries

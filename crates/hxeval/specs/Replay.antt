@@ -1,5 +1,5 @@
 -- What a record is answered, event by event.
-use Rattle.std.specs.Prelude.{◌≡◌, ℕ, Bool, true, false, List, [], ◌∷◌, ◌++◌, Option, None, Some, IsSomeAnd, ⊤, ◌⊎◌}
+use Rattle.std.specs.Prelude.{◌≡◌, ℕ, Bool, true, false, List, [], ◌∷◌, ◌++◌, Option, None, Some, IfSome, IsSomeAnd, ◌⊎◌}
 use Rattle.std.specs.Io.KnownBytes.{Appends, Consumes}
 use Rattle.hx_record.specs.Record.{Items, Unknown, Done, Bad, Then, record_items, decided_items}
 use Rattle.hx_record.specs.declared.Event.{Event}
@@ -44,6 +44,10 @@ replay_outcome world (Then placed rest) =
 abbrev pub record_limit : ℕ
 record_limit = 4294967296
 
+-- the world before the first event
+abbrev pub initial_world : Program → World
+initial_world program = first_world program.rules program.references
+
 -- what a whole record is answered
 abbrev pub record_outcome : Program → List ℕ → Outcome
 record_outcome program bytes =
@@ -56,8 +60,7 @@ decided_outcome program bytes =
 
 -- the record is all that the source has left, where that is known
 abbrev pub IsRecord : Option (List ℕ) → List ℕ → Type 0
-IsRecord None bytes = ⊤
-IsRecord (Some left) bytes = bytes ≡ left
+IsRecord left bytes = IfSome left (λ known. bytes ≡ known)
 
 -- Exactly the answers were written to the events that the bytes taken from the source decide,
 -- whatever would have followed them. None of those events is refused, nor is the record by these
@@ -70,16 +73,13 @@ pub record WritesDecided (program : Program) (left left' old new : Option (List 
 
 -- the events of a record, and whether its end follows them
 abbrev pub events_of : Items → List Event
-events_of Unknown = []
-events_of Done = []
-events_of (Bad offset code) = []
 events_of (Then placed rest) = placed.event ∷ events_of rest
+events_of _ = []
 
 abbrev pub is_whole : Items → Bool
-is_whole Unknown = false
 is_whole Done = true
-is_whole (Bad offset code) = false
 is_whole (Then placed rest) = is_whole rest
+is_whole _ = false
 
 -- each event may stand where it stands
 abbrev pub AreAllowed : World → List Event → Type 0
@@ -90,8 +90,7 @@ AreAllowed world (event ∷ events) =
 -- the answers to events in order, one after the other
 abbrev pub answers_to : World → List Event → List ℕ
 answers_to world [] = []
-answers_to world (event ∷ events) =
-    answer_of world event ++ answers_to (world_after world event) events
+answers_to world (event ∷ rest) = answer_of world event ++ answers_to (world_after world event) rest
 
 -- a rule or a command asks for this expression at one of the items of a record, with no refusal
 -- before it

@@ -1,13 +1,12 @@
 -- What a run writes, and its status.
-use Rattle.std.specs.Prelude.{◌≡◌, ◌⊎◌, ◌++◌, ℕ, true, List, [], ◌∷◌, length, map, codes, Contains, IsSomeAnd, Option, None, Some, option_map, ⊤, if◌then◌else◌}
+use Rattle.std.specs.Prelude.{◌≡◌, ◌⊎◌, ◌++◌, ℕ, true, List, [], ◌∷◌, length, map, codes, Contains, IfSome, IsSomeAnd, Option, None, Some, option_map, if◌then◌else◌}
 use Rattle.std.specs.Fmt.{decimal}
 use Rattle.std.specs.Io.KnownBytes.{Appends}
 use Rattle.std.specs.Str.{bytes_eq}
 use Rattle.std.specs.declared.alloc.Global.{Global}
 use Rattle.std.specs.declared.vec.Vec.{Vec}
 use Rattle.hx_base.specs.Pairs.{NamedBytes, pairs_of, value_at}
-use Rattle.hx_core.specs.World.{first_world}
-use Rattle.hx_load.specs.Loads.{Judges, Loading, Loads, ReadsFile, loaded}
+use Rattle.hx_load.specs.Loads.{GivesProgram, Judges, Loading, ReadsFile, loaded}
 use Rattle.hx_load.specs.Loads as loading
 use Rattle.hx_load.specs.References.{HasFiles}
 use Rattle.hx_outside.specs.Makers.{ExpressionText}
@@ -19,7 +18,7 @@ use Rattle.hx_rules.specs.Programs.{Rules, rule_count}
 use Rattle.hx_words.specs.Variable.{Env}
 use Rattle.hxeval.specs.Outcome.{Outcome, Completed, ConfigRefused, Undecided, status_of, text_of}
 pub use Rattle.hxeval.specs.Outcome.{config_line}
-use Rattle.hxeval.specs.Replay.{IsRecord, ReplayAsksLast, WritesDecided, record_limit, ends_with, record_outcome, events_of, is_whole, AreAllowed, answers_to}
+use Rattle.hxeval.specs.Replay.{IsRecord, ReplayAsksLast, WritesDecided, record_limit, ends_with, record_outcome, events_of, is_whole, AreAllowed, answers_to, initial_world}
 use Rattle.hxeval.specs.Program.{Program}
 use Rattle.hxeval.specs.declared.command.Task.{Task}
 use Rattle.hxeval.specs.declared.command.Task.TheVariants.{Check, Replay}
@@ -71,8 +70,7 @@ usual_limits = record { entries = 1000000; adds = 4000000000; versions = 4294967
 
 -- the configuration is what the files hold under its name, where that is known
 abbrev pub HasConfig : Option NamedBytes → List ℕ → Option (List ℕ) → Type 0
-HasConfig None name config = ⊤
-HasConfig (Some files) name config = config ≡ value_at files name
+HasConfig held name config = IfSome held (λ files. config ≡ value_at files name)
 
 -- what is written of a configuration that is accepted: the number of its rules, and that of its
 -- references
@@ -133,10 +131,9 @@ pub record HasStatus (s : Setting) (status : ℕ) : Type 0 where
 -- the configuration of a setting is accepted as this program
 pub record Accepts (s : Setting) (files : NamedBytes) (program : Program) : Type 0 where
   pub config : List ℕ
-  pub of_config : HasConfig s.held s.name (Some config)
-  pub of_files : HasFiles s.held files
-  pub loads : Loads s.env usual_limits files config
-      (loading.Accepted program.rules program.references)
+  pub of_config : IfSome s.held (λ held. Some config ≡ value_at held s.name)
+  pub of_files : IfSome s.held (λ held. files ≡ held)
+  pub loads : GivesProgram s.env usual_limits files config program.rules program.references
 
 -- The headline. The configuration was accepted, the record was read to its end, each of its events
 -- stood where it may, and exactly the answers to its events in order were written.
@@ -145,13 +142,11 @@ pub record Headline (s : Setting) (old new : Option (List ℕ)) : Type 0 where
   pub bytes : List ℕ
   pub program : Program
   pub accepted : Accepts s files program
-  pub of_source : IsRecord s.left bytes
+  pub of_source : IfSome s.left (λ left. bytes ≡ left)
   pub read : is_whole (record_items bytes record_limit) ≡ true
-  pub allowed : AreAllowed (first_world program.rules program.references)
-      (events_of (record_items bytes record_limit))
+  pub allowed : AreAllowed (initial_world program) (events_of (record_items bytes record_limit))
   pub written : Appends old new
-      (answers_to (first_world program.rules program.references)
-      (events_of (record_items bytes record_limit)))
+      (answers_to (initial_world program) (events_of (record_items bytes record_limit)))
 
 -- A check: the configuration was accepted, and its line was written.
 pub record Checked (s : Setting) (old new : Option (List ℕ)) : Type 0 where

@@ -172,10 +172,10 @@ const STATUS_TEXTS: [(u8, &[u8]); 4] = [
         b"usage: hxeval run CONFIG\n\
           \x20      hxeval check CONFIG\n\
           \n\
-          run replays the record on standard input through the rules of the file CONFIG, and\n\
-          writes for each request its verdict, its head where the rules change it, and where\n\
-          it is redirected to. check only judges CONFIG, and writes ok, the number of its rules\n\
-          and that of its files and lists of patterns.\n\
+          run replays the record on standard input through the rules of the file CONFIG. It\n\
+          writes for each request its verdict, its head where the rules change it, and where it\n\
+          is redirected to; and for each management command its reply. check only judges CONFIG,\n\
+          and writes ok, the number of its rules, and that of its files and lists of patterns.\n\
           \n\
           Exit status: 0 done, 2 wrong words, 3 configuration refused, 4 record refused,\n\
           5 a file or the record can't be read, 6 an answer can't be written, 7 out of memory,\n\
@@ -422,10 +422,10 @@ mod tests {
         let usage = b"usage: hxeval run CONFIG\n\
             \x20      hxeval check CONFIG\n\
             \n\
-            run replays the record on standard input through the rules of the file CONFIG, and\n\
-            writes for each request its verdict, its head where the rules change it, and where\n\
-            it is redirected to. check only judges CONFIG, and writes ok, the number of its rules\n\
-            and that of its files and lists of patterns.\n\
+            run replays the record on standard input through the rules of the file CONFIG. It\n\
+            writes for each request its verdict, its head where the rules change it, and where it\n\
+            is redirected to; and for each management command its reply. check only judges CONFIG,\n\
+            and writes ok, the number of its rules, and that of its files and lists of patterns.\n\
             \n\
             Exit status: 0 done, 2 wrong words, 3 configuration refused, 4 record refused,\n\
             5 a file or the record can't be read, 6 an answer can't be written, 7 out of memory,\n\
