@@ -5,6 +5,7 @@ use Rattle.std.specs.List.{slice_split, join_with_byte}
 use Rattle.std.specs.Str.{bytes_eq}
 use Rattle.memchr.specs.Find.{is_byte}
 use Rattle.hx_base.specs.Bytes.{ascii}
+use Rattle.hx_base.specs.Results.{◌>>=◌}
 use Rattle.hx_text.specs.Number.{number_up_to}
 use Rattle.hx_text.specs.Address.{ip_of}
 use Rattle.hx_record.specs.declared.events.Event.{Event}
@@ -17,12 +18,6 @@ pub data LineMeaning : Type 0 where
   Nothing : LineMeaning
   Says : (event : Event) → LineMeaning
   Announces : (id len : ℕ) → LineMeaning
-
-infixl 10 ◌>>=◌
-abbrev ◌>>=◌ : {A B : Type 0} → Result A RecordRefusal → (A → Result B RecordRefusal)
-    → Result B RecordRefusal
-Err refusal >>= f = Err refusal
-Ok a >>= f = f a
 
 -- a number of at most so much, in one or more decimal digits
 abbrev pub number_of_word : ℕ → List ℕ → Result ℕ RecordRefusal
@@ -73,4 +68,5 @@ words_meaning (name ∷ rest) =
 unfoldable pub line_meaning : List ℕ → Result LineMeaning RecordRefusal
 line_meaning [] = Ok Nothing
 line_meaning (b ∷ bs) =
-    if b == ascii "#" then Ok Nothing else words_meaning (slice_split (is_byte (ascii " ")) (b ∷ bs))
+    if b == ascii "#" then Ok Nothing
+    else words_meaning (slice_split (is_byte (ascii " ")) (b ∷ bs))

@@ -28,7 +28,8 @@ use Rattle.hx_spell.specs.declared.action_table.VariableAction.TheVariants as va
 use Rattle.hx_spell.specs.declared.fault.SpellFault.{SpellFault}
 use Rattle.hx_spell.specs.declared.fault.SpellFault.TheVariants as spell
 use Rattle.hx_spell.specs.Actions.{ActionHead, BareAction, FileAction, HeadMaker, VariableAction, Bare, OfFile, OfVariable, Taken, action_table, action_words, bare_head, bare_words, changes_map, expr_word, file_head, first_word, format_word, given_file, head_by, head_fault_by, head_of_step, head_reading, header_word, is_status_word, kind_table, kind_word, optional_word, plain_word, redirect_status_of, redirect_taken, status_of, switch_table, taken, text_word, variable_head, with_expr, with_format, with_header_format, with_name_of_header, with_redirect, with_replacement, with_status, with_switch, with_two_formats, word_and_value}
-use Rattle.hx_spell.specs.Arguments.{◌>>=◌, counted, single}
+use Rattle.hx_base.specs.Results.{◌>>=◌}
+use Rattle.hx_spell.specs.Arguments.{counted, single}
 use Rattle.hx_spell.specs.Codes.{bad_argument, bad_name}
 use Rattle.hx_spell.specs.Criteria.{expr_of}
 use Rattle.hx_spell.specs.Formats.{format_of}

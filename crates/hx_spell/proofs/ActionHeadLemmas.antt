@@ -15,7 +15,8 @@ use Rattle.hx_spell.specs.declared.action_table.VariableAction.TheVariants as va
 use Rattle.hx_spell.specs.declared.fault.SpellFault.{SpellFault}
 use Rattle.hx_spell.specs.ActionRelation.{IsCall, IsName}
 use Rattle.hx_spell.specs.Actions.{ActionHead, BareAction, FileAction, HeadMaker, VariableAction, Bare, OfFile, OfVariable, action_table, bare_head, changes_map, file_head, given_file, head_by, head_fault_by, head_of_step, head_reading, variable_head}
-use Rattle.hx_spell.specs.Arguments.{◌>>=◌, counted, is_count, required, single}
+use Rattle.hx_base.specs.Results.{◌>>=◌}
+use Rattle.hx_spell.specs.Arguments.{counted, is_count, required, single}
 use Rattle.hx_spell.specs.Codes.{bad_argument, bad_name, unsupported}
 use Rattle.hx_spell.specs.Known.{Known, Reading, with_file}
 use Rattle.hx_spell.specs.Tables.{entry_at}

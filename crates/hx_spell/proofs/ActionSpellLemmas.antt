@@ -19,7 +19,7 @@ use Rattle.hx_spell.specs.declared.fault.SpellFault.{SpellFault}
 use Rattle.hx_spell.specs.ActionRelation.{IsCall, IsName, IsStatusWord, SpellAction, SpellNumber, SpellRedirect, TakesFileFormat, TakesFormat, TakesHeaderFormat, TakesReplacement, kind_text}
 use Rattle.hx_spell.specs.ActionRelation.SpellAction.{AllowWords, DenyWords, FormatWords, HeaderFormatWords, DelHeaderWords, ReplacementWords, SetVarWords, UnsetVarWords, FileFormatWords, SetMapWords, RedirectWords, StrictModeWords}
 use Rattle.hx_spell.specs.Actions.{ActionHead, BareAction, Bare, OfFile, OfVariable, Taken, action_words, bare_words, first_word, head_of_step, is_status_word, kind_table, optional_word, plain_word, redirect_status_of, redirect_taken, status_of, switch_table, taken, with_expr, with_format, with_header_format, with_name_of_header, with_redirect, with_replacement, with_status, with_switch, with_two_formats, word_and_value, format_word}
-use Rattle.hx_spell.specs.Arguments.{◌>>=◌}
+use Rattle.hx_base.specs.Results.{◌>>=◌}
 use Rattle.hx_spell.specs.Codes.{bad_argument, bad_name}
 use Rattle.hx_spell.specs.Criteria.{expr_of}
 use Rattle.hx_spell.specs.FormatRelation.{WritesFormat}

@@ -7,7 +7,7 @@ use Rattle.hx_ast.specs.declared.Part.{Part}
 use Rattle.hx_ast.specs.declared.RedirectKind.{RedirectKind}
 use Rattle.hx_spell.specs.declared.fault.SpellFault.{SpellFault}
 use Rattle.hx_spell.specs.Actions.{Taken, format_word, optional_word, redirect_status_of, redirect_taken, text_word, with_format, word_and_value}
-use Rattle.hx_spell.specs.Arguments.{◌>>=◌}
+use Rattle.hx_base.specs.Results.{◌>>=◌}
 use Rattle.hx_spell.specs.Known.{Reading}
 
 -- what is read after the name of a header, where a regular expression follows

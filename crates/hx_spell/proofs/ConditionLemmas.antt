@@ -11,7 +11,7 @@ use Rattle.hx_ast.specs.declared.AclUse.TheVariants.{Named, Own}
 use Rattle.hx_ast.specs.declared.Decl.{Decl}
 use Rattle.hx_ast.specs.declared.Term.{Term}
 use Rattle.hx_spell.specs.declared.fault.SpellFault.{SpellFault}
-use Rattle.hx_spell.specs.Arguments.{◌>>=◌}
+use Rattle.hx_base.specs.Results.{◌>>=◌}
 use Rattle.hx_spell.specs.Codes.{bad_condition}
 use Rattle.hx_spell.specs.Conditions.{Terms, after_marks, after_marks_word, cond_end, cond_from, cond_of, cond_reading, is_acl_name, is_known_acl, is_or, marks_of, named_term, next_word, no_marks, no_terms, own_decl, own_term, with_conj, with_marks, with_term, word_inside, word_outside}
 use Rattle.hx_spell.specs.Declarations.{decl_of}

@@ -11,7 +11,7 @@ use Rattle.hx_ast.specs.declared.AclUse.TheVariants.{Named, Own}
 use Rattle.hx_ast.specs.declared.Decl.{Decl}
 use Rattle.hx_ast.specs.declared.Term.{Term}
 use Rattle.hx_spell.specs.declared.fault.SpellFault.{SpellFault}
-use Rattle.hx_spell.specs.Arguments.{◌>>=◌}
+use Rattle.hx_base.specs.Results.{◌>>=◌}
 use Rattle.hx_spell.specs.Codes.{bad_condition, unknown_acl}
 use Rattle.hx_spell.specs.ConditionView.{is_closing, marked}
 use Rattle.hx_spell.specs.Conditions.{Marks, Terms, after_marks, after_marks_word, cond_end, cond_from, is_acl_name, is_known_acl, is_odd, is_or, marks_of, named_term, next_conj, no_marks, own_decl, with_marks, with_term}

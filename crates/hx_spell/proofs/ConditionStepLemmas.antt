@@ -11,7 +11,7 @@ use Rattle.hx_ast.specs.declared.AclUse.TheVariants.{Own}
 use Rattle.hx_ast.specs.declared.Decl.{Decl}
 use Rattle.hx_ast.specs.declared.Term.{Term}
 use Rattle.hx_spell.specs.declared.fault.SpellFault.{SpellFault}
-use Rattle.hx_spell.specs.Arguments.{◌>>=◌}
+use Rattle.hx_base.specs.Results.{◌>>=◌}
 use Rattle.hx_spell.specs.ConditionView.{RefusedAs, is_closing, marked, opened, unclosed}
 use Rattle.hx_spell.specs.Conditions.{Terms, cond_from, is_name, is_odd, own_decl, own_term, turned, with_term}
 use Rattle.hx_spell.specs.Known.{Known, Reading}

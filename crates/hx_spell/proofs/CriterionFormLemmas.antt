@@ -24,7 +24,8 @@ use Rattle.hx_ast.specs.Convs.{IsConv, IsExpr, IsReadableAs, is_map_method}
 use Rattle.hx_ast.specs.Fetches.{IsFetch}
 use Rattle.hx_spell.specs.declared.fault.SpellFault.{SpellFault}
 use Rattle.hx_spell.specs.declared.fault.SpellFault.TheVariants as spell
-use Rattle.hx_spell.specs.Arguments.{◌>>=◌, optional}
+use Rattle.hx_base.specs.Results.{◌>>=◌}
+use Rattle.hx_spell.specs.Arguments.{optional}
 use Rattle.hx_spell.specs.Codes.{bad_argument, form_fault}
 use Rattle.hx_spell.specs.Criteria.{Criterion, FetchWay, MapWay, MethodFetch, conv_by, conv_call, conv_fault_by, convs_after, criterion, criterion_of_steps, derived_fetches, derived_methods, derived_of_parts, fetch_by, fetch_fault_by, fetch_way, map_arguments, map_table, value_of_map, way_with}
 use Rattle.hx_spell.specs.Expressions.{call_meaning, fault_of, made_of}

@@ -12,7 +12,7 @@ use Rattle.hx_ast.specs.Acls.{takes_patterns}
 use Rattle.hx_ast.specs.Convs.{IsExpr}
 use Rattle.hx_spell.specs.declared.fault.SpellFault.{SpellFault}
 use Rattle.hx_spell.specs.declared.fault.SpellFault.TheVariants as spell
-use Rattle.hx_spell.specs.Arguments.{◌>>=◌}
+use Rattle.hx_base.specs.Results.{◌>>=◌}
 use Rattle.hx_spell.specs.Codes.{unsupported}
 use Rattle.hx_spell.specs.Criteria.{Criterion, FetchWay, MapWay, MethodFetch, conv_call, conv_fault_by, convs_after, criterion, criterion_of, criterion_of_steps, fetch_by, fetch_fault_by, fetch_way, map_table}
 use Rattle.hx_spell.specs.Expressions.{fault_of}

@@ -7,7 +7,7 @@ use Rattle.hx_words.specs.CallForm.{CallForm}
 use Rattle.hx_words.specs.declared.ArgFault.{ArgFault}
 use Rattle.hx_ast.specs.declared.Conv.{Conv}
 use Rattle.hx_spell.specs.declared.fault.SpellFault.{SpellFault}
-use Rattle.hx_spell.specs.Arguments.{◌>>=◌}
+use Rattle.hx_base.specs.Results.{◌>>=◌}
 use Rattle.hx_spell.specs.Criteria.{conv_call, conv_fault_by, convs_after, criterion_of, criterion_of_steps, expr_of, expr_of_steps, map_table}
 use Rattle.hx_spell.specs.Formats.{rest_after}
 use Rattle.hx_spell.specs.Known.{Known, Reading}

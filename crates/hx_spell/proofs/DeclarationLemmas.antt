@@ -14,7 +14,7 @@ use Rattle.hx_ast.specs.Convs.{IsExpr}
 use Rattle.hx_ast.specs.Types.{expr_kind}
 use Rattle.hx_spell.specs.declared.fault.SpellFault.{SpellFault}
 use Rattle.hx_spell.specs.declared.fault.SpellFault.TheVariants as spell
-use Rattle.hx_spell.specs.Arguments.{◌>>=◌}
+use Rattle.hx_base.specs.Results.{◌>>=◌}
 use Rattle.hx_spell.specs.Codes.{bad_argument, unsupported}
 use Rattle.hx_spell.specs.Criteria.{Criterion, criterion_of}
 use Rattle.hx_spell.specs.Declarations.{Way, decl_by, decl_of, decl_reading, file_heads, has_no_patterns, heads_of_keys, ignores_case, pattern_decl, way_of, way_of_kind, words_head}

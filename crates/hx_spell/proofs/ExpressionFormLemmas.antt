@@ -10,7 +10,7 @@ use Rattle.hx_ast.specs.Convs.{IsConv, IsExpr}
 use Rattle.hx_ast.specs.Fetches.{IsFetch}
 use Rattle.hx_ast.specs.declared.Expr.{Expr}
 use Rattle.hx_ast.specs.declared.Fetch.{Fetch}
-use Rattle.hx_spell.specs.Arguments.{◌>>=◌}
+use Rattle.hx_base.specs.Results.{◌>>=◌}
 use Rattle.hx_spell.specs.Criteria.{convs_after, expr_of, expr_of_steps, expr_reading}
 use Rattle.hx_spell.specs.Expressions.{call_meaning, fault_of}
 use Rattle.hx_spell.specs.Known.{Known, Reading}

@@ -8,7 +8,7 @@ use Rattle.hx_ast.specs.Actions.{IsFormat, IsPart}
 use Rattle.hx_ast.specs.declared.Part.{Part}
 use Rattle.hx_ast.specs.declared.Part.TheVariants.{Text, Value}
 use Rattle.hx_spell.specs.declared.fault.SpellFault.{SpellFault}
-use Rattle.hx_spell.specs.Arguments.{◌>>=◌}
+use Rattle.hx_base.specs.Results.{◌>>=◌}
 use Rattle.hx_spell.specs.Codes.{bad_format}
 use Rattle.hx_spell.specs.Criteria.{expr_of}
 use Rattle.hx_base.specs.Bytes.{ascii}

@@ -5,7 +5,7 @@ use Rattle.std.proofs.lemmas.Bool.{ne_eqb}
 use Rattle.hx_words.specs.Calls.{steps_of}
 use Rattle.hx_ast.specs.declared.Expr.{Expr}
 use Rattle.hx_ast.specs.declared.Part.{Part}
-use Rattle.hx_spell.specs.Arguments.{◌>>=◌}
+use Rattle.hx_base.specs.Results.{◌>>=◌}
 use Rattle.hx_spell.specs.Criteria.{expr_of}
 use Rattle.hx_spell.specs.ExpressionRelation.{WritesExpr}
 use Rattle.hx_spell.specs.FormatRelation.{WritesFormat}

@@ -5,7 +5,7 @@ use Rattle.std.proofs.lemmas.Bool.{cases_Bool, eqb-true, eqb-false}
 use Rattle.hx_words.specs.Calls.{steps_of}
 use Rattle.hx_ast.specs.declared.Part.{Part}
 use Rattle.hx_spell.specs.declared.fault.SpellFault.{SpellFault}
-use Rattle.hx_spell.specs.Arguments.{◌>>=◌}
+use Rattle.hx_base.specs.Results.{◌>>=◌}
 use Rattle.hx_spell.specs.Codes.{bad_format}
 use Rattle.hx_spell.specs.Criteria.{expr_of}
 use Rattle.hx_spell.specs.FormatRelation.{WritesFormat}

@@ -10,7 +10,7 @@ use Rattle.hx_ast.specs.declared.Expr.{Expr}
 use Rattle.hx_ast.specs.declared.Part.{Part}
 use Rattle.hx_ast.specs.declared.Part.TheVariants.{Value}
 use Rattle.hx_spell.specs.declared.fault.SpellFault.{SpellFault}
-use Rattle.hx_spell.specs.Arguments.{◌>>=◌}
+use Rattle.hx_base.specs.Results.{◌>>=◌}
 use Rattle.hx_spell.specs.Criteria.{expr_of}
 use Rattle.hx_spell.specs.FormatView.{bytes_before, text_part, with_read}
 use Rattle.hx_base.specs.Bytes.{ascii}

@@ -20,7 +20,7 @@ use Rattle.hx_ast.specs.declared.Term.{Term}
 use Rattle.hx_spell.specs.declared.fault.SpellFault.{SpellFault}
 use Rattle.hx_spell.specs.declared.fault.SpellFault.TheVariants as spell
 use Rattle.hx_spell.specs.Actions.{Taken, action_words, format_word, head_of_step, with_redirect}
-use Rattle.hx_spell.specs.Arguments.{◌>>=◌}
+use Rattle.hx_base.specs.Results.{◌>>=◌}
 use Rattle.hx_spell.specs.Codes.{bad_argument, bad_name, misplaced, unsupported}
 use Rattle.hx_spell.specs.Conditions.{cond_of, is_acl_name, is_name}
 use Rattle.hx_spell.specs.Declarations.{decl_of}

@@ -13,7 +13,7 @@ use Rattle.hx_ast.specs.declared.Statement.TheVariants as statement
 use Rattle.hx_spell.specs.declared.fault.SpellFault.{SpellFault}
 use Rattle.hx_spell.specs.ActionRelation.{SpellAction, SpellRedirect}
 use Rattle.hx_spell.specs.Actions.{Taken, action_words, head_of_step, taken, with_redirect}
-use Rattle.hx_spell.specs.Arguments.{◌>>=◌}
+use Rattle.hx_base.specs.Results.{◌>>=◌}
 use Rattle.hx_spell.specs.Codes.{bad_argument, bad_name, misplaced, unsupported}
 use Rattle.hx_spell.specs.ConditionRelation.{SpellWhen}
 use Rattle.hx_spell.specs.ConditionRelation.SpellWhen.{Always, Conditionally}

@@ -21,7 +21,8 @@ use Rattle.hx_ast.specs.declared.Part.{Part}
 use Rattle.hx_spell.specs.declared.fault.SpellFault.{SpellFault}
 use Rattle.hx_spell.specs.Actions.{ActionHead, AddAcl, AddHeader, Allow, Bare, BareAction, DelAcl, DelHeader, DelMap, Deny, FileAction, HeadMaker, OfFile, OfVariable, Redirect, ReplaceHeader, ReplaceValue, Set, SetHeader, SetMap, SetMethod, SetPath, SetQuery, SetUri, StrictMode, Taken, Unset, VariableAction}
 use Rattle.hx_spell.specs.Actions.{WordsReader, action_table, action_words, bare_head, bare_words, changes_map, expr_word, file_head, file_words, first_word, format_word, given_file, head_by, head_fault_by, head_of_step, header_word, is_status_word, kind_table, kind_word, optional_word, plain_word, redirect_status_of, status_of, switch_table, text_word, variable_head, variable_words, with_format, with_header_format, with_redirect, with_replacement, with_status, with_two_formats, word_and_value}
-use Rattle.hx_spell.specs.Arguments.{◌>>=◌, counted, is_count, required, single}
+use Rattle.hx_base.specs.Results.{◌>>=◌}
+use Rattle.hx_spell.specs.Arguments.{counted, is_count, required, single}
 use Rattle.hx_spell.specs.Codes.{bad_argument, bad_name}
 use Rattle.hx_spell.specs.Criteria.{expr_of}
 use Rattle.hx_spell.specs.Formats.{format_of}

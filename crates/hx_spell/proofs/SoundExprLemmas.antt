@@ -25,7 +25,8 @@ use Rattle.hx_ast.specs.Statements.{is_map}
 use Rattle.hx_spell.specs.declared.fault.SpellFault.{SpellFault}
 use Rattle.hx_spell.specs.declared.table_specs.HeadSpec.{HeadSpec}
 use Rattle.hx_spell.specs.declared.table_specs.MapOutput.{MapOutput}
-use Rattle.hx_spell.specs.Arguments.{◌>>=◌, is_count, optional}
+use Rattle.hx_base.specs.Results.{◌>>=◌}
+use Rattle.hx_spell.specs.Arguments.{is_count, optional}
 use Rattle.hx_spell.specs.Codes.{bad_argument, bad_format}
 use Rattle.hx_spell.specs.Criteria.{Criterion, MapWay, conv_by, conv_call, conv_fault_by, conv_step, convs_after, criterion_of, criterion_of_steps, expr_fetch, expr_of, expr_of_steps, fetch_step, map_arguments, map_head, map_table, value_of_map}
 use Rattle.hx_spell.specs.Expressions.{call_meaning, fault_of}

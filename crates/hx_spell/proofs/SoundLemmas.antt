@@ -12,7 +12,7 @@ use Rattle.hx_text.specs.declared.By.{By}
 use Rattle.hx_spell.specs.declared.fault.SpellFault.{SpellFault}
 use Rattle.hx_spell.specs.declared.table_specs.HeadSpec.{HeadSpec}
 use Rattle.hx_spell.specs.declared.table_specs.MapOutput.{MapOutput}
-use Rattle.hx_spell.specs.Arguments.{◌>>=◌}
+use Rattle.hx_base.specs.Results.{◌>>=◌}
 use Rattle.hx_spell.specs.Codes.{file_kind, too_many_references}
 use Rattle.hx_spell.specs.Heads.{IsHeadBy}
 use Rattle.hx_spell.specs.Known.{BeginsWith, Known, Reading, ReferenceForm, after_statement, has_columns, is_head, is_of_file, most_references, nothing_known, reading, reference_form, with_acl, with_fallback, with_file, with_head, with_name, with_named, with_named_file, with_output, with_reference}

@@ -24,7 +24,8 @@ pub use Rattle.hx_spell.specs.declared.action_table.FileAction.TheVariants.{AddA
 pub use Rattle.hx_spell.specs.declared.action_table.VariableAction.{VariableAction}
 pub use Rattle.hx_spell.specs.declared.action_table.VariableAction.TheVariants.{Set, Unset}
 use Rattle.hx_spell.specs.declared.fault.SpellFault.{SpellFault}
-use Rattle.hx_spell.specs.Arguments.{◌>>=◌, bare, counted, single}
+use Rattle.hx_base.specs.Results.{◌>>=◌}
+use Rattle.hx_spell.specs.Arguments.{bare, counted, single}
 use Rattle.hx_spell.specs.Codes.{bad_argument, bad_name, form_fault, unsupported}
 use Rattle.hx_spell.specs.Criteria.{expr_of}
 use Rattle.hx_spell.specs.Formats.{format_of}

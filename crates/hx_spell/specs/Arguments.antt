@@ -2,18 +2,11 @@
 -- number is judged first, and then the arguments from the left.
 use Rattle.std.specs.Prelude.{ℕ, Bool, false, nat_le, ◌&&◌, if◌then◌else◌, List, length, slice_get, Option, Some, None, unwrap_or, option_map, Result, Ok, Err}
 use Rattle.std.specs.Option.{ok_or, option_flatten, option_map_or}
+use Rattle.hx_base.specs.Results.{◌>>=◌}
 use Rattle.hx_text.specs.declared.VarName.{VarName}
 use Rattle.hx_spell.specs.declared.fault.SpellFault.{SpellFault}
 use Rattle.hx_spell.specs.Codes.{bad_argument, bad_name}
 use Rattle.hx_spell.specs.Values.{flags_of, variable_or_nothing_of}
-
--- ---- a value, or why there is none
-
-infixl 10 ◌>>=◌
-abbrev pub ◌>>=◌ : {A B : Type 0}
-    → Result A SpellFault → (A → Result B SpellFault) → Result B SpellFault
-Ok x >>= f = f x
-Err fault >>= f = Err fault
 
 -- ---- one argument
 

@@ -5,7 +5,7 @@ use Rattle.hx_ast.specs.declared.Term.{Term}
 use Rattle.hx_spell.specs.declared.conditions.Gathered.{Gathered}
 use Rattle.hx_spell.specs.declared.fault.SpellFault.{SpellFault}
 use Rattle.hx_spell.specs.declared.fault.SpellFault.TheVariants as spell
-use Rattle.hx_spell.specs.Arguments.{◌>>=◌}
+use Rattle.hx_base.specs.Results.{◌>>=◌}
 use Rattle.hx_spell.specs.Codes.{bad_condition}
 use Rattle.hx_spell.specs.Conditions.{Terms, after_marks_word, cond_from, own_decl, with_marks}
 use Rattle.hx_spell.specs.Known.{Known, Reading, reading}

@@ -12,7 +12,7 @@ use Rattle.hx_ast.specs.Acls.{is_name_byte}
 use Rattle.hx_ast.specs.Predefined.{predefined_names}
 use Rattle.hx_spell.specs.declared.fault.SpellFault.{SpellFault}
 use Rattle.hx_spell.specs.Codes.{bad_condition, unknown_acl}
-use Rattle.hx_spell.specs.Arguments.{◌>>=◌}
+use Rattle.hx_base.specs.Results.{◌>>=◌}
 use Rattle.hx_spell.specs.Declarations.{decl_of}
 use Rattle.hx_spell.specs.Known.{Known, Reading, reading}
 

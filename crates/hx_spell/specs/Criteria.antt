@@ -26,7 +26,8 @@ pub use Rattle.hx_spell.specs.declared.criteria.Criterion.{Criterion}
 pub use Rattle.hx_spell.specs.declared.criteria.MapWay.{MapWay}
 pub use Rattle.hx_spell.specs.declared.criteria.MethodFetch.{MethodFetch}
 use Rattle.hx_spell.specs.Codes.{bad_argument, form_fault, unsupported}
-use Rattle.hx_spell.specs.Arguments.{◌>>=◌, counted, optional}
+use Rattle.hx_base.specs.Results.{◌>>=◌}
+use Rattle.hx_spell.specs.Arguments.{counted, optional}
 use Rattle.hx_spell.specs.Expressions.{call_meaning, fault_of, made_of}
 use Rattle.hx_spell.specs.Known.{Known, Reading, nothing_known, with_head, with_named_file, with_output, reading}
 use Rattle.hx_spell.specs.Tables.{Maker, Table, conv_table, entry_at, fetch_table}

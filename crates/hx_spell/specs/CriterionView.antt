@@ -4,7 +4,7 @@ use Rattle.std.specs.Option.{ok_or}
 use Rattle.hx_spell.specs.declared.fault.SpellFault.{SpellFault}
 use Rattle.hx_spell.specs.declared.criteria.FetchWay.{FetchWay}
 use Rattle.hx_spell.specs.Criteria as criteria
-use Rattle.hx_spell.specs.Arguments.{◌>>=◌}
+use Rattle.hx_base.specs.Results.{◌>>=◌}
 use Rattle.hx_spell.specs.Codes.{bad_argument}
 use Rattle.hx_spell.specs.Known.{Known, Reading, with_named_file}
 use Rattle.hx_spell.specs.TableView.{fetch_maker}

@@ -14,7 +14,7 @@ pub use Rattle.hx_spell.specs.declared.flag_table.Flag.TheVariants.{IgnoreCase, 
 pub use Rattle.hx_spell.specs.declared.flag_table.Flags.{Flags}
 pub use Rattle.hx_spell.specs.declared.flag_table.Searched.{Searched}
 use Rattle.hx_spell.specs.Codes.{bad_argument, unsupported}
-use Rattle.hx_spell.specs.Arguments.{◌>>=◌}
+use Rattle.hx_base.specs.Results.{◌>>=◌}
 use Rattle.hx_spell.specs.Known.{Known, Reading, with_acl, with_named_file, reading}
 use Rattle.hx_spell.specs.Tables.{Table, entry_at}
 

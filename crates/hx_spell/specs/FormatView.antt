@@ -4,7 +4,7 @@ use Rattle.hx_ast.specs.declared.Part.{Part}
 use Rattle.hx_ast.specs.declared.Part.TheVariants.{Text}
 use Rattle.hx_spell.specs.declared.fault.SpellFault.{SpellFault}
 use Rattle.hx_spell.specs.declared.fault.SpellFault.TheVariants as spell
-use Rattle.hx_spell.specs.Arguments.{◌>>=◌}
+use Rattle.hx_base.specs.Results.{◌>>=◌}
 use Rattle.hx_spell.specs.Formats.{FormatReader, byte_before}
 use Rattle.hx_spell.specs.Known.{Known, Reading, reading}
 

@@ -14,7 +14,7 @@ use Rattle.hx_spell.specs.declared.fault.SpellFault.TheVariants as spell
 use Rattle.hx_spell.specs.declared.table_specs.HeadSpec.{HeadSpec}
 use Rattle.hx_spell.specs.declared.table_specs.MapOutput.{MapOutput}
 use Rattle.hx_spell.specs.declared.known.Lengths.{Lengths}
-use Rattle.hx_spell.specs.Arguments.{◌>>=◌}
+use Rattle.hx_base.specs.Results.{◌>>=◌}
 use Rattle.hx_spell.specs.Codes.{file_kind, too_many_references}
 
 -- A reference as a configuration brings it: a file of patterns or of pairs, or the inline patterns
