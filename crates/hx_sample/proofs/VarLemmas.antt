@@ -12,7 +12,7 @@ use Rattle.hx_text.specs.declared.names.Scope.{Scope}
 use Rattle.hx_text.specs.declared.names.Scope.TheVariants.{Proc, Sess, Txn, Req, Res}
 use Rattle.hx_text.specs.declared.names.VarName.{VarName}
 use Rattle.hx_sample.specs.declared.sample.Value.{Value}
-use Rattle.hx_sample.specs.Stored.{Parts, all_vars, in_scope, in_session, session_cmp, with_placed, without_session}
+use Rattle.hx_sample.specs.Stored.{Parts, SessionVar, all_vars, in_scope, in_session, session_cmp, with_placed, without_session}
 use Rattle.hx_sample.specs.Vars.{Scopes, VarKey, after_request, after_session, ends_with_request, key_cmp, key_of, owner_of, var_of, with_var, without_var}
 use Rattle.hx_sample.proofs.KeyLemmas.{exact_key, key_total}
 use Rattle.hx_sample.proofs.MapLemmas.{inserted_apart}
@@ -91,6 +91,23 @@ from_transaction s = with_placed (in_scope Txn) (map.entries s.transaction) (fro
 abbrev from_sessions : Parts → Scopes
 from_sessions s = with_placed in_session (map.entries s.sessions) (from_transaction s)
 
+-- no key with a connection is one of the scopes after the session's
+none_after_sessions : (s : Parts) (c : ℕ) (scope : Scope) (n : List ℕ) → map.get (from_transaction s) (Some c, named scope n) ≡ None
+none_after_sessions s c scope n =
+    placed_elsewhere (in_scope Txn) (Some c, named scope n) (λ _. greater) (map.entries s.transaction) (from_request s)
+    ∙ placed_elsewhere (in_scope Req) (Some c, named scope n) (λ _. greater) (map.entries s.request) (from_response s)
+    ∙ placed_elsewhere (in_scope Res) (Some c, named scope n) (λ _. greater) (map.entries s.response) map.empty
+    ∙ get-empty key_cmp (Some c, named scope n)
+
+-- a key with a connection that is no key of a session
+of_no_session : (s : Parts) (c : ℕ) (scope : Scope) (n : List ℕ)
+    → ((var : SessionVar) → ¬ (key_cmp (Some c, named scope n) (in_session var) ≡ Equal))
+    → map.get (all_vars s) (Some c, named scope n) ≡ None
+of_no_session s c scope n apart =
+    placed_elsewhere (in_scope Proc) (Some c, named scope n) (λ _. greater) (map.entries s.process) (from_sessions s)
+    ∙ placed_elsewhere in_session (Some c, named scope n) apart (map.entries s.sessions) (from_transaction s)
+    ∙ none_after_sessions s c scope n
+
 pub get_all : (s : Parts) (o : Option ℕ) (scope : Scope) (n : List ℕ) → map.get (all_vars s) (o, named scope n) ≡ got s o scope n
 get_all s None Proc n =
     placed_alone (in_scope Proc) (λ a b. refl) s.process (from_sessions s) n
@@ -127,41 +144,13 @@ get_all s None Res n =
     ∙ placed_elsewhere (in_scope Req) (None, named Res n) (λ _. greater) (map.entries s.request) (from_response s)
     ∙ placed_alone (in_scope Res) (λ a b. refl) s.response map.empty n
     (get-empty key_cmp (None, named Res n))
-get_all s (Some c) Proc n =
-    placed_elsewhere (in_scope Proc) (Some c, named Proc n) (λ _. greater) (map.entries s.process) (from_sessions s)
-    ∙ placed_elsewhere in_session (Some c, named Proc n) (λ var. then_less (nat_cmp c var.0)) (map.entries s.sessions) (from_transaction s)
-    ∙ placed_elsewhere (in_scope Txn) (Some c, named Proc n) (λ _. greater) (map.entries s.transaction) (from_request s)
-    ∙ placed_elsewhere (in_scope Req) (Some c, named Proc n) (λ _. greater) (map.entries s.request) (from_response s)
-    ∙ placed_elsewhere (in_scope Res) (Some c, named Proc n) (λ _. greater) (map.entries s.response) map.empty
-    ∙ get-empty key_cmp (Some c, named Proc n)
+get_all s (Some c) Proc n = of_no_session s c Proc n (λ var. then_less (nat_cmp c var.0))
 get_all s (Some c) Sess n =
     placed_elsewhere (in_scope Proc) (Some c, named Sess n) (λ _. greater) (map.entries s.process) (from_sessions s)
-    ∙ placed_alone in_session (λ a b. refl) s.sessions (from_transaction s) (c, n)
-    (placed_elsewhere (in_scope Txn) (Some c, named Sess n) (λ _. greater) (map.entries s.transaction) (from_request s)
-    ∙ placed_elsewhere (in_scope Req) (Some c, named Sess n) (λ _. greater) (map.entries s.request) (from_response s)
-    ∙ placed_elsewhere (in_scope Res) (Some c, named Sess n) (λ _. greater) (map.entries s.response) map.empty
-    ∙ get-empty key_cmp (Some c, named Sess n))
-get_all s (Some c) Txn n =
-    placed_elsewhere (in_scope Proc) (Some c, named Txn n) (λ _. greater) (map.entries s.process) (from_sessions s)
-    ∙ placed_elsewhere in_session (Some c, named Txn n) (λ var. then_greater (nat_cmp c var.0)) (map.entries s.sessions) (from_transaction s)
-    ∙ placed_elsewhere (in_scope Txn) (Some c, named Txn n) (λ _. greater) (map.entries s.transaction) (from_request s)
-    ∙ placed_elsewhere (in_scope Req) (Some c, named Txn n) (λ _. greater) (map.entries s.request) (from_response s)
-    ∙ placed_elsewhere (in_scope Res) (Some c, named Txn n) (λ _. greater) (map.entries s.response) map.empty
-    ∙ get-empty key_cmp (Some c, named Txn n)
-get_all s (Some c) Req n =
-    placed_elsewhere (in_scope Proc) (Some c, named Req n) (λ _. greater) (map.entries s.process) (from_sessions s)
-    ∙ placed_elsewhere in_session (Some c, named Req n) (λ var. then_greater (nat_cmp c var.0)) (map.entries s.sessions) (from_transaction s)
-    ∙ placed_elsewhere (in_scope Txn) (Some c, named Req n) (λ _. greater) (map.entries s.transaction) (from_request s)
-    ∙ placed_elsewhere (in_scope Req) (Some c, named Req n) (λ _. greater) (map.entries s.request) (from_response s)
-    ∙ placed_elsewhere (in_scope Res) (Some c, named Req n) (λ _. greater) (map.entries s.response) map.empty
-    ∙ get-empty key_cmp (Some c, named Req n)
-get_all s (Some c) Res n =
-    placed_elsewhere (in_scope Proc) (Some c, named Res n) (λ _. greater) (map.entries s.process) (from_sessions s)
-    ∙ placed_elsewhere in_session (Some c, named Res n) (λ var. then_greater (nat_cmp c var.0)) (map.entries s.sessions) (from_transaction s)
-    ∙ placed_elsewhere (in_scope Txn) (Some c, named Res n) (λ _. greater) (map.entries s.transaction) (from_request s)
-    ∙ placed_elsewhere (in_scope Req) (Some c, named Res n) (λ _. greater) (map.entries s.request) (from_response s)
-    ∙ placed_elsewhere (in_scope Res) (Some c, named Res n) (λ _. greater) (map.entries s.response) map.empty
-    ∙ get-empty key_cmp (Some c, named Res n)
+    ∙ placed_alone in_session (λ a b. refl) s.sessions (from_transaction s) (c, n) (none_after_sessions s c Sess n)
+get_all s (Some c) Txn n = of_no_session s c Txn n (λ var. then_greater (nat_cmp c var.0))
+get_all s (Some c) Req n = of_no_session s c Req n (λ var. then_greater (nat_cmp c var.0))
+get_all s (Some c) Res n = of_no_session s c Res n (λ var. then_greater (nat_cmp c var.0))
 
 -- parts that have at each key what the variables have
 seen_as : (s : Parts) (vars : Scopes) → ((o : Option ℕ) (scope : Scope) (n : List ℕ) → got s o scope n ≡ map.get vars (o, named scope n)) → all_vars s ≡ vars

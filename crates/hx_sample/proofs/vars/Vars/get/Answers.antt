@@ -1,30 +1,24 @@
 use Rattle.std.proofs.Common.{◌∙◌}
 use Rattle.hx_text.specs.declared.names.Scope.TheVariants.{Proc, Sess, Txn, Req, Res}
-use Rattle.hx_sample.specs.Stored.{Parts}
 use Rattle.hx_sample.proofs.VarLemmas.{got_at}
 use Rattle.hx_sample.proofs.vars.Vars.get.Goals as goal
 
 pub returns-in-Proc : goal.returns-in-Proc
 returns-in-Proc c =
-    let s : Parts = record { process = c.self.inside.process; sessions = c.self.inside.sessions; transaction = c.self.inside.transaction; request = c.self.inside.request; response = c.self.inside.response } in
-    c.get.ensures ∙ got_at s c.args.self.now c.args.conn c.args.name.now c.self.view_is Proc c.in-Proc.is
+    c.get.ensures ∙ got_at _ c.args.self.now c.args.conn c.args.name.now c.self.view_is Proc c.in-Proc.is
 
 pub returns-in-Sess : goal.returns-in-Sess
 returns-in-Sess c =
-    let s : Parts = record { process = c.self.inside.process; sessions = c.self.inside.sessions; transaction = c.self.inside.transaction; request = c.self.inside.request; response = c.self.inside.response } in
-    c.get-in-Sess.ensures ∙ got_at s c.args.self.now c.args.conn c.args.name.now c.self.view_is Sess c.in-Sess.is
+    c.get-in-Sess.ensures ∙ got_at _ c.args.self.now c.args.conn c.args.name.now c.self.view_is Sess c.in-Sess.is
 
 pub returns-in-Txn : goal.returns-in-Txn
 returns-in-Txn c =
-    let s : Parts = record { process = c.self.inside.process; sessions = c.self.inside.sessions; transaction = c.self.inside.transaction; request = c.self.inside.request; response = c.self.inside.response } in
-    c.get-in-Txn.ensures ∙ got_at s c.args.self.now c.args.conn c.args.name.now c.self.view_is Txn c.in-Txn.is
+    c.get-in-Txn.ensures ∙ got_at _ c.args.self.now c.args.conn c.args.name.now c.self.view_is Txn c.in-Txn.is
 
 pub returns-in-Req : goal.returns-in-Req
 returns-in-Req c =
-    let s : Parts = record { process = c.self.inside.process; sessions = c.self.inside.sessions; transaction = c.self.inside.transaction; request = c.self.inside.request; response = c.self.inside.response } in
-    c.get-in-Req.ensures ∙ got_at s c.args.self.now c.args.conn c.args.name.now c.self.view_is Req c.in-Req.is
+    c.get-in-Req.ensures ∙ got_at _ c.args.self.now c.args.conn c.args.name.now c.self.view_is Req c.in-Req.is
 
 pub returns-in-Res : goal.returns-in-Res
 returns-in-Res c =
-    let s : Parts = record { process = c.self.inside.process; sessions = c.self.inside.sessions; transaction = c.self.inside.transaction; request = c.self.inside.request; response = c.self.inside.response } in
-    c.get-in-Res.ensures ∙ got_at s c.args.self.now c.args.conn c.args.name.now c.self.view_is Res c.in-Res.is
+    c.get-in-Res.ensures ∙ got_at _ c.args.self.now c.args.conn c.args.name.now c.self.view_is Res c.in-Res.is
