@@ -18,9 +18,11 @@ use std::alloc::Global;
 fn build_acl<M: ReMaker>(alloc: Global, acl: &AclUse, maker: &mut M) -> Result<TermAcl, PlanFault>
     requires { use_passes is_decl_typed acl.now ≡ true }
     ensures built { IfOk result (λ built. built ≡ acl_of_use acl.now) }
-    ensures expressions { OnOk result (use_passes (λ decl. has_expressions decl.expr) acl.now ≡ true) }
+    ensures expressions { OnOk result
+        (use_passes (λ decl. has_expressions decl.expr) acl.now ≡ true) }
     ensures typed { ¬ (IsErrOf result PlanFault.BadType) }
-    ensures bad { IsErrOf result PlanFault.BadPattern → use_passes (λ decl. has_expressions decl.expr) acl.now ≡ false }
+    ensures bad { IsErrOf result PlanFault.BadPattern →
+        use_passes (λ decl. has_expressions decl.expr) acl.now ≡ false }
     ensures counted { CompileCountsLarge result (M.too_large maker.old) (M.too_large maker.new) }
     ensures large { CompileNamesLarge result (use_texts acl.now) (M.large maker.old)
         (M.large maker.new) }
@@ -39,11 +41,11 @@ fn build_conj<M: ReMaker>(
 ) -> Result<Items<TestTerm>, PlanFault>
     requires { list_all (λ term. use_passes is_decl_typed term.acl) conj.now ≡ true }
     ensures built { IfOk result (λ built. built ≡ map term_of conj.now) }
-    ensures expressions { OnOk result
-        (list_all (λ term. use_passes (λ decl. has_expressions decl.expr) term.acl) conj.now ≡ true) }
+    ensures expressions { OnOk result (list_all
+        (λ term. use_passes (λ decl. has_expressions decl.expr) term.acl) conj.now ≡ true) }
     ensures typed { ¬ (IsErrOf result PlanFault.BadType) }
-    ensures bad { IsErrOf result PlanFault.BadPattern →
-        list_all (λ term. use_passes (λ decl. has_expressions decl.expr) term.acl) conj.now ≡ false }
+    ensures bad { IsErrOf result PlanFault.BadPattern → list_all
+        (λ term. use_passes (λ decl. has_expressions decl.expr) term.acl) conj.now ≡ false }
     ensures counted { CompileCountsLarge result (M.too_large maker.old) (M.too_large maker.new) }
     ensures large { CompileNamesLarge result (conj_texts conj.now) (M.large maker.old)
         (M.large maker.new) }

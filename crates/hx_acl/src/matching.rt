@@ -41,8 +41,8 @@ fn finds_entry<T: Tables, L: Ledger>(
 
 /// Whether the sample is true, as a boolean.
 fn is_true(alloc: Global, sample: Sample<'_>) -> Result<bool, NoMemory>
-    ensures { (is_hit : Value → Bool) → IfOk result (λ holds. holds
-        ≡ option_map_or (accepts By.Bool is_hit) (cast_of (value_of sample.entry) Kind.Bool) false) }
+    ensures { (is_hit : Value → Bool) → IfOk result (λ holds. holds ≡
+        option_map_or (accepts By.Bool is_hit) (cast_of (value_of sample.entry) Kind.Bool) false) }
 {
     match cast(alloc, sample, Kind::Bool)? {
         Some(Sample::Bool(b)) => Ok(b),

@@ -116,8 +116,8 @@ pub struct Filled {
 }
 
 impl Filled {
-    /// The references of these tables, with the entries of these files; or none, where it is written
-    /// why an entry can't be added.
+    /// The references of these tables, with the entries of these files; or none, where it is
+    /// written why an entry can't be added.
     pub fn new(
         alloc: Global,
         out: &mut String,

@@ -62,4 +62,5 @@ pub record IsEvaluation {S : Type 0} (view : TableView S) (conn : Conn) (program
   pub message_is : whole.state.message ≡ message
   pub vars_are : whole.state.vars ≡ vars
   pub tables_are : whole.state.tables ≡ tables
-  pub verdict_is : whole.verdict ≡ unwrap_or given (in_state verdict_at view conn whole.state program)
+  pub verdict_is : whole.verdict
+      ≡ unwrap_or given (in_state verdict_at view conn whole.state program)

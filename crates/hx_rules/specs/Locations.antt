@@ -21,8 +21,7 @@ target_rest drop_query target =
 
 -- the value of the first header line `Host`, and nothing without one
 abbrev pub host_of : Parts → List ℕ
-host_of head =
-    option_map_or (λ line. line.1) (find (has_name (codes "host")) head.headers) []
+host_of head = option_map_or (λ line. line.1) (find (has_name (codes "host")) head.headers) []
 
 -- the location that a redirect makes of its text; a prefix that is `/` alone adds nothing
 abbrev pub location_of : RedirectKind → List ℕ → Bool → Parts → List ℕ

@@ -22,5 +22,6 @@ map_from (suc n) f (x ∷ xs) = x ∷ map_from n f xs
 abbrev pub replacing_from : ℕ → List ℕ → Replacement → Parts → Edit
 replacing_from at name replace head =
     edited
-    (if list_any (is_badly_replaced name replace) (drop at head.headers) then Some BadBytes else None)
+    (if list_any (is_badly_replaced name replace) (drop at head.headers) then Some BadBytes
+    else None)
     (record head { headers = map_from at (line_after name replace) head.headers })

@@ -28,8 +28,8 @@ pub record State (S : Type 0) : Type 0 where
   pub tables : S
   pub strict : Bool
 
--- what something is in a state, if this is what it is for a context, and for the heads and the lists
--- of tables
+-- what something is in a state, if this is what it is for a context, and for the heads and the
+-- lists of tables
 abbrev pub in_state : {S A : Type 0} → (Context → List TableHead → List (List Entry) → A)
     → TableView S → Conn → State S → A
 in_state given view conn state =

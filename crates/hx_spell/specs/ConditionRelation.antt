@@ -20,7 +20,8 @@ abbrev pub marks : ℕ → List ℕ
 marks n = replicate n (ascii "!")
 
 -- a known ACL's name, or an ACL in braces, of which no word is a brace that closes
-pub data SpellUse (line : ℕ) (before : Known) : List ℕ → List (List ℕ) → Reading AclUse → Type 0 where
+pub data SpellUse (line : ℕ) (before : Known)
+    : List ℕ → List (List ℕ) → Reading AclUse → Type 0 where
   NamedUse : (name : List ℕ) → IsAclName name → is_known_acl before name ≡ true
       → SpellUse line before name [] (reading (Named name) before)
   OwnUse : (text : List ℕ) (inside : List (List ℕ)) (decl : Reading Decl)

@@ -12,7 +12,7 @@ use Rattle.hx_ast.specs.Types.{expr_kind}
 pub use Rattle.hx_spell.specs.declared.declarations.Way.{Way}
 use Rattle.hx_spell.specs.declared.fault.SpellFault.{SpellFault}
 use Rattle.hx_spell.specs.Codes.{bad_argument}
-use Rattle.hx_spell.specs.Arguments.{◌>>=◌}
+use Rattle.hx_base.specs.Results.{◌>>=◌}
 use Rattle.hx_spell.specs.Criteria.{criterion_of}
 use Rattle.hx_spell.specs.Flags.{AfterFlags, Flags, Searched, flags_from, no_flags}
 use Rattle.hx_spell.specs.Known.{Known, Reading, reference_form, with_acl, with_head, with_reference, reading}
@@ -43,8 +43,8 @@ ignores_case way ci = compares_texts way.by && (ci || way.folds)
 abbrev pub file_heads : Way → List Searched → Known → Reading (List ℕ)
 file_heads way [] known = reading [] known
 file_heads way (file ∷ files) known =
-    let first = with_head (record { table = file.table; by = way.by; ci = ignores_case way file.ci })
-    known in
+    let first = with_head
+    (record { table = file.table; by = way.by; ci = ignores_case way file.ci }) known in
     let others = file_heads way files first.known in
     reading (first.value ∷ others.value) others.known
 
@@ -77,10 +77,8 @@ decl_reading expr way ci keys heads =
 abbrev pub pattern_decl : ℕ → Expr → Way → AfterFlags → Known → Result (Reading Decl) SpellFault
 pattern_decl line expr way after known =
     let keys = keys_of way.by after.words in
-    heads_of_keys line way after.flags keys.keys keys.fault
-    (file_heads way after.flags.files known)
-    >>= (λ heads. Ok
-    (decl_reading expr way (ignores_case way after.flags.ci) keys.keys heads))
+    heads_of_keys line way after.flags keys.keys keys.fault (file_heads way after.flags.files known)
+    >>= (λ heads. Ok (decl_reading expr way (ignores_case way after.flags.ci) keys.keys heads))
 
 -- nothing to compare with
 abbrev pub has_no_patterns : AfterFlags → Bool
