@@ -1,3 +1,3 @@
-//! Definitions that the contracts of several crates cite: the names of single bytes, and pairs of
-//! a name and its bytes. It has no code.
+//! Definitions that the contracts of several crates cite: single bytes, tables of rows with names,
+//! and steps that may fail. It has no code.
 #![tactic(auto)]

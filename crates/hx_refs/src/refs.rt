@@ -462,7 +462,8 @@ impl Refs {
     }
 
     /// Gives back at most `_n` slots of memory that no version needs any more. Entries are kept in
-    /// lists of their own, which a commit drops at once, so that there are none. It takes no memory.
+    /// lists of their own, which a commit drops at once, so that there are none. It takes no
+    /// memory.
     pub fn tidy(&mut self, _n: usize)
         ensures { self.new ≡ self.old }
     {}

@@ -10,8 +10,8 @@ use std::marker::Model;
 
 /// The variables of the process, of the transaction, the request and the response that are under
 /// way, and of each connection's session (HAProxy configuration manual 2.4, section 7.3.2, `var`).
-/// Contracts see them as one finite map, keyed by the connection of a session's variable, if any, and
-/// the name.
+/// Contracts see them as one finite map, keyed by the connection of a session's variable, if any,
+/// and the name.
 ///
 /// To get, set or unset one costs by the logarithm of their number.
 #[derive(Drop)]

@@ -120,7 +120,8 @@ pub(crate) fn action_head(
     line: u64,
     word: &[u8],
 ) -> Result<ActionHead, SpellFault>
-    ensures answers { ReadsAs result known.new (head_of_step line (step_of None word.now) known.old) }
+    ensures answers { ReadsAs result known.new
+        (head_of_step line (step_of None word.now) known.old) }
     ensures extends { Extends known.old known.new }
 {
     let step = next_call(alloc, word, None)?;

@@ -152,8 +152,8 @@ fn no_flags(alloc: Global, by: Option<By>) -> Flags
 ///
 /// The words are judged from the left. Code 9 for another flag and for another match method, 10
 /// for a flag that stands a second time, or before which `-m` says a method without patterns, or
-/// whose argument is missing or isn't of its form, and 17 and 23 for a file as `Knowledge::named_file`
-/// refuses it.
+/// whose argument is missing or isn't of its form, and 17 and 23 for a file as
+/// `Knowledge::named_file` refuses it.
 pub(crate) fn flags_from<'a>(
     known: &mut Knowledge,
     alloc: Global,

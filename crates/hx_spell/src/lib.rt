@@ -9,11 +9,11 @@
 //! let tables = speller.tables();
 //! ```
 //!
-//! A frontend's lines declare ACLs and deny requests; other lines change nothing or are refused. A
-//! `Speller` keeps what the lines so far bring: the references, which are the files and the inline
-//! patterns, the heads, which are the ways in which references are searched, and the names of ACLs.
-//! `SpellLine` is the relation between a line's statement and its words, and `line_of` the same as a
-//! function with the codes of other words.
+//! A frontend's lines declare ACLs, give the rules that a request meets and choose backends; some
+//! change nothing, and all others are refused. A `Speller` keeps what the lines so far bring: the
+//! references, which are the files and the inline patterns, the heads, which are the ways in which
+//! references are searched, and the names of ACLs. `SpellLine` is the relation between a line's
+//! statement and its words, and `line_of` the same as a function with the codes of other words.
 #![tactic(auto)]
 
 mod action_heads;

@@ -1,4 +1,5 @@
-//! hxeval: replays recorded requests through the rules of an HAProxy configuration.
+//! hxeval: replays recorded traffic, requests and management commands, through the rules of an
+//! HAProxy configuration.
 //!
 //! ```text
 //! $ cat deny.cfg
