@@ -57,9 +57,10 @@ pub fn build_text<M: ReMaker>(
         → IsSomeAnd (expression_text conv.now) IsNoRegex }
     ensures large { IsErrOf result PatFault.TooLarge → IsSome (expression_text conv.now) }
     ensures other { IfErr result IsExpressionFault }
-    ensures counted { BuildCountsLarge result (M.too_large maker.old) (M.too_large maker.new) }
-    ensures last { M.large maker.new
-        ≡ large_after result (expression_text conv.now) (M.large maker.old) }
+    ensures counted { BuildCountsLarge result (M.state maker.old).too_large
+        (M.state maker.new).too_large }
+    ensures last { (M.state maker.new).large
+        ≡ large_after result (expression_text conv.now) (M.state maker.old).large }
 {
     match conv {
         Conv::Regsub(text, sub, each, ci) => {
@@ -178,9 +179,11 @@ pub fn made_regex<M: ReMaker>(
     ensures bad { IsErrOf result PatFault.BadRegex
         → IsNoRegex (record { text = text.now; ci = ci }) }
     ensures other { IfErr result IsExpressionFault }
-    ensures counted { BuildCountsLarge result (M.too_large maker.old) (M.too_large maker.new) }
-    ensures last { M.large maker.new
-        ≡ large_after result (Some (record { text = text.now; ci = ci })) (M.large maker.old) }
+    ensures counted { BuildCountsLarge result (M.state maker.old).too_large
+        (M.state maker.new).too_large }
+    ensures last { (M.state maker.new).large
+        ≡ large_after result (Some (record { text = text.now; ci = ci }))
+        (M.state maker.old).large }
 {
     match std::str::from_utf8(text) {
         Ok(text) => match maker.make(alloc, text, ci) {

@@ -45,8 +45,7 @@ pub fn parse<M: ReMaker>(
     ensures refused { IfErr result
         (MayCome (text_fault by ci text.now) (AsksMaker by text.now)) }
     ensures large { CountsLarge result (record { text = text.now; ci = ci })
-        (record { too_large = M.too_large maker.old; large = M.large maker.old })
-        (record { too_large = M.too_large maker.new; large = M.large maker.new }) }
+        (M.state maker.old) (M.state maker.new) }
 {
     let form = match by {
         By::Reg => Form::Reg(made_regex(alloc, ci, text, maker)?),
@@ -165,8 +164,7 @@ fn made_regex<M: ReMaker>(
     ensures refused { IfErr result
         (MayCome (text_fault By.Reg ci text.now) (AsksMaker By.Reg text.now)) }
     ensures large { CountsLarge result (record { text = text.now; ci = ci })
-        (record { too_large = M.too_large maker.old; large = M.large maker.old })
-        (record { too_large = M.too_large maker.new; large = M.large maker.new }) }
+        (M.state maker.old) (M.state maker.new) }
 {
     match std::str::from_utf8(text) {
         Ok(text) => match maker.make(alloc, text, ci) {

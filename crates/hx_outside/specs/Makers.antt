@@ -1,5 +1,5 @@
 -- What is known of a maker of regular expressions after each of its answers.
-use Rattle.std.specs.Prelude.{◌≡◌, ℕ, Bool, List, Option, Some, Result, Ok, Err}
+use Rattle.std.specs.Prelude.{◌≡◌, ℕ, Bool, true, false, List, Option, Some, Result, Ok, Err}
 use Rattle.hx_outside.specs.Count.{next_count, Rose}
 use Rattle.hx_outside.specs.declared.pattern_fault.ReFault.{ReFault}
 use Rattle.hx_outside.specs.declared.pattern_fault.ReFault.TheVariants.{BadRegex, TooLarge, NoMemory}
@@ -35,6 +35,14 @@ pub record LastIsAsked (Asked : ExpressionText → Type 0) (state : MakerState) 
   pub text : ExpressionText
   pub is : state.large ≡ Some text
   pub asked : Asked text
+
+-- The state of a maker before and after an answer. Where the answer is that a text is too large,
+-- the count rose, and the last such text is one that was asked for. With any other both stay.
+abbrev pub CountsLarge : Bool → (ExpressionText → Type 0) → MakerState → MakerState → Type 0
+CountsLarge true Asked before now =
+    Rose before.too_large now.too_large × LastIsAsked Asked now
+CountsLarge false Asked before now =
+    (now.too_large ≡ before.too_large) × (now.large ≡ before.large)
 
 -- the maker's state after this answer for the text `asked`
 abbrev pub maker_after : {T : Type 0} → MakerState → ExpressionText → Result T ReFault → MakerState

@@ -49,9 +49,7 @@ impl FailMaker {
 }
 
 impl ReMaker for FailMaker {
-    ghost too_large = { λ maker. maker.maker.too_large };
-
-    ghost large = { λ maker. maker.maker.large };
+    ghost state = { λ maker. maker.maker };
 
     /// The regular expression that `text` is, at a call that isn't chosen. A chosen call answers
     /// `TooLarge`, or `NoMemory` where memory runs out.

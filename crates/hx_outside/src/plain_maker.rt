@@ -75,9 +75,7 @@ impl PlainMaker {
 }
 
 impl ReMaker for PlainMaker {
-    ghost too_large = { λ maker. maker.too_large };
-
-    ghost large = { λ maker. maker.large };
+    ghost state = { λ maker. maker };
 
     /// The regular expression that `text` is. `TooLarge` only for a text that is an expression.
     fn make(&mut self, alloc: Global, text: &str, ci: bool) -> Result<Regex, ReFault>
