@@ -34,9 +34,10 @@ fn built_text<M: ReMaker>(alloc: Global, conv: &Conv, maker: &mut M) -> Result<T
     ensures read { OnOk result (has_expression conv.now ≡ true) }
     ensures typed { ¬ (IsErrOf result PlanFault.BadType) }
     ensures bad { IsErrOf result PlanFault.BadPattern → has_expression conv.now ≡ false }
-    ensures counted { CompileCountsLarge result (M.too_large maker.old) (M.too_large maker.new) }
-    ensures large { CompileNamesLarge result (texts_of (conv.now ∷ [])) (M.large maker.old)
-        (M.large maker.new) }
+    ensures counted { CompileCountsLarge result (M.state maker.old).too_large
+        (M.state maker.new).too_large }
+    ensures large { CompileNamesLarge result (texts_of (conv.now ∷ [])) (M.state maker.old).large
+        (M.state maker.new).large }
 {
     match build_text(alloc, conv, maker) {
         Ok(text) => Ok(text),
@@ -54,9 +55,10 @@ fn build<M: ReMaker>(alloc: Global, conv: &Conv, maker: &mut M) -> Result<PlanCo
     ensures read { OnOk result (has_expression conv.now ≡ true) }
     ensures typed { ¬ (IsErrOf result PlanFault.BadType) }
     ensures bad { IsErrOf result PlanFault.BadPattern → has_expression conv.now ≡ false }
-    ensures counted { CompileCountsLarge result (M.too_large maker.old) (M.too_large maker.new) }
-    ensures large { CompileNamesLarge result (texts_of (conv.now ∷ [])) (M.large maker.old)
-        (M.large maker.new) }
+    ensures counted { CompileCountsLarge result (M.state maker.old).too_large
+        (M.state maker.new).too_large }
+    ensures large { CompileNamesLarge result (texts_of (conv.now ∷ [])) (M.state maker.old).large
+        (M.state maker.new).large }
 {
     if is_text_conv(conv) {
         let text = built_text(alloc, conv, maker)?;
@@ -84,9 +86,10 @@ pub(crate) fn build_all<M: ReMaker>(
     ensures typed { ¬ (IsErrOf result PlanFault.BadType) }
     ensures bad { IsErrOf result PlanFault.BadPattern →
         list_all has_expression convs.now ≡ false }
-    ensures counted { CompileCountsLarge result (M.too_large maker.old) (M.too_large maker.new) }
-    ensures large { CompileNamesLarge result (texts_of convs.now) (M.large maker.old)
-        (M.large maker.new) }
+    ensures counted { CompileCountsLarge result (M.state maker.old).too_large
+        (M.state maker.new).too_large }
+    ensures large { CompileNamesLarge result (texts_of convs.now) (M.state maker.old).large
+        (M.state maker.new).large }
 {
     let mut built = Items::new(alloc);
     for conv in convs {

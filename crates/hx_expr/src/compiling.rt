@@ -30,9 +30,10 @@ pub fn compile<M: ReMaker>(alloc: Global, expr: &Expr, maker: &mut M) -> Result<
     ensures expressions { OnOk result (list_all has_expression expr.now.convs ≡ true) }
     ensures bad_pattern { IsErrOf result PlanFault.BadPattern →
         list_all has_expression expr.now.convs ≡ false }
-    ensures counted { CompileCountsLarge result (M.too_large maker.old) (M.too_large maker.new) }
-    ensures large { CompileNamesLarge result (expression_texts expr.now) (M.large maker.old)
-        (M.large maker.new) }
+    ensures counted { CompileCountsLarge result (M.state maker.old).too_large
+        (M.state maker.new).too_large }
+    ensures large { CompileNamesLarge result (expression_texts expr.now) (M.state maker.old).large
+        (M.state maker.new).large }
 {
     if !is_typed(expr) {
         return Err(PlanFault::BadType);

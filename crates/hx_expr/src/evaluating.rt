@@ -44,9 +44,9 @@ fn look_up<'w, T: Tables, L: Ledger>(
     tables: &'w T,
     steps: &mut Steps<L>,
 ) -> Result<Option<Sample<'w>>, NoMemory>
-    requires { IsHeadBy (T.heads tables.now) head by }
+    requires { IsHeadBy (T.heads (T.state tables.now)) head by }
     ensures { IfOk result (λ value. occurrence_value value
-        ≡ map_value (T.heads tables.now) (T.lists tables.now)
+        ≡ map_value (T.heads (T.state tables.now)) (T.lists (T.state tables.now))
         (Conv.Map head by out default.now) (value_of sample.entry)) }
 {
     let Some(input) = cast(alloc, sample, by.kind())? else {
@@ -70,9 +70,10 @@ fn apply<'w, T: Tables, L: Ledger>(
     tables: &'w T,
     steps: &mut Steps<L>,
 ) -> Result<Option<Sample<'w>>, NoMemory>
-    requires { HasTableHead (T.heads tables.now) conv.now }
+    requires { HasTableHead (T.heads (T.state tables.now)) conv.now }
     ensures { IfOk result (λ value. occurrence_value value
-        ≡ converted_value (context_of world.now) (T.heads tables.now) (T.lists tables.now)
+        ≡ converted_value (context_of world.now) (T.heads (T.state tables.now))
+        (T.lists (T.state tables.now))
         conv.now (value_of sample.entry)) }
 {
     match &conv.built {
@@ -96,9 +97,10 @@ fn convert<'w, T: Tables, L: Ledger>(
     tables: &'w T,
     steps: &mut Steps<L>,
 ) -> Result<Option<Sample<'w>>, NoMemory>
-    requires { HasTableHeads (T.heads tables.now) convs.now }
+    requires { HasTableHeads (T.heads (T.state tables.now)) convs.now }
     ensures { IfOk result (λ value. occurrence_value value
-        ≡ value_after (context_of world.now) (T.heads tables.now) (T.lists tables.now)
+        ≡ value_after (context_of world.now) (T.heads (T.state tables.now))
+        (T.lists (T.state tables.now))
         convs.now (occurrence_value occurrence.entry)) }
 {
     let mut value = occurrence;
@@ -126,9 +128,10 @@ pub fn eval<'w, T: Tables, L: Ledger>(
     tables: &'w T,
     steps: &mut Steps<L>,
 ) -> Result<Option<Sample<'w>>, NoMemory>
-    requires heads { HasTableHeads (T.heads tables.now) plan.now.convs }
+    requires heads { HasTableHeads (T.heads (T.state tables.now)) plan.now.convs }
     ensures { IfOk result (λ value. occurrence_value value
-        ≡ expr_value (context_of world.now) (T.heads tables.now) (T.lists tables.now) plan.now) }
+        ≡ expr_value (context_of world.now) (T.heads (T.state tables.now))
+        (T.lists (T.state tables.now)) plan.now) }
 {
     let occurrence = chosen(alloc, &plan.fetch, world)?;
     let convs = plan.convs.as_slice();
@@ -147,9 +150,10 @@ fn convert_all<'w, T: Tables, L: Ledger>(
     tables: &'w T,
     steps: &mut Steps<L>,
 ) -> Result<Samples<'w>, NoMemory>
-    requires { HasTableHeads (T.heads tables.now) convs.now }
+    requires { HasTableHeads (T.heads (T.state tables.now)) convs.now }
     ensures { IfOk result (λ values. values
-        ≡ map (value_after (context_of world.now) (T.heads tables.now) (T.lists tables.now)
+        ≡ map (value_after (context_of world.now) (T.heads (T.state tables.now))
+        (T.lists (T.state tables.now))
         convs.now) found.entry) }
 {
     let mut values = Samples::new(alloc);
@@ -169,9 +173,10 @@ pub fn eval_all<'w, T: Tables, L: Ledger>(
     tables: &'w T,
     steps: &mut Steps<L>,
 ) -> Result<Samples<'w>, NoMemory>
-    requires heads { HasTableHeads (T.heads tables.now) plan.now.convs }
+    requires heads { HasTableHeads (T.heads (T.state tables.now)) plan.now.convs }
     ensures { IfOk result (λ values. values
-        ≡ expr_values (context_of world.now) (T.heads tables.now) (T.lists tables.now) plan.now) }
+        ≡ expr_values (context_of world.now) (T.heads (T.state tables.now))
+        (T.lists (T.state tables.now)) plan.now) }
 {
     let found = occurrences(alloc, &plan.fetch, world)?;
     let convs = plan.convs.as_slice();

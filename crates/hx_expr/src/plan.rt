@@ -1,15 +1,6 @@
-ghost use Rattle.std.specs.Prelude.{◌≡◌, List, [], ◌∷◌, IfSome, Some};
-ghost use Rattle.std.specs.Option.{option_copied};
-ghost use Rattle.hx_fetch.specs.World.{context_of};
-ghost use Rattle.hx_sample.specs.Find.{Entry};
-ghost use Rattle.hx_sample.specs.Tables.{TableHead};
-ghost use Rattle.hx_sample.specs.declared.sample.Value.TheVariants as value;
-ghost use Rattle.hx_expr.specs.Values.{expr_values};
-
 use hx_ast::{Conv, Fetch, Items};
 use hx_conv_text::TextConv;
 use hx_conv_val::ValConv;
-use hx_fetch::{World, message_text};
 use hx_text::{By, Octets, Out};
 use std::marker::Model;
 
@@ -54,20 +45,4 @@ impl Model for Plan {
     ghost Value = { Expr };
 
     ghost view = { λ plan. record { fetch = plan.fetch; convs = plan.convs } };
-}
-
-impl Plan {
-    /// The string that the expression finds in `world`, where it has no converters and its one
-    /// value stands in the message as it is. None for any other expression, and where that is none.
-    pub fn message_text<'w>(&self, world: &World<'w>) -> Option<&'w [u8]>
-        ensures { (heads : List TableHead) (lists : List (List Entry))
-            → IfSome (option_copied result) (λ text.
-            expr_values (context_of world.now) heads lists self.now ≡ Some (value.Str text) ∷ []) }
-    {
-        if self.convs.as_slice().is_empty() {
-            message_text(&self.fetch, world)
-        } else {
-            None
-        }
-    }
 }

@@ -1,8 +1,8 @@
 -- Lists that are cut, filtered and joined.
 use Rattle.std.proofs.Common.{◌≡◌, ℕ, Bool, true, ◌+◌, ◌≤◌, ◌<◌, suc, zero, List, [], ◌∷◌, ◌++◌, Some, None, length, drop, map, refl, ap, sym, ◌∙◌, arith, add-one}
-use Rattle.std.specs.Prelude.{Option, slice_get, reverse}
+use Rattle.std.specs.Prelude.{Option, slice_get, reverse, min, ◌^◌, ◌-◌}
 use Rattle.std.specs.List.{filter, flat_map}
-use Rattle.std.specs.Option.{option_map_or}
+use Rattle.std.specs.Option.{option_map_or, option_to_list}
 use Rattle.std.specs.Str.{bytes_eq}
 use Rattle.std.proofs.lemmas.List.{map-append, length-reverse, reverse-append}
 use Rattle.std.proofs.lemmas.Option.{slice_get_past}
@@ -95,6 +95,15 @@ back_after xs ys k x h within =
 -- nothing stands so far from the end of a list that is no longer
 pub back_past : {A : Type 0} (xs : List A) (k : ℕ) → length xs ≤ k → slice_get (reverse xs) k ≡ None
 back_past xs k short = slice_get_past (reverse xs) k (rw length-reverse short)
+
+-- the first of at most one item is all of them
+few_are_first : {A : Type 0} (xs : List A) → length xs ≤ 1 → option_to_list (slice_get xs zero) ≡ xs
+few_are_first [] few = refl
+few_are_first (x ∷ []) few = refl
+few_are_first (x ∷ y ∷ ys) few = absurd (omega (arith, few))
+
+pub few_by_count : {A : Type 0} (xs : List A) (n : ℕ) → n ≡ min (length xs) (2 ^ 64 - 1) → n ≤ 1 → option_to_list (slice_get xs zero) ≡ xs
+few_by_count xs n counted few = few_are_first xs (omega (arith, counted, few))
 
 -- a reader that goes forward
 pub ruleset forward = (none_left, some_left, next_left)

@@ -1,6 +1,6 @@
 -- What each fetch finds, as the list of its occurrences, each a value or none (HAProxy
 -- configuration manual 2.4 sections 7.3.2 to 7.3.6).
-use Rattle.std.specs.Prelude.{ℕ, ◌-◌, ◌^◌, min, pos, Bool, true, false, List, [], ◌∷◌, ◌++◌, map, length, slice_get, codes, Option, Some, option_map, unwrap_or, ◌==◌, if◌then◌else◌}
+use Rattle.std.specs.Prelude.{ℕ, ◌-◌, ◌^◌, min, pos, Bool, true, false, List, [], ◌∷◌, ◌++◌, map, length, slice_get, codes, Option, Some, is_some, option_map, unwrap_or, ◌==◌, if◌then◌else◌}
 use Rattle.std.specs.Str.{bytes_eq}
 use Rattle.hx_ast.specs.Types.{fetch_kind}
 use Rattle.hx_ast.specs.declared.fetch.Fetch.{Fetch}
@@ -71,6 +71,14 @@ occurrences_of fetch.Base context = option_map value.Str (base_of context.messag
 occurrences_of (fetch.ReqHdrCnt name) context = count_of (header_values name context.message) ∷ []
 occurrences_of (fetch.ReqCookCnt name) context = count_of (cookie_values name context.message) ∷ []
 occurrences_of fetch context = text_occurrences (fetch_kind fetch) (texts_of fetch context.message)
+
+-- Whether the value is bytes that are copied, and not lent: those of an argument, and those that
+-- `base` puts together where there is a path.
+abbrev pub is_copied : Fetch → Context → Bool
+is_copied (fetch.Str text) context = true
+is_copied (fetch.Bin bytes) context = true
+is_copied fetch.Base context = is_some (path_of context.message.target)
+is_copied _ context = false
 
 -- Whether an expression takes the last occurrence of a fetch, and not the first: of the values and
 -- lines of a header, and of the cookies of a name.

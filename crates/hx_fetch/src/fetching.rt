@@ -1,12 +1,10 @@
-ghost use Rattle.std.specs.Prelude.{◌≡◌, [], ◌∷◌, IfOk, IfSome, Some};
-ghost use Rattle.std.specs.Option.{option_copied};
-ghost use Rattle.hx_sample.specs.declared.sample.Value.TheVariants as value;
+ghost use Rattle.std.specs.Prelude.{◌≡◌, ◌≤◌, false, length, IfOk, IsOk};
 ghost use Rattle.hx_sample.specs.Seen.{occurrence_value};
-ghost use Rattle.hx_fetch.specs.Fetches.{occurrences_of, chosen_of, takes_last};
+ghost use Rattle.hx_fetch.specs.Fetches.{occurrences_of, chosen_of, is_copied, takes_last};
 ghost use Rattle.hx_fetch.specs.World.{context_of};
 
 use crate::lookup::{Found, look_up};
-use crate::walks::{list, pick, pick_end};
+use crate::walks::{list, lone, pick, pick_end};
 use crate::world::World;
 use hx_ast::Fetch;
 use hx_sample::{Bytes, Sample, Samples, cast};
@@ -43,25 +41,22 @@ fn takes_last(fetch: &Fetch) -> bool
 ///
 /// Names of headers are compared without regard to case, others byte by byte. Bytes are lent from
 /// the message and the variables; those of an argument and of `base` are copied. A list of texts
-/// takes 16 bytes for each but the first. It fails only where memory runs out.
+/// takes 16 bytes for each but the first. It fails only where memory runs out, which it can only
+/// for bytes that are copied and for two occurrences and more.
 pub fn occurrences<'w>(
     alloc: Global,
     fetch: &Fetch,
     world: &World<'w>,
 ) -> Result<Samples<'w>, NoMemory>
-    ensures { IfOk result (λ occurrences.
+    ensures value { IfOk result (λ occurrences.
         occurrences ≡ occurrences_of fetch.now (context_of world.now)) }
+    ensures no_memory { is_copied fetch.now (context_of world.now) ≡ false
+        → length (occurrences_of fetch.now (context_of world.now)) ≤ 1 → IsOk result }
 {
     match look_up(alloc, fetch, world)? {
         Found::One(occurrence) => Ok(Samples::lone(alloc, occurrence)),
         Found::Texts(source, None, kind) => list(alloc, source, kind),
-        Found::Texts(source, Some(at), kind) => match pick(source, at) {
-            Some(text) => {
-                let value = cast(alloc, Sample::Str(Bytes::Lent(text)), kind)?;
-                Ok(Samples::lone(alloc, value))
-            }
-            None => Ok(Samples::new(alloc)),
-        },
+        Found::Texts(source, Some(at), kind) => lone(alloc, pick(source, at), kind),
     }
 }
 
@@ -69,14 +64,15 @@ pub fn occurrences<'w>(
 /// `fetch` has no occurrences: the last occurrence of `hdr`, `fhdr`, `hdr_ip`, `hdr_val` and of
 /// `cook` with a name, and the first of the others. The occurrences and their values are those of
 /// `occurrences`, and no list of them is made. It fails only where memory runs out, which it can
-/// only for an argument and for `base`.
+/// only for an argument and for `base` where there is a path.
 pub fn chosen<'w>(
     alloc: Global,
     fetch: &Fetch,
     world: &World<'w>,
 ) -> Result<Option<Sample<'w>>, NoMemory>
-    ensures { IfOk result (λ occurrence.
+    ensures value { IfOk result (λ occurrence.
         occurrence_value occurrence ≡ chosen_of fetch.now (context_of world.now)) }
+    ensures no_memory { is_copied fetch.now (context_of world.now) ≡ false → IsOk result }
 {
     match look_up(alloc, fetch, world)? {
         Found::One(occurrence) => Ok(occurrence),
@@ -84,20 +80,5 @@ pub fn chosen<'w>(
             Some(text) => cast(alloc, Sample::Str(Bytes::Lent(text)), kind),
             None => Ok(None),
         },
-    }
-}
-
-/// The string that `fetch` finds in `world`, where it is its one occurrence and stands in the
-/// message as it is: the path, the query or the target. None for any other fetch, and where there
-/// is no path or no query. A caller that compares strings needs no sample then.
-pub fn message_text<'w>(fetch: &Fetch, world: &World<'w>) -> Option<&'w [u8]>
-    ensures { IfSome (option_copied result) (λ text.
-        occurrences_of fetch.now (context_of world.now) ≡ Some (value.Str text) ∷ []) }
-{
-    match fetch {
-        Fetch::Path => world.message.path(),
-        Fetch::Query => world.message.query(),
-        Fetch::Url => Some(world.message.target()),
-        _ => None,
     }
 }

@@ -17,5 +17,5 @@ mod texts;
 mod walks;
 mod world;
 
-pub use fetching::{chosen, message_text, occurrences};
+pub use fetching::{chosen, occurrences};
 pub use world::{Conn, World};

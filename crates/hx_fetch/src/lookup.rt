@@ -1,9 +1,10 @@
-ghost use Rattle.std.specs.Prelude.{◌≡◌, ◌==◌, [], ◌++◌, IfOk, Some, codes, option_map, slice_get, unwrap_or, if◌then◌else◌};
+ghost use Rattle.std.specs.Prelude.{◌≡◌, ◌==◌, [], ◌++◌, false, is_some, IfOk, IsOk, Some, codes, option_map, slice_get, unwrap_or, if◌then◌else◌};
 ghost use Rattle.std.specs.Option.{option_copied};
 ghost use Rattle.hx_sample.specs.declared.sample.Value.TheVariants as value;
 ghost use Rattle.hx_sample.specs.Seen.{bytes_of, occurrence_value};
 ghost use Rattle.hx_sample.specs.Vars.{var_of};
-ghost use Rattle.hx_fetch.specs.Fetches.{base_of, occurrences_of};
+ghost use Rattle.hx_http.specs.Target.{path_of};
+ghost use Rattle.hx_fetch.specs.Fetches.{base_of, is_copied, occurrences_of};
 ghost use Rattle.hx_fetch.specs.Names.{cookie_values, header_lines, header_values};
 ghost use Rattle.hx_fetch.specs.Views.{found_occurrences, source_texts};
 ghost use Rattle.hx_fetch.specs.World.{context_of};
@@ -52,8 +53,9 @@ fn joined(alloc: Global, first: &[u8], last: &[u8]) -> Result<Octets, NoMemory>
 }
 
 fn base<'w>(alloc: Global, message: &Message) -> Result<Option<Sample<'w>>, NoMemory>
-    ensures { IfOk result (λ base.
+    ensures value { IfOk result (λ base.
         occurrence_value base ≡ option_map value.Str (base_of message.now)) }
+    ensures no_memory { is_some (path_of message.now.target) ≡ false → IsOk result }
 {
     match message.path() {
         Some(path) => Ok(Some(Sample::Str(Bytes::Own(joined(alloc, host(message), path)?)))),
@@ -119,8 +121,9 @@ pub(crate) fn look_up<'f, 'w>(
     fetch: &'f Fetch,
     world: &World<'w>,
 ) -> Result<Found<'f, 'w>, NoMemory>
-    ensures { IfOk result (λ found.
+    ensures value { IfOk result (λ found.
         found_occurrences found ≡ occurrences_of fetch.now (context_of world.now)) }
+    ensures no_memory { is_copied fetch.now (context_of world.now) ≡ false → IsOk result }
 {
     let message = world.message;
     let conn = world.conn;

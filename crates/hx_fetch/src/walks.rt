@@ -1,13 +1,13 @@
-ghost use Rattle.std.specs.Prelude.{◌≡◌, ◌+◌, ◌-◌, ◌^◌, ◌≤◌, ◌<◌, ◌↔◌, min, pos, Some, IsTrue, IfOk, length, drop, reverse, slice_get};
+ghost use Rattle.std.specs.Prelude.{◌≡◌, ◌+◌, ◌-◌, ◌^◌, ◌≤◌, ◌<◌, ◌↔◌, min, pos, Some, IsOk, IsTrue, IfOk, length, drop, reverse, slice_get};
 ghost use Rattle.std.specs.Bool.{OnTrue};
-ghost use Rattle.std.specs.Option.{option_copied};
+ghost use Rattle.std.specs.Option.{option_copied, option_to_list};
 ghost use Rattle.hx_sample.specs.Seen.{value_of};
 ghost use Rattle.hx_fetch.specs.Fetches.{text_occurrences, count_of};
 ghost use Rattle.hx_fetch.specs.Picks.{occurrence_at, selection_end};
 ghost use Rattle.hx_fetch.specs.Views.{source_texts};
 
 use crate::texts::{TextReader, TextSource};
-use hx_sample::{Sample, Samples};
+use hx_sample::{Bytes, Sample, Samples, cast};
 use hx_text::{Kind, NoMemory};
 use std::alloc::Global;
 
@@ -118,17 +118,41 @@ pub(crate) fn count<'w>(source: TextSource<'_, '_>) -> Sample<'w>
     Sample::Int(text_count(source).min(i64::MAX as u64) as i64)
 }
 
+/// The text as a value of the kind, or none where it writes none, if there is a text.
+pub(crate) fn lone<'w>(
+    alloc: Global,
+    text: Option<&'w [u8]>,
+    kind: Kind,
+) -> Result<Samples<'w>, NoMemory>
+    ensures value { IfOk result (λ occurrences.
+        occurrences ≡ text_occurrences kind (option_to_list (option_copied text.entry))) }
+    ensures no_memory { IsOk result }
+{
+    match text {
+        Some(text) => {
+            let value = cast(alloc, Sample::Str(Bytes::Lent(text)), kind)?;
+            Ok(Samples::lone(alloc, value))
+        }
+        None => Ok(Samples::new(alloc)),
+    }
+}
+
 /// Each text as a value of the kind, or none where it writes none. The texts are counted first, so
-/// that no more memory is taken than for a slice each.
+/// that no more memory is taken than for a slice each, and none for one text.
 pub(crate) fn list<'w>(
     alloc: Global,
     source: TextSource<'_, 'w>,
     kind: Kind,
 ) -> Result<Samples<'w>, NoMemory>
-    ensures { IfOk result (λ occurrences.
+    ensures value { IfOk result (λ occurrences.
         occurrences ≡ text_occurrences kind (source_texts source.entry)) }
+    ensures no_memory { length (source_texts source.entry) ≤ 1 → IsOk result }
 {
-    let mut occurrences = Samples::for_texts(alloc, kind, text_count(source) as usize)?;
+    let count = text_count(source);
+    if count <= 1 {
+        return lone(alloc, nth(source, 0), kind);
+    }
+    let mut occurrences = Samples::for_texts(alloc, kind, count as usize)?;
     for text in TextReader::new(source) {
         occurrences.push_text(text, kind)?;
     }

@@ -9,6 +9,6 @@ abbrev pub invariant-loop-conv : goal.invariant-loop-conv
 invariant-loop-conv g l = record {
   built : l.built ≡ take l.conv-index l.convs;
   read : list_all has_expression (drop l.conv-index l.convs) ≡ list_all has_expression l.convs;
-  counted : g.M.ReMaker.too_large l.maker ≡ g.M.ReMaker.too_large l.fn.maker;
-  large : g.M.ReMaker.large l.maker ≡ g.M.ReMaker.large l.fn.maker;
+  counted : (g.M.ReMaker.state l.maker).too_large ≡ (g.M.ReMaker.state l.fn.maker).too_large;
+  large : (g.M.ReMaker.state l.maker).large ≡ (g.M.ReMaker.state l.fn.maker).large;
 }

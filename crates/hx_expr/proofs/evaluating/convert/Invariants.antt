@@ -8,8 +8,8 @@ use Rattle.hx_expr.proofs.evaluating.convert.Given as goal
 -- the tables
 abbrev pub invariant-loop-conv : goal.invariant-loop-conv
 invariant-loop-conv g l =
-    let heads = g.T.Tables.heads l.tables in
-    let value = value_after (context_of l.world) heads (g.T.Tables.lists l.tables) in
+    let heads = g.T.Tables.heads (g.T.Tables.state l.tables) in
+    let value = value_after (context_of l.world) heads (g.T.Tables.lists (g.T.Tables.state l.tables)) in
     record {
       heads : HasTableHeads heads (drop l.conv-index l.convs);
       value : value (drop l.conv-index l.convs) (occurrence_value l.value) ≡ value l.convs (occurrence_value l.fn.occurrence);
