@@ -1,12 +1,13 @@
 -- What is found in a list of entries.
-use Rattle.std.proofs.Common.{◌≡◌, ℕ, zero, suc, ◌<◌, max, Bool, true, false, cond, ◌&&◌, ◌==◌, List, [], ◌∷◌, Option, Some, None, refl, ap, sym, ◌∙◌, subst, arith, inl, inr, ◌||◌}
-use Rattle.std.specs.Prelude.{length}
+use Rattle.std.proofs.Common.{◌≡◌, ℕ, zero, suc, ◌<◌, ◌≤◌, max, Bool, true, false, cond, ◌&&◌, ◌==◌, List, [], ◌∷◌, Option, Some, None, refl, ap, sym, ◌∙◌, subst, arith, inl, inr, ◌||◌}
+use Rattle.std.specs.Prelude.{length, slice_get}
 use Rattle.std.specs.Option.{unwrap_or}
 use Rattle.std.specs.List.{filter, find, list_any}
 use Rattle.std.specs.Str.{bytes_eq}
 use Rattle.std.proofs.lemmas.Bool.{cases_Bool, false≢true}
 use Rattle.std.proofs.lemmas.Bool.Decides.{Decides-eqb}
 use Rattle.std.proofs.lemmas.Slice.Eq.{bytes_eq-Decides}
+use Rattle.hx_text.specs.declared.address.Ip.{Ip}
 use Rattle.hx_text.specs.declared.kinds.By.{By}
 use Rattle.hx_text.specs.declared.kinds.By.TheVariants as by
 use Rattle.hx_sample.specs.declared.sample.Value.{Value}
@@ -189,6 +190,73 @@ pub found_none : (method : By) (ci : Bool) (entries : List Entry) (v : Value) �
 found_none method ci entries v none =
     let nothing = none_left_by (λ (entry : Entry). hits method ci entry.key v) entries none in
     ap (λ es. first_item (preferred_entries method ci v es)) nothing ∙ ap first_item (preferred_none method ci v)
+
+-- ---- what goes before the others
+
+find_passes : {A : Type 0} (p : A → Bool) (xs : List A) (x : A) → find p xs ≡ Some x → p x ≡ true
+find_passes p [] x is = cc
+find_passes p (y ∷ ys) x is =
+    elim (cases_Bool (p y)) [
+      | inl passes ↦
+          let some : Some y ≡ Some x = rw passes at is in
+          subst (λ z. p z ≡ true) (ap (λ o. unwrap_or o y) some) passes
+      | inr fails ↦ find_passes p ys x (rw fails at is)
+    ]
+
+-- of those that pass a test none has a measure above the greatest
+bound_filtered : {A : Type 0} (p : A → Bool) (measure : A → ℕ) (xs : List A) (position : ℕ) (x : A) → slice_get xs position ≡ Some x → p x ≡ true → measure x ≤ greatest measure (filter p xs)
+bound_filtered p measure [] position x here passes = cc
+bound_filtered p measure (y ∷ ys) zero x here passes =
+    let same : y ≡ x = ap (λ o. unwrap_or o y) here in
+    rw (same, passes) (omega arith)
+bound_filtered p measure (y ∷ ys) (suc position) x here passes =
+    let rest = bound_filtered p measure ys position x here passes in
+    elim (cases_Bool (p y)) [
+      | inl first ↦ rw first (omega (arith, rest))
+      | inr other ↦ rw other rest
+    ]
+
+test_parts : (a b : Bool) → (a && b) ≡ true → (a ≡ true) × (b ≡ true)
+test_parts true b is = (refl, is)
+test_parts false b is = cc
+
+pub longest_found : (entries : List Entry) (v : Value) (e : Entry) (position : ℕ) (other : Entry) → found_entry by.Beg false entries v ≡ Some e → slice_get entries position ≡ Some other → hits by.Beg false other.key v ≡ true → length other.key ≤ length e.key
+longest_found entries v e position other is here hit =
+    let p : Entry → Bool = λ entry. hits by.Beg false entry.key v in
+    let len : Entry → ℕ = λ entry. length entry.key in
+    let most = greatest len (filter p entries) in
+    let passes = find_passes (λ x. p x && len x == most) entries e (sym (measured_first p len entries most) ∙ is) in
+    let same = (Decides-eqb (len e) most).0 (test_parts (p e) (len e == most) passes).1 in
+    let bound = bound_filtered p len entries position other here hit in
+    rw same bound
+
+-- the three tests of what is found by the networks that are nearest and longest
+ip_parts : (ip : Ip) (ci : Bool) (entries : List Entry) (e : Entry) → found_entry by.Ip ci entries (value.Ip ip) ≡ Some e → (by_network (nearness ip) e ≡ greatest (by_network (nearness ip)) (filter (λ x. hits by.Ip ci x.key (value.Ip ip)) entries)) × (by_network prefix_width e ≡ greatest (by_network prefix_width) (with_greatest (by_network (nearness ip)) (filter (λ x. hits by.Ip ci x.key (value.Ip ip)) entries)))
+ip_parts ip ci entries e is =
+    let p : Entry → Bool = λ x. hits by.Ip ci x.key (value.Ip ip) in
+    let f = by_network (nearness ip) in
+    let g = by_network prefix_width in
+    let near = greatest f (filter p entries) in
+    let long = greatest g (with_greatest f (filter p entries)) in
+    let passes = find_passes (λ x. (p x && f x == near) && g x == long) entries e (sym (twice_measured_first p f g entries near long) ∙ is) in
+    let outer = test_parts (p e && f e == near) (g e == long) passes in
+    ((Decides-eqb (f e) near).0 (test_parts (p e) (f e == near) outer.0).1, (Decides-eqb (g e) long).0 outer.1)
+
+pub nearest_found : (ci : Bool) (ip : Ip) (entries : List Entry) (e : Entry) (position : ℕ) (other : Entry) → found_entry by.Ip ci entries (value.Ip ip) ≡ Some e → slice_get entries position ≡ Some other → hits by.Ip ci other.key (value.Ip ip) ≡ true → by_network (nearness ip) other ≤ by_network (nearness ip) e
+nearest_found ci ip entries e position other is here hit =
+    rw (ip_parts ip ci entries e is).0
+    (bound_filtered (λ (x : Entry). hits by.Ip ci x.key (value.Ip ip)) (by_network (nearness ip)) entries position other here hit)
+
+pub longest_network_found : (ci : Bool) (ip : Ip) (entries : List Entry) (e : Entry) (position : ℕ) (other : Entry) → found_entry by.Ip ci entries (value.Ip ip) ≡ Some e → slice_get entries position ≡ Some other → hits by.Ip ci other.key (value.Ip ip) ≡ true → by_network (nearness ip) other ≡ by_network (nearness ip) e → by_network prefix_width other ≤ by_network prefix_width e
+longest_network_found ci ip entries e position other is here hit near =
+    let p : Entry → Bool = λ x. hits by.Ip ci x.key (value.Ip ip) in
+    let f = by_network (nearness ip) in
+    let nearest = greatest f (filter p entries) in
+    let parts = ip_parts ip ci entries e is in
+    let as_near : (f other == nearest) ≡ true = (Decides-eqb (f other) nearest).1 (near ∙ parts.0) in
+    let passes : (p other && f other == nearest) ≡ true = rw hit as_near in
+    let bound = bound_filtered (λ x. p x && f x == nearest) (by_network prefix_width) entries position other here passes in
+    rw (parts.1, filtered_twice p (λ x. f x == nearest) entries) bound
 
 -- ---- tables without entries
 

@@ -4,8 +4,7 @@ use Rattle.std.specs.Prelude.{◌≡◌, ℕ, ◌&&◌, nat_lt, Bool, true, fals
 use Rattle.std.specs.List.{filter, list_any}
 use Rattle.std.specs.Str.{bytes_eq}
 use Rattle.hx_base.specs.Bytes.{is_bad_value_byte}
-use Rattle.hx_outside.specs.Count.{Rose}
-use Rattle.hx_outside.specs.Makers.{ExpressionText, LastIsAsked, MakerState}
+use Rattle.hx_outside.specs.Makers.{CountsLarge, ExpressionText, MakerState}
 use Rattle.hx_text.specs.declared.kinds.By.TheVariants as method
 use Rattle.hx_sample.specs.declared.tables.Change.{Change}
 use Rattle.hx_sample.specs.declared.tables.Change.TheVariants as change
@@ -109,18 +108,24 @@ IsReadBy (h ∷ heads) list key text =
     ((h.by ≡ method.Reg) × (h.list ≡ list) × (text ≡ record { text = key; ci = h.ci }))
     ⊎ IsReadBy heads list key text
 
--- a change of the list reads its key as this expression
-abbrev pub ChangeAsksFor : List TableHead → ℕ → ListChange → ExpressionText → Type 0
-ChangeAsksFor heads list (Addition key) text = IsReadBy heads list key text
-ChangeAsksFor heads list (Removal key) text = ⊥
-ChangeAsksFor heads list (NewValue key value) text = IsReadBy heads list key text
+-- the key of a change that may append it, which a removal doesn't
+abbrev pub IsAppendedKey : ListChange → List ℕ → Type 0
+IsAppendedKey (Addition key) appended = appended ≡ key
+IsAppendedKey (Removal key) appended = ⊥
+IsAppendedKey (NewValue key value) appended = appended ≡ key
 
--- What a maker of regular expressions knows before and after a change. With `TooLarge` its count of
--- texts that were too large rose, and the last of them is one that was asked for. With any other
--- answer both stay.
+-- A change of a list appends its key, and a head reads it as this expression: the change is fit,
+-- and no entry has the key.
+pub record ChangeAsksFor (heads : List TableHead) (lists : List (List Entry)) (list : ℕ)
+    (asked : ListChange) (text : ExpressionText) : Type 0 where
+  pub key : List ℕ
+  pub appended : IsAppendedKey asked key
+  pub fit : is_fit asked ≡ true
+  pub absent : list_any (has_key key) (entries_at lists list) ≡ false
+  pub read : IsReadBy heads list key text
+
+-- what a maker of regular expressions knows before and after a change that asks for such texts
 abbrev pub ChangeCountsLarge : {T : Type 0} → Result T TableFault → (ExpressionText → Type 0)
     → MakerState → MakerState → Type 0
-ChangeCountsLarge (Err TooLarge) Asked before now =
-    Rose before.too_large now.too_large × LastIsAsked Asked now
-ChangeCountsLarge _ Asked before now =
-    (now.too_large ≡ before.too_large) × (now.large ≡ before.large)
+ChangeCountsLarge (Err TooLarge) Asked before now = CountsLarge true Asked before now
+ChangeCountsLarge _ Asked before now = CountsLarge false Asked before now

@@ -1,13 +1,14 @@
 //! Laws: what the definitions of casts, of variables and of searches imply.
-ghost use Rattle.std.specs.Prelude.{◌≡◌, ◌≢◌, ◌↔◌, ℕ, true, false, List, Some, None, option_and_then, if◌then◌else◌};
+ghost use Rattle.std.specs.Prelude.{◌≡◌, ◌≢◌, ◌≤◌, ◌↔◌, ℕ, true, false, length, slice_get, List, Some, None, option_and_then, if◌then◌else◌};
 ghost use Rattle.std.specs.List.{find, list_any};
 ghost use Rattle.std.specs.Str.{bytes_eq};
+ghost use Rattle.hx_text.specs.declared.address.Ip.{Ip};
 ghost use Rattle.hx_text.specs.declared.kinds.Kind.TheVariants as kind;
 ghost use Rattle.hx_text.specs.declared.names.VarName.{VarName};
 ghost use Rattle.hx_sample.specs.Cast.{cast_of};
 ghost use Rattle.hx_sample.specs.declared.sample.Value.{Value};
 ghost use Rattle.hx_sample.specs.declared.sample.Value.TheVariants as value;
-ghost use Rattle.hx_sample.specs.Find.{Entry, found_entry};
+ghost use Rattle.hx_sample.specs.Find.{by_network, nearness, prefix_width, Entry, found_entry};
 ghost use Rattle.hx_sample.specs.Keys.{hits};
 ghost use Rattle.hx_sample.specs.Vars.{var_of, with_var, without_var, after_request, after_session, ends_with_request, owner_of, IsSameVar};
 
@@ -70,6 +71,29 @@ pub fn found_entry_hits_and_is_first(by: By, ci: bool)
     ensures first { (entries : List Entry) (v : Value) (found : Entry) →
         found_entry by ci entries v ≡ Some found →
         find (λ entry. bytes_eq entry.key found.key) entries ≡ Some found }
+{}
+
+/// By `beg`, with case, no entry that hits has a longer key than the one that is found.
+pub fn longest_prefix_is_found()
+    ensures { (entries : List Entry) (v : Value) (found : Entry) (position : ℕ) (other : Entry) →
+        found_entry By.Beg false entries v ≡ Some found → slice_get entries position ≡ Some other
+        → hits By.Beg false other.key v ≡ true → length other.key ≤ length found.key }
+{}
+
+/// By `ip`, no entry that hits an address has a network that is nearer to it than that of the one
+/// that is found, and none as near has a longer prefix.
+pub fn nearest_network_is_found(ci: bool)
+    ensures near { (entries : List Entry) (ip : Ip) (found : Entry) (position : ℕ) (other : Entry) →
+        found_entry By.Ip ci entries (value.Ip ip) ≡ Some found
+        → slice_get entries position ≡ Some other
+        → hits By.Ip ci other.key (value.Ip ip) ≡ true
+        → by_network (nearness ip) other ≤ by_network (nearness ip) found }
+    ensures long { (entries : List Entry) (ip : Ip) (found : Entry) (position : ℕ) (other : Entry) →
+        found_entry By.Ip ci entries (value.Ip ip) ≡ Some found
+        → slice_get entries position ≡ Some other
+        → hits By.Ip ci other.key (value.Ip ip) ≡ true
+        → by_network (nearness ip) other ≡ by_network (nearness ip) found
+        → by_network prefix_width other ≤ by_network prefix_width found }
 {}
 
 /// No entry is found exactly where none hits.

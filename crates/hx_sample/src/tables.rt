@@ -1,4 +1,5 @@
-ghost use Rattle.std.specs.Prelude.{◌≡◌, ◌<◌, IfOk, OnOk, OnErr, length, option_map};
+ghost use Rattle.std.specs.Prelude.{◌≡◌, ◌≢◌, ◌<◌, IfOk, IfSome, IsOk, OnOk, OnErr, length, option_map, slice_get};
+ghost use Rattle.hx_text.specs.declared.kinds.By.TheVariants as By;
 ghost use Rattle.hx_sample.specs.Changes.{change_of, ChangeAsksFor, ChangeCountsLarge, ChangesList};
 ghost use Rattle.hx_sample.specs.Seen.{value_of};
 ghost use Rattle.hx_sample.specs.Tables.{TakesValue, empty_heads, empty_lists, entry_of, found_at};
@@ -58,26 +59,32 @@ impl From<NoMemory> for TableFault {
 
 /// Lists of patterns and maps, in which values are looked up. Each head is a way to search one of
 /// the lists: by a match method, and ignoring case or not (HAProxy configuration manual 2.4,
-/// section 7.1). Contracts see the heads as a list, and the entries of each list.
+/// section 7.1). Contracts see the heads as a list, and the entries of each list, both by the state
+/// of the object.
 pub trait Tables {
     ghost use Rattle.std.specs.Prelude.{ℕ, List};
     ghost use Rattle.hx_sample.specs.Changes.{ListChange};
     ghost use Rattle.hx_sample.specs.Find.{Entry};
     ghost use Rattle.hx_sample.specs.Tables.{TableHead};
 
-    ghost heads: { Self → List TableHead };
+    /// what is known of the object as tables, which may be less than callers see of it
+    ghost State: { Type 0 };
 
-    ghost lists: { Self → List (List Entry) };
+    ghost state: { Self → State };
+
+    ghost heads: { State → List TableHead };
+
+    ghost lists: { State → List (List Entry) };
 
     /// what a change of the list at a position makes of them
-    ghost after_change: { Self → ℕ → ListChange → Self };
+    ghost after_change: { State → ℕ → ListChange → State };
 
     /// The entry that the value of `sample` finds in the list of the head `head`, counted from 0:
     /// the first whose key hits the value. By `beg` with case it is the first of the longest that
     /// hit. By `ip` a prefix of the family of the address goes before one of the other family, and
     /// this before a mask; of prefixes the longest goes first, and then the first. None exactly
     /// where no key hits. Steps of the search are counted in `steps`. It fails only where memory
-    /// runs out, of which a search by regular expressions takes some.
+    /// runs out, of which a search by regular expressions takes some, and no other.
     ///
     /// The head is one of the object's heads, and the sample has the type that its method takes.
     fn find<L: Ledger>(
@@ -87,10 +94,13 @@ pub trait Tables {
         sample: &Sample<'_>,
         steps: &mut Steps<L>,
     ) -> Result<Option<Hit<'_>>, NoMemory>
-        requires head { head < length (heads self.now) }
-        requires kind { TakesValue (heads self.now) head (value_of sample.now) }
-        ensures { IfOk result (λ hit. option_map entry_of hit
-            ≡ found_at (heads self.now) (lists self.now) head (value_of sample.now)) };
+        requires head { head < length (heads (state self.now)) }
+        requires kind { TakesValue (heads (state self.now)) head (value_of sample.now) }
+        ensures found { IfOk result (λ hit. option_map entry_of hit
+            ≡ found_at (heads (state self.now)) (lists (state self.now)) head
+            (value_of sample.now)) }
+        ensures free { IfSome (slice_get (heads (state self.now)) head)
+            (λ h. h.by ≢ By.Reg → IsOk result) };
 
     /// Changes the list at the position `table`. `Add` appends an entry with the key and without a
     /// value where no entry has the key. `Del` and `DelMap` remove all entries with the key.
@@ -100,8 +110,8 @@ pub trait Tables {
     /// entry or value. Other lists stay, and all heads do.
     ///
     /// `TooLarge` only where the maker's count of texts that were too large rose; the last such
-    /// text is then the key, which a head by `reg` of this list reads. `NoMemory` where memory runs
-    /// out. With both nothing is changed.
+    /// text is then a key that is appended, which a head by `reg` of this list reads. `NoMemory`
+    /// where memory runs out. With both nothing is changed.
     ///
     /// There are more than `table` lists. HAProxy configuration manual 2.4, section 4.2,
     /// `http-request add-acl`, `del-acl`, `del-map`, `set-map`.
@@ -111,16 +121,16 @@ pub trait Tables {
         change: Change<'_>,
         maker: &mut M,
     ) -> Result<(), TableFault>
-        requires table { table < length (lists self.old) }
-        ensures ok { OnOk result (self.new ≡ after_change self.old table (change_of change.entry)) }
+        requires table { table < length (lists (state self.old)) }
+        ensures ok { OnOk result
+            (state self.new ≡ after_change (state self.old) table (change_of change.entry)) }
         ensures kept { OnErr result (self.new ≡ self.old) }
-        ensures heads { heads self.new ≡ heads self.old }
-        ensures lists { OnOk result (ChangesList table (change_of change.entry) (lists self.old)
-            (lists self.new)) }
-        ensures large { ChangeCountsLarge result
-            (ChangeAsksFor (heads self.old) table (change_of change.entry))
-            (record { too_large = M.too_large maker.old; large = M.large maker.old })
-            (record { too_large = M.too_large maker.new; large = M.large maker.new }) };
+        ensures heads { heads (state self.new) ≡ heads (state self.old) }
+        ensures lists { OnOk result (ChangesList table (change_of change.entry)
+            (lists (state self.old)) (lists (state self.new))) }
+        ensures large { ChangeCountsLarge result (ChangeAsksFor (heads (state self.old))
+            (lists (state self.old)) table (change_of change.entry))
+            (M.state maker.old) (M.state maker.new) };
 }
 
 /// Tables in which nothing is found, for expressions that look nothing up: one head, by `str` with
@@ -129,11 +139,15 @@ pub trait Tables {
 pub struct EmptyTables;
 
 impl Tables for EmptyTables {
-    ghost heads = { λ tables. empty_heads };
+    ghost State = { Unit {0} };
 
-    ghost lists = { λ tables. empty_lists };
+    ghost state = { λ tables. tt };
 
-    ghost after_change = { λ tables table asked. tables };
+    ghost heads = { λ state. empty_heads };
+
+    ghost lists = { λ state. empty_lists };
+
+    ghost after_change = { λ state table asked. state };
 
     #[tactic(auto, using(crate::proofs::FindLemmas::nothing_found))]
     fn find<L: Ledger>(
