@@ -6,7 +6,7 @@ use Rattle.hx_ast.specs.declared.statement.Term.{Term}
 use Rattle.hx_sample.specs.Tables.{TableHead}
 use Rattle.hx_expr.specs.Values.{IsHeadBy}
 use Rattle.hx_refs.specs.References.{AreEmpty, References}
-use Rattle.hx_acl.specs.Holds.{HasAclHeads, term_of}
+use Rattle.hx_acl.specs.Holds.{HasAclHeads}
 
 -- nothing was added to the references, and their numbers are below the next position
 pub record HaveHadNone (refs : References) : Type 0 where
@@ -23,7 +23,7 @@ AreHeadsBy heads method (position ∷ positions) =
 abbrev pub HasConjHeads : List TableHead → List Term → Type 0
 HasConjHeads heads [] = ⊤
 HasConjHeads heads (term ∷ terms) =
-    HasAclHeads heads (term_of term).acl × HasConjHeads heads terms
+    HasAclHeads heads term.acl × HasConjHeads heads terms
 
 -- the same of the terms of conjunctions
 abbrev pub HaveConjHeads : List TableHead → List (List Term) → Type 0

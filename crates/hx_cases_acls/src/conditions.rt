@@ -51,8 +51,8 @@ fn declare(
     decl: &Decl,
     filled: &Filled,
 ) -> Result<(), CaseFault>
-    requires { HasAclsHeads filled.now.refs.heads acls.old }
-    ensures { OnOk result (HasAclsHeads filled.now.refs.heads acls.new) }
+    requires { HasAclsHeads filled.now.refs.content.heads acls.old }
+    ensures { OnOk result (HasAclsHeads filled.now.refs.content.heads acls.new) }
 {
     if !filled.has_decl_heads(decl) {
         return Err(CaseFault::BadArguments);
@@ -70,7 +70,7 @@ fn declared(
     statements: &[Statement],
     filled: &Filled,
 ) -> Result<AclSet, CaseFault>
-    ensures { IfOk result (λ acls. HasAclsHeads filled.now.refs.heads acls) }
+    ensures { IfOk result (λ acls. HasAclsHeads filled.now.refs.content.heads acls) }
 {
     let mut acls = AclSet::new(alloc);
     for statement in statements {
@@ -91,8 +91,8 @@ fn show_holds<L: Ledger>(
     state: &State,
     blank: Blank,
 ) -> Result<(), CaseFault>
-    requires heads { HasCondHeads filled.now.refs.heads condition.now }
-    requires acls { HasAclsHeads filled.now.refs.heads acls.now }
+    requires heads { HasCondHeads filled.now.refs.content.heads condition.now }
+    requires acls { HasAclsHeads filled.now.refs.content.heads acls.now }
     requires name { blank.name ≡ L.name }
     requires parts { blank.parts ≡ L.parts }
     requires some { 0 < L.parts }
@@ -119,7 +119,7 @@ fn show_condition(
     filled: &Filled,
     state: &State,
 ) -> Result<(), CaseFault>
-    requires { HasAclsHeads filled.now.refs.heads acls.now }
+    requires { HasAclsHeads filled.now.refs.content.heads acls.now }
 {
     if !filled.has_cond_heads(cond.as_slice()) {
         return Err(CaseFault::BadArguments);

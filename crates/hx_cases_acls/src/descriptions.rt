@@ -46,9 +46,9 @@ fn way(text: &[u8]) -> Result<(By, bool), CaseFault> {
 
 /// Adds a use to a reference to which nothing was added.
 fn add_use(refs: &mut Refs, r: u32, text: &[u8]) -> Result<(), CaseFault>
-    requires r { r < length refs.old.references }
-    requires none { HasHadNone refs.old r }
-    ensures { OnOk result (refs.new.references ≡ refs.old.references) }
+    requires r { r < length refs.old.content.references }
+    requires none { HasHadNone refs.old.content r }
+    ensures { OnOk result (refs.new.content.references ≡ refs.old.content.references) }
 {
     let (by, ci) = way(text)?;
     if !can_be_use(by, ci) {
@@ -60,10 +60,10 @@ fn add_use(refs: &mut Refs, r: u32, text: &[u8]) -> Result<(), CaseFault>
 
 /// Adds an output to a reference to which nothing was added, for `=` and a type, or else a use.
 fn add_part(refs: &mut Refs, r: u32, text: &[u8]) -> Result<(), CaseFault>
-    requires r { r < length refs.old.references }
-    requires none { HasHadNone refs.old r }
-    ensures r { OnOk result (r < length refs.new.references) }
-    ensures none { OnOk result (HasHadNone refs.new r) }
+    requires r { r < length refs.old.content.references }
+    requires none { HasHadNone refs.old.content r }
+    ensures r { OnOk result (r < length refs.new.content.references) }
+    ensures none { OnOk result (HasHadNone refs.new.content r) }
 {
     match text {
         b"=str" => Ok(refs.add_out(r, Out::Str)?),
@@ -75,8 +75,8 @@ fn add_part(refs: &mut Refs, r: u32, text: &[u8]) -> Result<(), CaseFault>
 
 /// Adds uses and outputs, with commas between, or none for `-`.
 fn add_parts(refs: &mut Refs, r: u32, text: &[u8]) -> Result<(), CaseFault>
-    requires r { r < length refs.old.references }
-    requires none { HasHadNone refs.old r }
+    requires r { r < length refs.old.content.references }
+    requires none { HasHadNone refs.old.content r }
 {
     if text == b"-".as_slice() {
         return Ok(());
@@ -90,7 +90,7 @@ fn add_parts(refs: &mut Refs, r: u32, text: &[u8]) -> Result<(), CaseFault>
 /// Whether a reference has the number.
 fn has_number(refs: &Refs, number: u32) -> bool
     ensures { result ≡ false
-        → All (λ reference. reference.id ≢ number) refs.now.references }
+        → All (λ reference. reference.id ≢ number) refs.now.content.references }
 {
     for position in 0..refs.len() {
         if refs.info(position).id == number {
@@ -113,7 +113,7 @@ fn is_named(file: Option<&[u8]>, name: &[u8]) -> bool
 /// Whether a reference has the file of this name.
 fn has_name(refs: &Refs, name: &[u8]) -> bool
     ensures { result ≡ false
-        → All (λ reference. reference.file ≢ Some name.now) refs.now.references }
+        → All (λ reference. reference.file ≢ Some name.now) refs.now.content.references }
 {
     for position in 0..refs.len() {
         if is_named(refs.file(position), name) {
@@ -126,7 +126,7 @@ fn has_name(refs: &Refs, name: &[u8]) -> bool
 /// Whether a reference has the file, if it is one.
 fn has_file(refs: &Refs, file: Option<&[u8]>) -> bool
     ensures { result ≡ false → IfSome (option_copied file.entry)
-        (λ name. All (λ reference. reference.file ≢ Some name) refs.now.references) }
+        (λ name. All (λ reference. reference.file ≢ Some name) refs.now.content.references) }
 {
     match file {
         Some(name) => has_name(refs, name),
@@ -142,8 +142,8 @@ fn add_new(
     two_column: bool,
     acl: bool,
 ) -> Result<u32, CaseFault>
-    ensures r { IfOk result (λ r. r < length refs.new.references) }
-    ensures none { IfOk result (λ r. HasHadNone refs.new r) }
+    ensures r { IfOk result (λ r. r < length refs.new.content.references) }
+    ensures none { IfOk result (λ r. HasHadNone refs.new.content r) }
 {
     if refs.len() >= 65_536 || has_number(refs, number) || has_file(refs, file) {
         return Err(CaseFault::BadArguments);

@@ -59,7 +59,7 @@ fn show_entries(out: &mut String, ver: u32, entries: Entries<'_>) -> Result<(), 
 
 /// Writes what is told of a reference.
 fn show_info(out: &mut String, refs: &Refs, r: u32) -> Result<(), CaseFault>
-    requires { r < length refs.now.references }
+    requires { r < length refs.now.content.references }
 {
     let info = refs.info(r);
     Ok(write!(out, "{info:?}|")?)
@@ -72,7 +72,7 @@ fn commit_counted<L: Ledger>(
     ver: u32,
     blank: Blank,
 ) -> Result<(), RefFault>
-    requires r { r < length refs.old.references }
+    requires r { r < length refs.old.content.references }
     requires name { blank.name ≡ L.name }
     requires parts { blank.parts ≡ L.parts }
     requires some { 0 < L.parts }
@@ -82,14 +82,14 @@ fn commit_counted<L: Ledger>(
 }
 
 fn commit(out: &mut String, refs: &mut Refs, r: u32, ver: u32) -> Result<(), CaseFault>
-    requires { r < length refs.old.references }
+    requires { r < length refs.old.content.references }
 {
     show_done(out, commit_counted::<Brand>(refs, r, ver, Blank::new(1)))
 }
 
 /// The step of this name on the version that is searched, or on all.
 fn plain_step(out: &mut String, refs: &mut Refs, r: u32, name: &[u8]) -> Result<(), CaseFault>
-    requires { r < length refs.old.references }
+    requires { r < length refs.old.content.references }
 {
     match name {
         b"prepare" => show_number(out, refs.prepare(r)),
@@ -111,7 +111,7 @@ fn version_step(
     name: &[u8],
     ver: u32,
 ) -> Result<(), CaseFault>
-    requires { r < length refs.old.references }
+    requires { r < length refs.old.content.references }
 {
     match name {
         b"commit" => commit(out, refs, r, ver),
@@ -132,7 +132,7 @@ fn add(
     ver: Option<u32>,
     text: &[u8],
 ) -> Result<(), CaseFault>
-    requires { r < length refs.old.references }
+    requires { r < length refs.old.content.references }
 {
     let (key, value) = pair(text);
     show_done(out, refs.add(r, ver, key, value, &mut PlainMaker::new()))
@@ -160,7 +160,7 @@ fn add_many(
     ver: Option<u32>,
     text: &[u8],
 ) -> Result<(), CaseFault>
-    requires { r < length refs.old.references }
+    requires { r < length refs.old.content.references }
 {
     let pairs = pairs(alloc, text)?;
     let added = refs.add_many(r, ver, &pairs, &mut PlainMaker::new());
@@ -169,7 +169,7 @@ fn add_many(
 
 /// Sets the value of the entries with a key, for `KEY=VALUE`.
 fn set(out: &mut String, refs: &mut Refs, r: u32, text: &[u8]) -> Result<(), CaseFault>
-    requires { r < length refs.old.references }
+    requires { r < length refs.old.content.references }
 {
     let (key, value) = cut_at(b'=', text).ok_or(CaseFault::BadArguments)?;
     show_done(out, refs.set_key(r, key, value))
@@ -177,7 +177,7 @@ fn set(out: &mut String, refs: &mut Refs, r: u32, text: &[u8]) -> Result<(), Cas
 
 /// Sets the value of the entry with a number, for `VERSION.SERIAL=VALUE`.
 fn set_id(out: &mut String, refs: &mut Refs, r: u32, text: &[u8]) -> Result<(), CaseFault>
-    requires { r < length refs.old.references }
+    requires { r < length refs.old.content.references }
 {
     let (number, value) = cut_at(b'=', text).ok_or(CaseFault::BadArguments)?;
     show_done(out, refs.set_id(r, entry_number(number)?, value))
@@ -192,7 +192,7 @@ fn text_step(
     name: &[u8],
     text: &[u8],
 ) -> Result<(), CaseFault>
-    requires { r < length refs.old.references }
+    requires { r < length refs.old.content.references }
 {
     match name {
         b"add" => add(out, refs, r, None, text),
@@ -236,7 +236,7 @@ fn change(
     name: &[u8],
     text: &[u8],
 ) -> Result<(), CaseFault>
-    requires { r < length refs.old.references }
+    requires { r < length refs.old.content.references }
 {
     let change = change_named(name, text)?;
     match refs.change(r, change, &mut PlainMaker::new()) {
@@ -256,7 +256,7 @@ fn text_step_at(
     at: &[u8],
     text: &[u8],
 ) -> Result<(), CaseFault>
-    requires { r < length refs.old.references }
+    requires { r < length refs.old.content.references }
 {
     match name {
         b"add" => add(out, refs, r, Some(id(at)?), text),

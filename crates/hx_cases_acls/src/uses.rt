@@ -1,8 +1,8 @@
 //! References with their uses and entries, as the lines of a configuration bring them.
 
 ghost use Rattle.std.specs.Prelude.{◌≡◌, ◌≢◌, ◌<◌, true, OnOk, length};
-ghost use Rattle.hx_acl.specs.Holds.{HasAclHeads, term_of};
-ghost use Rattle.hx_acl.specs.Tests.{HasTestHeads, test_of};
+ghost use Rattle.hx_acl.specs.Holds.{HasAclHeads};
+ghost use Rattle.hx_acl.specs.Tests.{HasTestHeads};
 ghost use Rattle.hx_cases_acls.specs.Uses.{AreHeadsBy, HasConjHeads, HaveConjHeads, HaveHadNone};
 ghost use Rattle.hx_expr.specs.Values.{HasTableHeads, IsHeadBy};
 ghost use Rattle.hx_refs.specs.Uses.{KeepsToCase};
@@ -32,8 +32,8 @@ pub fn can_be_use(by: By, ci: bool) -> bool
 /// Appends a reference without uses and entries, whose number is its position.
 #[tactic(auto, using(crate::proofs::BuildLemmas::next_number, crate::proofs::BuildLemmas::none_in_more))]
 fn add_reference(refs: &mut Refs, spec: &TableSpec) -> Result<(), CaseFault>
-    requires { HaveHadNone refs.old }
-    ensures { OnOk result (HaveHadNone refs.new) }
+    requires { HaveHadNone refs.old.content }
+    ensures { OnOk result (HaveHadNone refs.new.content) }
 {
     let position = refs.len();
     if position >= 65_536 {
@@ -46,8 +46,8 @@ fn add_reference(refs: &mut Refs, spec: &TableSpec) -> Result<(), CaseFault>
 /// Appends the use of a head.
 #[tactic(auto, using(crate::proofs::BuildLemmas::none_after_use, crate::proofs::BuildLemmas::none_at))]
 fn add_head(refs: &mut Refs, head: HeadSpec) -> Result<(), CaseFault>
-    requires { HaveHadNone refs.old }
-    ensures { OnOk result (HaveHadNone refs.new) }
+    requires { HaveHadNone refs.old.content }
+    ensures { OnOk result (HaveHadNone refs.new.content) }
 {
     if head.table >= refs.len() || !can_be_use(head.by, head.ci) {
         return Err(CaseFault::BadArguments);
@@ -138,8 +138,8 @@ impl Filled {
 
     /// Whether the reference at this position has a use by this method with this head.
     fn has_use(&self, position: u32, head: u32, by: By) -> bool
-        requires { position < length self.now.refs.references }
-        ensures { result ≡ true → IsHeadBy self.now.refs.heads head by }
+        requires { position < length self.now.refs.content.references }
+        ensures { result ≡ true → IsHeadBy self.now.refs.content.heads head by }
     {
         for place in 0..22 {
             if let Some((method, _, number)) = self.refs.use_at(position, place) {
@@ -153,7 +153,7 @@ impl Filled {
 
     /// Whether it is the head of a use by this method.
     fn has_head(&self, head: u32, by: By) -> bool
-        ensures { result ≡ true → IsHeadBy self.now.refs.heads head by }
+        ensures { result ≡ true → IsHeadBy self.now.refs.content.heads head by }
     {
         let Some(spec) = self.tables.head(head as usize) else {
             return false;
@@ -166,7 +166,7 @@ impl Filled {
 
     /// Whether these are heads of uses by this method.
     fn has_heads(&self, heads: &[u32], by: By) -> bool
-        ensures { result ≡ true → AreHeadsBy self.now.refs.heads by heads.now }
+        ensures { result ≡ true → AreHeadsBy self.now.refs.content.heads by heads.now }
     {
         for head in heads {
             if !self.has_head(*head, by) {
@@ -178,7 +178,7 @@ impl Filled {
 
     /// Whether converters look values up by heads of uses by their methods.
     fn has_map_heads(&self, convs: &[Conv]) -> bool
-        ensures { result ≡ true → HasTableHeads self.now.refs.heads convs.now }
+        ensures { result ≡ true → HasTableHeads self.now.refs.content.heads convs.now }
     {
         for conv in convs {
             if let Conv::Map(head, by, _, _) = conv {
@@ -193,7 +193,7 @@ impl Filled {
     /// Whether an ACL looks values up by heads of uses by its methods.
     #[tactic(auto, using(crate::proofs::CondLemmas::decl_has_heads))]
     pub fn has_decl_heads(&self, decl: &Decl) -> bool
-        ensures { result ≡ true → HasTestHeads self.now.refs.heads (test_of decl.now) }
+        ensures { result ≡ true → HasTestHeads self.now.refs.content.heads decl.now }
     {
         self.has_map_heads(decl.expr.convs.as_slice())
             && self.has_heads(decl.heads.as_slice(), decl.by)
@@ -201,7 +201,7 @@ impl Filled {
 
     /// The same of the ACL of a term.
     fn has_term_heads(&self, term: &Term) -> bool
-        ensures { result ≡ true → HasAclHeads self.now.refs.heads (term_of term.now).acl }
+        ensures { result ≡ true → HasAclHeads self.now.refs.content.heads term.now.acl }
     {
         match &term.acl {
             AclUse::Named(_) => true,
@@ -211,7 +211,7 @@ impl Filled {
 
     /// The same of the ACLs of all terms.
     fn has_conj_heads(&self, conj: &[Term]) -> bool
-        ensures { result ≡ true → HasConjHeads self.now.refs.heads conj.now }
+        ensures { result ≡ true → HasConjHeads self.now.refs.content.heads conj.now }
     {
         for term in conj {
             if !self.has_term_heads(term) {
@@ -223,7 +223,7 @@ impl Filled {
 
     /// The same of the ACLs of a condition.
     pub fn has_cond_heads(&self, cond: &[Conj]) -> bool
-        ensures { result ≡ true → HaveConjHeads self.now.refs.heads cond.now }
+        ensures { result ≡ true → HaveConjHeads self.now.refs.content.heads cond.now }
     {
         for conj in cond {
             if !self.has_conj_heads(conj.as_slice()) {

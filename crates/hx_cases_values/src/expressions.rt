@@ -115,7 +115,7 @@ fn show_plan<T: Tables, L: Ledger>(
     all: bool,
     blank: Blank,
 ) -> Result<(), CaseFault>
-    requires heads { HasTableHeads (T.heads tables.now) plan.now.convs }
+    requires heads { HasTableHeads (T.heads (T.state tables.now)) plan.now.convs }
     requires name { blank.name ≡ L.name }
     requires parts { blank.parts ≡ L.parts }
     requires some { 0 < L.parts }
@@ -150,7 +150,7 @@ pub fn show_expression<T: Tables>(
     tables: &T,
     all: bool,
 ) -> Result<(), CaseFault>
-    requires { HasTableHeads (T.heads tables.now) expr.now.convs }
+    requires { HasTableHeads (T.heads (T.state tables.now)) expr.now.convs }
 {
     match compiled(alloc, out, expr, &mut PlainMaker::new())? {
         Some(plan) => {

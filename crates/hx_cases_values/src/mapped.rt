@@ -51,8 +51,8 @@ fn mapping(alloc: Global, by: By, kind: &[u8], default: &[u8]) -> Result<Expr, C
 
 /// A map with these uses, and the method of the first, which has the head 0.
 fn map_used(alloc: Global, uses: &[u8]) -> Result<(By, Refs), CaseFault>
-    ensures head { IfOk result (λ used. IsHeadBy used.1.heads 0 used.0) }
-    ensures some { IfOk result (λ used. 0 < length used.1.references) }
+    ensures head { IfOk result (λ used. IsHeadBy used.1.content.heads 0 used.0) }
+    ensures some { IfOk result (λ used. 0 < length used.1.content.references) }
 {
     let (first, others) = cut_at(b',', uses).unwrap_or((uses, b"-"));
     let mut refs = one_map(alloc, Limits::usual())?;

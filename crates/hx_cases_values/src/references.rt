@@ -14,9 +14,9 @@ use std::fmt::Write;
 
 /// References of one map that has nothing yet, with the number 7 and the file `a.map`.
 pub fn one_map(alloc: Global, limits: Limits) -> Result<Refs, CaseFault>
-    ensures heads { IfOk result (λ refs. refs.heads ≡ []) }
-    ensures some { IfOk result (λ refs. 0 < length refs.references) }
-    ensures none { IfOk result (λ refs. HasHadNone refs 0) }
+    ensures heads { IfOk result (λ refs. refs.content.heads ≡ []) }
+    ensures some { IfOk result (λ refs. 0 < length refs.content.references) }
+    ensures none { IfOk result (λ refs. HasHadNone refs.content 0) }
 {
     let mut refs = Refs::new(alloc, limits);
     refs.add_ref(7, Some(b"a.map"), true, false)?;
@@ -25,11 +25,11 @@ pub fn one_map(alloc: Global, limits: Limits) -> Result<Refs, CaseFault>
 
 /// A use of the map.
 fn add_way(refs: &mut Refs, text: &[u8]) -> Result<(), CaseFault>
-    requires some { 0 < length refs.old.references }
-    requires none { HasHadNone refs.old 0 }
-    ensures references { OnOk result (refs.new.references ≡ refs.old.references) }
+    requires some { 0 < length refs.old.content.references }
+    requires none { HasHadNone refs.old.content 0 }
+    ensures references { OnOk result (refs.new.content.references ≡ refs.old.content.references) }
     ensures head { OnOk result
-        ((by : By) → IsHeadBy refs.old.heads 0 by → IsHeadBy refs.new.heads 0 by) }
+        ((by : By) → IsHeadBy refs.old.content.heads 0 by → IsHeadBy refs.new.content.heads 0 by) }
 {
     let (by, ci) = way(text)?;
     refs.add_use(0, by, ci)?;
@@ -38,11 +38,11 @@ fn add_way(refs: &mut Refs, text: &[u8]) -> Result<(), CaseFault>
 
 /// Uses of the map, with commas between, or `-` for none.
 pub fn add_uses(refs: &mut Refs, text: &[u8]) -> Result<(), CaseFault>
-    requires some { 0 < length refs.old.references }
-    requires none { HasHadNone refs.old 0 }
-    ensures references { OnOk result (refs.new.references ≡ refs.old.references) }
+    requires some { 0 < length refs.old.content.references }
+    requires none { HasHadNone refs.old.content 0 }
+    ensures references { OnOk result (refs.new.content.references ≡ refs.old.content.references) }
     ensures head { OnOk result
-        ((by : By) → IsHeadBy refs.old.heads 0 by → IsHeadBy refs.new.heads 0 by) }
+        ((by : By) → IsHeadBy refs.old.content.heads 0 by → IsHeadBy refs.new.content.heads 0 by) }
 {
     if text == b"-".as_slice() {
         return Ok(());
@@ -55,9 +55,9 @@ pub fn add_uses(refs: &mut Refs, text: &[u8]) -> Result<(), CaseFault>
 
 /// The type in which values of the map have to be readable, or `-`.
 fn add_type(refs: &mut Refs, text: &[u8]) -> Result<(), CaseFault>
-    requires some { 0 < length refs.old.references }
-    requires none { HasHadNone refs.old 0 }
-    ensures { OnOk result (0 < length refs.new.references) }
+    requires some { 0 < length refs.old.content.references }
+    requires none { HasHadNone refs.old.content 0 }
+    ensures { OnOk result (0 < length refs.new.content.references) }
 {
     match text {
         b"-" => Ok(()),
@@ -111,8 +111,8 @@ fn add_held<M: ReMaker>(
     text: &[u8],
     maker: &mut M,
 ) -> Result<Result<(), RefFault>, CaseFault>
-    requires { 0 < length refs.old.references }
-    ensures { 0 < length refs.new.references }
+    requires { 0 < length refs.old.content.references }
+    ensures { 0 < length refs.new.content.references }
 {
     let (ver, text) = cut_at(b':', text).ok_or(CaseFault::BadArguments)?;
     let ver = match ver {
@@ -130,7 +130,7 @@ fn add_held<M: ReMaker>(
 /// Writes the uses of the map in their order, each with its head, its entries, and what is told of
 /// it.
 fn show_map(out: &mut String, refs: &Refs) -> Result<(), CaseFault>
-    requires { 0 < length refs.now.references }
+    requires { 0 < length refs.now.content.references }
 {
     for place in 0..23 {
         if let Some((by, ci, head)) = refs.use_at(0, place) {

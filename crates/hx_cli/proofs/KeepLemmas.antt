@@ -1,12 +1,12 @@
 -- Commands keep the heads, and the number of references.
-use Rattle.std.proofs.Common.{◌≡◌, ℕ, Bool, List, [], ◌∷◌, length, refl}
+use Rattle.std.proofs.Common.{◌≡◌, ℕ, Bool, List, [], ◌∷◌, length, ap, refl}
 use Rattle.std.specs.Prelude.{slice_get, slice_set, Option, None, Some, Result, Ok, Err, OnErr, OnOk}
 use Rattle.std.specs.Option.{option_map_or}
 use Rattle.std.proofs.lemmas.List.{length-set}
 use Rattle.hx_sample.specs.declared.tables.TableFault.{TableFault}
 use Rattle.hx_refs.specs.Additions.{Pair}
 use Rattle.hx_refs.specs.Naming.{resolution}
-use Rattle.hx_refs.specs.References.{changed_at, Reference, References}
+use Rattle.hx_refs.specs.References.{changed_at, Reference, References, RefsState}
 use Rattle.hx_refs.specs.declared.fault.RefFault.{RefFault}
 use Rattle.hx_refs.specs.declared.side.Side.TheVariants as side
 use Rattle.hx_cli.specs.declared.command.Command.{Command}
@@ -87,8 +87,14 @@ answered_keeps : {A : Type 0} (answer : Result A TableFault) (old new after : Re
 answered_keeps (Ok a) old new after kept is stays = rw is kept
 answered_keeps (Err fault) old new after kept is stays = rw stays (same_keeps old)
 
+content_stays : {A : Type 0} (answer : Result A TableFault) (old new : RefsState) → OnErr answer (new ≡ old)
+    → OnErr answer (new.content ≡ old.content)
+content_stays (Ok a) old new stays = tt
+content_stays (Err fault) old new stays = ap (λ state. state.content) stays
+
 pub outside_answered : {A : Type 0} (answer : Result A TableFault) (session : ℕ) (words : List (List ℕ)) (payloads : OpenPayloads)
-    (old new : References) → OnOk answer (new ≡ (outside_line session words payloads old).refs)
-    → OnErr answer (new ≡ old) → Keeps old new
+    (old new : RefsState) → OnOk answer (new.content ≡ (outside_line session words payloads old.content).refs)
+    → OnErr answer (new ≡ old) → Keeps old.content new.content
 outside_answered answer session words payloads old new is stays =
-    answered_keeps answer old new (outside_line session words payloads old).refs (outside_keeps session words payloads old) is stays
+    answered_keeps answer old.content new.content (outside_line session words payloads old.content).refs
+    (outside_keeps session words payloads old.content) is (content_stays answer old new stays)

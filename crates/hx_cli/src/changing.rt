@@ -40,14 +40,13 @@ pub(crate) fn add<M: ReMaker>(
     maker: &mut M,
 ) -> Result<Reply, TableFault>
     ensures reply { IfOk result (λ reply.
-        reply ≡ (addition_effect is_map ver name.now pairs.now refs.old).reply) }
+        reply ≡ (addition_effect is_map ver name.now pairs.now refs.old.content).reply) }
     ensures refs { OnOk result
-        (refs.new ≡ (addition_effect is_map ver name.now pairs.now refs.old).refs) }
+        (refs.new.content ≡ (addition_effect is_map ver name.now pairs.now refs.old.content).refs) }
     ensures kept { OnErr result (refs.new ≡ refs.old) }
     ensures large { ChangeCountsLarge result
-        (AdditionCommandAsksFor is_map ver name.now pairs.now refs.old)
-        (record { too_large = M.too_large maker.old; large = M.large maker.old })
-        (record { too_large = M.too_large maker.new; large = M.large maker.new }) }
+        (AdditionCommandAsksFor is_map ver name.now pairs.now refs.old.content)
+        (M.state maker.old) (M.state maker.new) }
 {
     match refs.resolve(name, adding(is_map)) {
         Ok(r) => {
@@ -60,8 +59,9 @@ pub(crate) fn add<M: ReMaker>(
 
 /// `del acl`, `del map`: the entries of which a word speaks are removed.
 pub(crate) fn del(alloc: Global, refs: &mut Refs, is_map: bool, name: &[u8], key: &[u8]) -> Reply
-    ensures reply { result ≡ (command_effect (Del is_map name.now key.now) refs.old).reply }
-    ensures refs { refs.new ≡ (command_effect (Del is_map name.now key.now) refs.old).refs }
+    ensures reply { result ≡ (command_effect (Del is_map name.now key.now) refs.old.content).reply }
+    ensures refs { refs.new.content ≡ (command_effect (Del is_map name.now key.now)
+        refs.old.content).refs }
 {
     match refs.resolve(name, looking(is_map)) {
         Ok(r) => {
@@ -81,9 +81,10 @@ pub(crate) fn set(
     value: &[u8],
 ) -> Result<Reply, NoMemory>
     ensures reply { IfOk result (λ reply.
-        reply ≡ (command_effect (Set name.now key.now value.now) refs.old).reply) }
+        reply ≡ (command_effect (Set name.now key.now value.now) refs.old.content).reply) }
     ensures refs { OnOk result
-        (refs.new ≡ (command_effect (Set name.now key.now value.now) refs.old).refs) }
+        (refs.new.content
+        ≡ (command_effect (Set name.now key.now value.now) refs.old.content).refs) }
     ensures kept { OnErr result (refs.new ≡ refs.old) }
 {
     match refs.resolve(name, Side::Map) {
@@ -103,8 +104,9 @@ pub(crate) fn clear(
     ver: Option<u32>,
     name: &[u8],
 ) -> Reply
-    ensures reply { result ≡ (command_effect (Clear is_map ver name.now) refs.old).reply }
-    ensures refs { refs.new ≡ (command_effect (Clear is_map ver name.now) refs.old).refs }
+    ensures reply { result ≡ (command_effect (Clear is_map ver name.now) refs.old.content).reply }
+    ensures refs { refs.new.content ≡ (command_effect (Clear is_map ver name.now)
+        refs.old.content).refs }
 {
     match refs.resolve(name, looking(is_map)) {
         Ok(r) => {
@@ -118,15 +120,17 @@ pub(crate) fn clear(
 /// One version more of the reference at a position. Its line is made first, so that nothing is
 /// changed where memory runs out.
 fn prepare_at(alloc: Global, refs: &mut Refs, r: u32) -> Result<Reply, NoMemory>
-    requires { r < length refs.old.references }
+    requires { r < length refs.old.content.references }
     ensures reply { IfOk result (λ reply. reply
-        ≡ (unless refs.old (fault_at refs.old r (preparation_fault refs.old.limits))
-        (done (prepared_text (prepared_version refs.old r) ∷ [])
-        (after_preparation refs.old r))).reply) }
-    ensures refs { OnOk result (refs.new
-        ≡ (unless refs.old (fault_at refs.old r (preparation_fault refs.old.limits))
-        (done (prepared_text (prepared_version refs.old r) ∷ [])
-        (after_preparation refs.old r))).refs) }
+        ≡ (unless refs.old.content (fault_at refs.old.content r
+        (preparation_fault refs.old.content.limits))
+        (done (prepared_text (prepared_version refs.old.content r) ∷ [])
+        (after_preparation refs.old.content r))).reply) }
+    ensures refs { OnOk result (refs.new.content
+        ≡ (unless refs.old.content (fault_at refs.old.content r
+        (preparation_fault refs.old.content.limits))
+        (done (prepared_text (prepared_version refs.old.content r) ∷ [])
+        (after_preparation refs.old.content r))).refs) }
     ensures kept { OnErr result (refs.new ≡ refs.old) }
 {
     let version = u64::from(refs.info(r).next) + 1;
@@ -146,9 +150,9 @@ pub(crate) fn prepare(
     name: &[u8],
 ) -> Result<Reply, NoMemory>
     ensures reply { IfOk result (λ reply.
-        reply ≡ (command_effect (Prepare is_map name.now) refs.old).reply) }
+        reply ≡ (command_effect (Prepare is_map name.now) refs.old.content).reply) }
     ensures refs { OnOk result
-        (refs.new ≡ (command_effect (Prepare is_map name.now) refs.old).refs) }
+        (refs.new.content ≡ (command_effect (Prepare is_map name.now) refs.old.content).refs) }
     ensures kept { OnErr result (refs.new ≡ refs.old) }
 {
     match refs.resolve(name, adding(is_map)) {
@@ -160,12 +164,12 @@ pub(crate) fn prepare(
 /// A version of the reference at a position is searched from now on. Steps are counted in the
 /// ledger of `blank`.
 fn commit_at<L: Ledger>(refs: &mut Refs, r: u32, ver: u32, blank: Blank) -> Result<(), RefFault>
-    requires r { r < length refs.old.references }
+    requires r { r < length refs.old.content.references }
     requires name { blank.name ≡ L.name }
     requires parts { blank.parts ≡ L.parts }
     requires some { 0 < L.parts }
-    ensures answer { result ≡ answer tt (fault_at refs.old r (commit_fault ver)) }
-    ensures ok { OnOk result (refs.new ≡ after_commit refs.old r ver) }
+    ensures answer { result ≡ answer tt (fault_at refs.old.content r (commit_fault ver)) }
+    ensures ok { OnOk result (refs.new.content ≡ after_commit refs.old.content r ver) }
     ensures err { OnErr result (refs.new ≡ refs.old) }
 {
     let mut steps = Steps::<L>::open(blank);
@@ -174,8 +178,9 @@ fn commit_at<L: Ledger>(refs: &mut Refs, r: u32, ver: u32, blank: Blank) -> Resu
 
 /// `commit acl`, `commit map`: a version becomes that which is searched.
 pub(crate) fn commit(alloc: Global, refs: &mut Refs, is_map: bool, ver: u32, name: &[u8]) -> Reply
-    ensures reply { result ≡ (command_effect (Commit is_map ver name.now) refs.old).reply }
-    ensures refs { refs.new ≡ (command_effect (Commit is_map ver name.now) refs.old).refs }
+    ensures reply { result ≡ (command_effect (Commit is_map ver name.now) refs.old.content).reply }
+    ensures refs { refs.new.content ≡ (command_effect (Commit is_map ver name.now)
+        refs.old.content).refs }
 {
     match refs.resolve(name, adding(is_map)) {
         Ok(r) => {

@@ -20,12 +20,12 @@ pub(crate) fn run<M: ReMaker>(
     maker: &mut M,
 ) -> Result<Reply, TableFault>
     ensures reply { IfOk result (λ reply.
-        reply ≡ (command_effect command.now refs.old).reply) }
-    ensures refs { OnOk result (refs.new ≡ (command_effect command.now refs.old).refs) }
+        reply ≡ (command_effect command.now refs.old.content).reply) }
+    ensures refs { OnOk result (refs.new.content
+        ≡ (command_effect command.now refs.old.content).refs) }
     ensures kept { OnErr result (refs.new ≡ refs.old) }
-    ensures large { ChangeCountsLarge result (CommandAsksFor command.now refs.old)
-        (record { too_large = M.too_large maker.old; large = M.large maker.old })
-        (record { too_large = M.too_large maker.new; large = M.large maker.new }) }
+    ensures large { ChangeCountsLarge result (CommandAsksFor command.now refs.old.content)
+        (M.state maker.old) (M.state maker.new) }
 {
     match command {
         Command::ShowAll { map } => Ok(show_all(alloc, refs, *map)?),

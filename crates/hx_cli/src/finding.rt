@@ -18,10 +18,10 @@ pub(crate) fn find<'a, L: Ledger>(
     text: &[u8],
     steps: &mut Steps<L>,
 ) -> Result<Option<Hit<'a>>, NoMemory>
-    requires head { head < length refs.now.heads }
-    requires by { IfSome (slice_get refs.now.heads head) (λ h. h.by ≡ by) }
+    requires head { head < length refs.now.content.heads }
+    requires by { IfSome (slice_get refs.now.content.heads head) (λ h. h.by ≡ by) }
     ensures { IfOk result (λ hit.
-        option_map entry_of hit ≡ found_for refs.now text.now by head) }
+        option_map entry_of hit ≡ found_for refs.now.content text.now by head) }
 {
     match cast(alloc, Sample::Str(Bytes::Lent(text)), by.kind())? {
         Some(sample) => refs.find(alloc, head, &sample, steps),

@@ -19,10 +19,11 @@ fn number_after_sign(text: &[u8]) -> Option<u64>
 
 /// Removes the entries of which a word speaks.
 pub(crate) fn delete(refs: &mut Refs, r: u32, word: &[u8]) -> Result<(), RefFault>
-    requires { r < length refs.old.references }
+    requires { r < length refs.old.content.references }
     ensures answer { result
-        ≡ answer tt (fault_at refs.old r (deletion_fault (is_meant word.now))) }
-    ensures ok { OnOk result (refs.new ≡ after_deletion refs.old r (is_meant word.now)) }
+        ≡ answer tt (fault_at refs.old.content r (deletion_fault (is_meant word.now))) }
+    ensures ok { OnOk result (refs.new.content ≡ after_deletion refs.old.content r
+        (is_meant word.now)) }
     ensures err { OnErr result (refs.new ≡ refs.old) }
 {
     let Some(rest) = word.strip_prefix(b"#") else {
@@ -36,13 +37,14 @@ pub(crate) fn delete(refs: &mut Refs, r: u32, word: &[u8]) -> Result<(), RefFaul
 
 /// Changes the value of the entries of which a word speaks.
 pub(crate) fn set_value(refs: &mut Refs, r: u32, word: &[u8], value: &[u8]) -> Result<(), RefFault>
-    requires { r < length refs.old.references }
+    requires { r < length refs.old.content.references }
     ensures ok { OnOk result
-        (refs.new ≡ after_change_of_value refs.old r (is_meant word.now) value.now) }
+        (refs.new.content
+        ≡ after_change_of_value refs.old.content r (is_meant word.now) value.now) }
     ensures none { OnOk result
-        (fault_at refs.old r (value_fault (is_meant word.now) value.now) ≡ None) }
+        (fault_at refs.old.content r (value_fault (is_meant word.now) value.now) ≡ None) }
     ensures refused { IfErr result
-        (MayFail (fault_at refs.old r (value_fault (is_meant word.now) value.now))) }
+        (MayFail (fault_at refs.old.content r (value_fault (is_meant word.now) value.now))) }
     ensures kept { OnErr result (refs.new ≡ refs.old) }
 {
     let Some(rest) = word.strip_prefix(b"#") else {

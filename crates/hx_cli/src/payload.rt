@@ -79,14 +79,13 @@ impl Payload {
     ) -> Result<Reply, TableFault>
         ensures reply { IfOk result (λ reply. reply
             ≡ (addition_effect self.now.is_map self.now.ver self.now.name self.now.pairs
-            refs.old).reply) }
-        ensures refs { OnOk result (refs.new
+            refs.old.content).reply) }
+        ensures refs { OnOk result (refs.new.content
             ≡ (addition_effect self.now.is_map self.now.ver self.now.name self.now.pairs
-            refs.old).refs) }
+            refs.old.content).refs) }
         ensures kept { OnErr result (refs.new ≡ refs.old) }
-        ensures large { ChangeCountsLarge result (PayloadAsksFor self.now refs.old)
-            (record { too_large = M.too_large maker.old; large = M.large maker.old })
-            (record { too_large = M.too_large maker.new; large = M.large maker.new }) }
+        ensures large { ChangeCountsLarge result (PayloadAsksFor self.now refs.old.content)
+            (M.state maker.old) (M.state maker.new) }
     {
         let name = self.name.as_slice();
         add(alloc, refs, self.is_map, self.ver, name, &self.pairs, maker)

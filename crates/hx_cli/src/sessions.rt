@@ -76,19 +76,18 @@ impl Sessions {
         maker: &mut M,
     ) -> Result<Option<Reply>, TableFault>
         ensures reply { IfOk result (λ reply. reply
-            ≡ (line_effect session text.now self.old refs.old).reply) }
+            ≡ (line_effect session text.now self.old refs.old.content).reply) }
         ensures payloads { OnOk result (self.new
-            ≡ (line_effect session text.now self.old refs.old).payloads) }
-        ensures refs { OnOk result (refs.new
-            ≡ (line_effect session text.now self.old refs.old).refs) }
+            ≡ (line_effect session text.now self.old refs.old.content).payloads) }
+        ensures refs { OnOk result (refs.new.content
+            ≡ (line_effect session text.now self.old refs.old.content).refs) }
         ensures kept { OnErr result (self.new ≡ self.old) }
         ensures refs_kept { OnErr result (refs.new ≡ refs.old) }
-        ensures heads { refs.new.heads ≡ refs.old.heads }
-        ensures lists { length refs.new.references ≡ length refs.old.references }
+        ensures heads { refs.new.content.heads ≡ refs.old.content.heads }
+        ensures lists { length refs.new.content.references ≡ length refs.old.content.references }
         ensures large { ChangeCountsLarge result
-            (LineAsksFor session text.now self.old refs.old)
-            (record { too_large = M.too_large maker.old; large = M.large maker.old })
-            (record { too_large = M.too_large maker.new; large = M.large maker.new }) }
+            (LineAsksFor session text.now self.old refs.old.content)
+            (M.state maker.old) (M.state maker.new) }
     {
         let Some(payload) = self.payloads.get(session) else {
             return self.outside_line(session, text, refs, maker);
@@ -111,17 +110,16 @@ impl Sessions {
         maker: &mut M,
     ) -> Result<Option<Reply>, TableFault>
         ensures reply { IfOk result (λ reply. reply
-            ≡ (outside_line session (words_of text.now) self.old refs.old).reply) }
+            ≡ (outside_line session (words_of text.now) self.old refs.old.content).reply) }
         ensures payloads { OnOk result (self.new
-            ≡ (outside_line session (words_of text.now) self.old refs.old).payloads) }
-        ensures refs { OnOk result (refs.new
-            ≡ (outside_line session (words_of text.now) self.old refs.old).refs) }
+            ≡ (outside_line session (words_of text.now) self.old refs.old.content).payloads) }
+        ensures refs { OnOk result (refs.new.content
+            ≡ (outside_line session (words_of text.now) self.old refs.old.content).refs) }
         ensures kept { OnErr result (self.new ≡ self.old) }
         ensures refs_kept { OnErr result (refs.new ≡ refs.old) }
         ensures large { ChangeCountsLarge result
-            (WordsAskFor (command_of (words_of text.now)) refs.old)
-            (record { too_large = M.too_large maker.old; large = M.large maker.old })
-            (record { too_large = M.too_large maker.new; large = M.large maker.new }) }
+            (WordsAskFor (command_of (words_of text.now)) refs.old.content)
+            (M.state maker.old) (M.state maker.new) }
     {
         match read_command(self.alloc, text) {
             Ok(None) => Ok(None),
@@ -140,16 +138,15 @@ impl Sessions {
         maker: &mut M,
     ) -> Result<Option<Reply>, TableFault>
         ensures reply { IfOk result (λ reply. reply
-            ≡ (command_line session (Some command) self.old refs.old).reply) }
+            ≡ (command_line session (Some command) self.old refs.old.content).reply) }
         ensures payloads { OnOk result (self.new
-            ≡ (command_line session (Some command) self.old refs.old).payloads) }
-        ensures refs { OnOk result (refs.new
-            ≡ (command_line session (Some command) self.old refs.old).refs) }
+            ≡ (command_line session (Some command) self.old refs.old.content).payloads) }
+        ensures refs { OnOk result (refs.new.content
+            ≡ (command_line session (Some command) self.old refs.old.content).refs) }
         ensures kept { OnErr result (self.new ≡ self.old) }
         ensures refs_kept { OnErr result (refs.new ≡ refs.old) }
-        ensures large { ChangeCountsLarge result (CommandAsksFor command refs.old)
-            (record { too_large = M.too_large maker.old; large = M.large maker.old })
-            (record { too_large = M.too_large maker.new; large = M.large maker.new }) }
+        ensures large { ChangeCountsLarge result (CommandAsksFor command refs.old.content)
+            (M.state maker.old) (M.state maker.new) }
     {
         match command {
             Command::AddMany { map, ver, name } => {

@@ -34,9 +34,9 @@ fn insert_line(
     info: RefInfo,
     lines: &mut BTreeMap<u32, Octets>,
 ) -> Result<(), NoMemory>
-    requires { r < length refs.now.references }
+    requires { r < length refs.now.content.references }
     ensures { OnOk result (lines.new.entries ≡ insert_entry nat_cmp lines.old.entries info.id
-        (reference_text info (file_of refs.now r))) }
+        (reference_text info (file_of refs.now.content r))) }
 {
     let line = reference_line(alloc, info, refs.file(r))?;
     lines.insert(info.id, line)?;
@@ -50,7 +50,7 @@ fn lines_by_number(
     is_map: bool,
 ) -> Result<BTreeMap<u32, Octets>, NoMemory>
     ensures { IfOk result (λ lines.
-        lines.entries ≡ finite.entries (lines_by_number is_map refs.now.references)) }
+        lines.entries ≡ finite.entries (lines_by_number is_map refs.now.content.references)) }
 {
     let mut lines = BTreeMap::new(alloc);
     // From the last on, since of a number that stood twice the first reference would be told.
@@ -67,7 +67,7 @@ fn lines_by_number(
 /// `show acl`, `show map`: the references, in the order of their numbers.
 pub(crate) fn show_all(alloc: Global, refs: &Refs, is_map: bool) -> Result<Reply, NoMemory>
     ensures { IfOk result (λ reply.
-        reply ≡ record { code = 0; lines = told_references is_map refs.now }) }
+        reply ≡ record { code = 0; lines = told_references is_map refs.now.content }) }
 {
     let mut lines = lines_by_number(alloc, refs, is_map)?;
     let mut reply = Reply::new(alloc, 0);
@@ -86,9 +86,12 @@ fn entries_reply(
     r: u32,
     ver: Option<u32>,
 ) -> Result<Reply, NoMemory>
-    requires { r < length refs.now.references }
+    requires { r < length refs.now.content.references }
     ensures { IfOk result (λ reply. reply
-        ≡ record { code = 0; lines = map (entry_text is_map) (entries_in refs.now r ver) }) }
+        ≡ record {
+          code = 0;
+          lines = map (entry_text is_map) (entries_in refs.now.content r ver);
+        }) }
 {
     let mut reply = Reply::new(alloc, 0);
     let mut entries = refs.entries(r, ver);
@@ -107,7 +110,7 @@ pub(crate) fn show(
     name: &[u8],
 ) -> Result<Reply, NoMemory>
     ensures { IfOk result (λ reply.
-        reply ≡ (command_effect (Show is_map ver name.now) refs.now).reply) }
+        reply ≡ (command_effect (Show is_map ver name.now) refs.now.content).reply) }
 {
     match refs.resolve(name, looking(is_map)) {
         Ok(r) => entries_reply(alloc, refs, is_map, r, ver),
@@ -125,12 +128,12 @@ fn uses_reply<L: Ledger>(
     text: &[u8],
     blank: Blank,
 ) -> Result<Reply, NoMemory>
-    requires r { r < length refs.now.references }
+    requires r { r < length refs.now.content.references }
     requires name { blank.name ≡ L.name }
     requires parts { blank.parts ≡ L.parts }
     requires some { 0 < L.parts }
     ensures { IfOk result (λ reply.
-        reply ≡ record { code = 0; lines = told_uses is_map refs.now r text.now }) }
+        reply ≡ record { code = 0; lines = told_uses is_map refs.now.content r text.now }) }
 {
     let mut steps = Steps::<L>::open(blank);
     let mut reply = Reply::new(alloc, 0);
@@ -152,7 +155,7 @@ pub(crate) fn get(
     text: &[u8],
 ) -> Result<Reply, NoMemory>
     ensures { IfOk result (λ reply.
-        reply ≡ (command_effect (Get is_map name.now text.now) refs.now).reply) }
+        reply ≡ (command_effect (Get is_map name.now text.now) refs.now.content).reply) }
 {
     match refs.resolve(name, looking(is_map)) {
         Ok(r) => uses_reply::<Brand>(alloc, refs, is_map, r, text, Blank::new(1)),

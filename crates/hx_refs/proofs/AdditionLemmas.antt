@@ -4,7 +4,7 @@ use Rattle.std.specs.Prelude.{Option, Some, slice_get, slice_index_or, Result, O
 use Rattle.std.proofs.lemmas.Option.{slice_get-map, slice_get_read}
 use Rattle.hx_outside.specs.Makers.{ExpressionText, MakerState}
 use Rattle.hx_sample.specs.Tables.{TableHead}
-use Rattle.hx_refs.specs.Additions.{addition_fault, AdditionAsksFor, CountsLarge, Pair, VersionAsksFor}
+use Rattle.hx_refs.specs.Additions.{addition_fault, AdditionAsksFor, AdditionCountsLarge, Pair, VersionAsksFor}
 use Rattle.hx_refs.specs.Kept.{kept_demands, shown_references, version_fault, AreKept, AreRead, Kept}
 use Rattle.hx_refs.specs.References.{version_of, Reference}
 use Rattle.hx_refs.specs.Uses.{uses_of, Use}
@@ -20,7 +20,7 @@ all_read uses (x ∷ xs) ys first second = (first.0, all_read uses xs ys first.1
 
 -- a text that was asked for in one way was asked for in a wider one
 pub asked_wider : {T : Type 0} (r : Result T RefFault) (A B : ExpressionText → Type 0) (before now : MakerState)
-    → ((text : ExpressionText) → A text → B text) → CountsLarge r A before now → CountsLarge r B before now
+    → ((text : ExpressionText) → A text → B text) → AdditionCountsLarge r A before now → AdditionCountsLarge r B before now
 asked_wider (Ok x) A B before now wider counts = counts
 asked_wider (Err TooLarge) A B before now wider counts = (
   counts.0,

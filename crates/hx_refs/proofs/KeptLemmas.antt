@@ -1,8 +1,8 @@
 -- What the code keeps of references stays as it is kept, and is shown as it is changed.
-use Rattle.std.proofs.Common.{◌≡◌, ◌≢◌, ℕ, suc, ◌-◌, ◌<◌, ◌==◌, Bool, true, false, List, [], ◌∷◌, ◌++◌, length, refl, ap, ◌∙◌, arith, inl, inr, length-append, length-set}
+use Rattle.std.proofs.Common.{◌≡◌, ◌≢◌, ℕ, zero, suc, ◌-◌, ◌<◌, ◌==◌, Bool, true, false, List, [], ◌∷◌, ◌++◌, length, take, drop, All, refl, ap, subst, ◌∙◌, arith, inl, inr, length-append, length-set}
 use Rattle.std.specs.Prelude.{Option, None, Some, is_some, option_map, slice_get, slice_index_or, slice_set}
 use Rattle.std.proofs.lemmas.Bool.{cases_Bool, eqb-true, eqb-false, cases_lt}
-use Rattle.std.proofs.lemmas.List.{map-set}
+use Rattle.std.proofs.lemmas.List.{map-set, take_all}
 use Rattle.std.proofs.Math.Seq.{map-set_same}
 use Rattle.std.proofs.lemmas.Option.{slice_get-map, slice_get_past, slice_get_read, get_or_from_slice_get}
 use Rattle.hx_text.specs.declared.kinds.By.{By}
@@ -53,6 +53,7 @@ kept_with_use uses curr next versions u found bool empty kept = record {
       (have_none curr next versions kept.numbers
       (λ other low high. all_empty curr (suc (next - curr)) versions empty other low (omega (arith, kept.order))));
   counted = kept.counted;
+  rising = kept.rising;
 }
 
 -- the patterns at the place of a use are by its method and with its case
@@ -197,3 +198,19 @@ kept_after_use heads kept r k new method ci within is more all = record {
           rw (uses_of_others heads (record { by = method; ci = ci; list = r }) q other, get_set_other kept r q new (eqb-false r q other))
           (all.uses q)
     ]
+
+-- ---- what holds of each reference
+
+each : {A : Type 0} → (P : A → Type 0) (x : A) (xs : List A) → P x → All P xs → All P (x ∷ xs)
+each P x xs here rest zero d within = here
+each P x xs here rest (suc k) d within = rest k d (omega (arith, within))
+
+-- that it holds of the first, too
+pub with_first_too : (P : Reference → Type 0) (kept : List Kept) (k : Kept) (all : List Reference) → 0 < length kept
+    → k ≡ slice_index_or kept 0 k → P k.shown → (All P (shown_references kept) → All P all)
+    → All P (shown_references (take (length kept - 1) (drop 1 kept))) → All P all
+with_first_too P [] k all within is here before rest = absurd (omega arith)
+with_first_too P (x ∷ kept) k all within is here before rest =
+    let first : P x.shown = subst (λ (y : Kept). P y.shown) is here in
+    before
+    (each P x.shown (shown_references kept) first (rw (take_all (suc (length kept) - 1) kept (omega arith)) at rest))

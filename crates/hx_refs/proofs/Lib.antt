@@ -2,9 +2,13 @@ pub mod ListLemmas
 pub mod UseLemmas
 pub mod VersionLemmas
 pub mod ChoiceLemmas
+pub mod NumberLemmas
 pub mod ReferenceLemmas
 pub mod KeptLemmas
 pub mod AdditionLemmas
 pub mod TableLemmas
 pub mod LineLemmas
 pub mod NamingLemmas
+pub mod SlotLemmas
+pub mod VersionLawLemmas
+pub mod NameLemmas

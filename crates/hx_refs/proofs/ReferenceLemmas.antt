@@ -1,16 +1,18 @@
 -- What a reference shows of the versions that the code keeps.
-use Rattle.std.proofs.Common.{◌≡◌, ℕ, suc, ◌+◌, ◌-◌, ◌≤◌, ◌==◌, List, [], ◌∷◌, length, drop, refl, sym, ap, ◌∙◌, arith, inl, inr}
-use Rattle.std.specs.Prelude.{Option, None, Some, Result, Ok, Err, IfOk, sum, map}
-use Rattle.std.proofs.lemmas.Bool.{cases_Bool, cases_eq, le-leb}
+use Rattle.std.proofs.Common.{◌≡◌, ℕ, zero, suc, ◌+◌, ◌-◌, ◌≤◌, ◌==◌, List, [], ◌∷◌, length, drop, refl, sym, ap, ◌∙◌, arith, inl, inr}
+use Rattle.std.specs.Prelude.{Option, None, Some, Result, Ok, Err, IfOk, sum, map, ◌&&◌, nat_le}
+use Rattle.std.proofs.lemmas.Bool.{and_parts, cases_Bool, cases_eq, le-leb, leb-true}
 use Rattle.std.proofs.lemmas.List.{length-map}
 use Rattle.hx_refs.specs.Additions.{new_entries, with_pairs, Pair}
 use Rattle.hx_refs.specs.Changes.{with_version}
 use Rattle.hx_refs.specs.Kept.{shown_entries, shown_entry}
+use Rattle.hx_refs.specs.Numbers.{HasRisingNumbers, HasVersionsInOrder, NumbersRise}
 use Rattle.hx_refs.specs.References.{version_entries, version_of, version_place, Reference, Version}
 use Rattle.hx_refs.specs.Uses.{Use}
-use Rattle.hx_refs.specs.Versions.{total_count, version_numbered, versions_between, with_added, with_new_entries, AreCounted, AreNumbered, AreReadEach, Changes, ChangesVersion, HasVersion, IsDropped, IsKept}
+use Rattle.hx_refs.specs.Versions.{total_count, version_numbered, versions_between, versions_from, with_added, with_new_entries, AreCounted, AreNumbered, AreReadEach, AreRising, Changes, ChangesVersion, HasVersion, IsDropped, IsKept}
 use Rattle.hx_refs.specs.declared.judging.Added.{Added}
 use Rattle.hx_refs.specs.declared.versions.KeptVersion.{KeptVersion}
+use Rattle.hx_refs.proofs.NumberLemmas.{rising_added, rising_after, rising_dropped}
 use Rattle.hx_refs.proofs.VersionLemmas.{changed_between, committed_between, counted_drop, dropped_numbers, entries_counted, numbered_to, read_drop, same_versions, version_at}
 
 -- ---- reads
@@ -79,13 +81,15 @@ pairs_shown reference number pairs added old new is all has changes entries seri
 -- what is kept stays so
 pub kept_after : (uses : List Use) (curr next number : ℕ) (change : Version → Version) (old new : List KeptVersion)
     → IsKept uses curr next old → curr ≤ number → number ≤ next → Changes number change old new
-    → AreReadEach uses new → AreCounted new → IsKept uses curr next new
-kept_after uses curr next number change old new kept low high changes read counted = record {
+    → AreReadEach uses new → AreCounted new → HasRisingNumbers number (change (version_numbered number old))
+    → IsKept uses curr next new
+kept_after uses curr next number change old new kept low high changes read counted rising = record {
   methods = kept.methods;
   order = kept.order;
   numbers = (changes curr next kept.numbers low high).numbers;
   read = read;
   counted = counted;
+  rising = rising_after curr next number change old new (changes curr next kept.numbers low high) kept.rising rising;
 }
 
 -- nothing is shown of a change to the same
@@ -107,18 +111,21 @@ kept_prepared uses curr next kept all = record {
   numbers = numbered_to curr next (next + 1) kept (omega arith) all.numbers;
   read = all.read;
   counted = all.counted;
+  rising = all.rising;
 }
 
 -- the versions of smaller numbers are dropped
 pub kept_committed : (uses : List Use) (curr next number : ℕ) (old new : List KeptVersion) → IsKept uses curr next old
     → number ≤ next → ((first last : ℕ) → AreNumbered first last old → IsDropped number old new) → IsKept uses number next new
 kept_committed uses curr next number old new all high drops =
-    let dropped = drops curr next all.numbers in record {
+    let dropped = drops curr next all.numbers in
+    let numbers = dropped_numbers number dropped.0 curr next old all.numbers dropped.1 in record {
       methods = all.methods;
       order = high;
-      numbers = rw dropped.2 (dropped_numbers number dropped.0 curr next old all.numbers dropped.1);
+      numbers = rw dropped.2 numbers;
       read = rw dropped.2 (read_drop uses old dropped.0 all.read);
       counted = rw dropped.2 (counted_drop old dropped.0 all.counted);
+      rising = rw dropped.2 (rising_dropped number dropped.0 next old dropped.1 numbers all.rising);
     }
 
 pub committed_shown : (curr next number : ℕ) (old new : List KeptVersion) → AreNumbered curr next old → curr ≤ number → number ≤ next
@@ -127,6 +134,31 @@ pub committed_shown : (curr next number : ℕ) (old new : List KeptVersion) → 
 committed_shown curr next number old new all low high drops =
     let dropped = drops curr next all in
     rw dropped.2 (committed_between number dropped.0 curr next old dropped.1 low high)
+
+-- ---- what is shown at any time
+
+length-versions_from : (number count : ℕ) (kept : List KeptVersion) → length (versions_from number count kept) ≡ count
+length-versions_from number zero kept = refl
+length-versions_from number (suc count) kept = ap suc (length-versions_from (number + 1) count kept)
+
+pub versions_in_order : (reference : Reference) (kept : List KeptVersion)
+    → reference.versions ≡ versions_between reference.curr reference.next kept → reference.curr ≤ reference.next
+    → HasVersionsInOrder reference
+versions_in_order reference kept is order = record {
+  order = order;
+  count = rw (is, length-versions_from reference.curr (suc (reference.next - reference.curr)) kept) (omega arith);
+}
+
+pub numbers_rise : (reference : Reference) (kept : List KeptVersion)
+    → reference.versions ≡ versions_between reference.curr reference.next kept → AreRising kept → NumbersRise reference
+numbers_rise reference kept is rising number =
+    elim (cases_Bool (nat_le reference.curr number && nat_le number reference.next)) [
+      | inl has ↦
+          let parts = and_parts (nat_le reference.curr number) (nat_le number reference.next) has in
+          rw (version_here reference number kept is (leb-true reference.curr number parts.0, leb-true number reference.next parts.1))
+          (rising number)
+      | inr none ↦ rw none tt
+    ]
 
 -- ---- counts
 
@@ -152,6 +184,14 @@ few_added number kept pairs added counted entries serial =
     sym (length-map added.entries.items shown_entry)
     ∙ (ap length entries ∙ length-new_entries number (version_numbered number kept).serial pairs) in
     omega (arith, counted_here number kept counted, len, serial)
+
+-- and their numbers rise
+pub rising_with_added : (number : ℕ) (kept : List KeptVersion) (pairs : List Pair) (added : Added) → AreRising kept
+    → shown_entries added.entries.items ≡ new_entries number (version_numbered number kept).serial pairs
+    → added.serial ≡ (version_numbered number kept).serial + length pairs
+    → HasRisingNumbers number (with_added added (version_numbered number kept))
+rising_with_added number kept pairs added rising entries serial =
+    rw (entries, serial) (rising_added number pairs (version_numbered number kept) (rising number))
 
 -- ---- results
 

@@ -1,19 +1,21 @@
 -- What changes of lists, as rules ask for them, make of the references, and what they answer.
 use Rattle.std.proofs.Common.{◌≡◌, ℕ, ◌+◌, ◌*◌, ◌^◌, ◌<◌, ◌==◌, Bool, true, false, List, [], ◌∷◌, length, map, refl, ap, sym, ◌∙◌, arith, inl, inr}
-use Rattle.std.specs.Prelude.{Option, None, Some, slice_get, slice_set, Result, Ok, Err, OnOk, OnErr, if◌then◌else◌, ⊤}
+use Rattle.std.specs.Prelude.{Option, None, Some, not, slice_get, slice_set, Result, Ok, Err, IfErr, OnOk, OnErr, if◌then◌else◌, ⊤}
 use Rattle.std.specs.List.{list_any}
-use Rattle.std.specs.Option.{option_map_or}
+use Rattle.std.specs.Option.{option_map_or, option_or}
 use Rattle.std.proofs.lemmas.Bool.{cases_Bool, eqb-true}
 use Rattle.std.proofs.lemmas.List.{map-set, set-get_or}
 use Rattle.std.proofs.lemmas.Option.{slice_get-map, slice_get_cases, get_or_from_slice_get}
 use Rattle.hx_outside.specs.Makers.{ExpressionText, MakerState}
-use Rattle.hx_sample.specs.Changes.{has_key, is_fit, with_value, without_chosen, ChangeCountsLarge, ChangesFit, ChangesList, HasNewValue, HasOneMore, IsChanged, IsReadBy, ListChange, Addition, Removal, NewValue}
+use Rattle.hx_sample.specs.Changes.{has_key, is_fit, with_value, without_chosen, ChangeAsksFor, ChangeCountsLarge, ChangesFit, ChangesList, HasNewValue, HasOneMore, IsAppendedKey, IsChanged, IsReadBy, ListChange, Addition, Removal, NewValue}
 use Rattle.hx_sample.specs.Find.{Entry}
-use Rattle.hx_sample.specs.Tables.{TableHead}
-use Rattle.hx_refs.specs.Additions.{addition_fault, after_addition, demands_on, with_pairs, AdditionAsksFor, CountsLarge, Demands, IsReadAs, Pair, VersionAsksFor}
-use Rattle.hx_refs.specs.Changes.{after_change_of_value, after_deletion, answer, deletion_fault, fault_at, fault_unless, value_fault, with_entries}
-use Rattle.hx_refs.specs.References.{changed_at, searched_lists, version_entries, version_of, with_reference, Reference, References, Version}
-use Rattle.hx_refs.specs.TableAnswers.{table_answer}
+use Rattle.hx_sample.specs.Tables.{entries_at, TableHead}
+use Rattle.hx_sample.specs.declared.tables.TableFault.{TableFault}
+use Rattle.hx_sample.specs.declared.tables.TableFault.TheVariants.{TooLarge as TooLargeChange, NoMemory as NoMemoryChange}
+use Rattle.hx_refs.specs.Additions.{addition_fault, after_addition, demands_on, with_pairs, AdditionAsksFor, AdditionCountsLarge, Demands, IsReadAs, Pair, VersionAsksFor}
+use Rattle.hx_refs.specs.Changes.{after_change_of_value, after_deletion, answer, deletion_fault, fault_at, fault_unless, value_fault, with_entries, MayFail}
+use Rattle.hx_refs.specs.References.{changed_at, entries_in, refuses_value, RefsState, searched_lists, version_entries, version_of, with_reference, Reference, References, Version}
+use Rattle.hx_refs.specs.TableAnswers.{lacks_key, table_answer}
 use Rattle.hx_refs.specs.TableChanges.{after_fit_change, is_key_of, unless_refused, with_pair}
 use Rattle.hx_refs.specs.Uses.{uses_from}
 use Rattle.hx_refs.specs.Versions.{changed_entries, with_new_entries}
@@ -33,7 +35,7 @@ reference_at refs r within = elim (slice_get_cases refs.references r).1 [
 -- ---- what a call answers to a change
 
 counted_answered : (a : Result ⊤ RefFault) (A B : ExpressionText → Type 0) (before now : MakerState)
-    → ((text : ExpressionText) → A text → B text) → CountsLarge a A before now
+    → ((text : ExpressionText) → A text → B text) → AdditionCountsLarge a A before now
     → ChangeCountsLarge (table_answer a) B before now
 counted_answered (Ok x) A B before now wider counts = counts
 counted_answered (Err TooLarge) A B before now wider counts = (
@@ -87,7 +89,7 @@ asked_by refs r pair within text asked =
 
 -- the maker's count, by what an addition answers
 pub addition_counts : (a : Result ⊤ RefFault) (refs : References) (r : ℕ) (pair : Pair) (before now : MakerState)
-    → r < length refs.references → CountsLarge a (AdditionAsksFor refs r None (pair ∷ [])) before now
+    → r < length refs.references → AdditionCountsLarge a (AdditionAsksFor refs r None (pair ∷ [])) before now
     → ChangeCountsLarge (table_answer a) (IsReadBy refs.heads r pair.key) before now
 addition_counts a refs r pair before now within counts =
     counted_answered a (AdditionAsksFor refs r None (pair ∷ [])) (IsReadBy refs.heads r pair.key) before now
@@ -96,20 +98,20 @@ addition_counts a refs r pair before now within counts =
 -- ---- lists
 
 -- the list of the reference at a position
-list_at : (refs : References) (r : ℕ) (reference : Reference) → slice_get refs.references r ≡ Some reference
+pub list_at : (refs : References) (r : ℕ) (reference : Reference) → slice_get refs.references r ≡ Some reference
     → slice_get (searched_lists refs) r ≡ Some (version_entries reference None)
 list_at refs r reference is =
     rw (slice_get-map {A = Reference} {B = List Entry} (λ x. version_entries x None) refs.references r, is) refl
 
 -- the lists with that of a changed reference
-lists_with : (refs : References) (r : ℕ) (reference : Reference) (change : Reference → Reference)
+pub lists_with : (refs : References) (r : ℕ) (reference : Reference) (change : Reference → Reference)
     → slice_get refs.references r ≡ Some reference
     → searched_lists (with_reference r change refs)
     ≡ slice_set (searched_lists refs) r (version_entries (change reference) None)
 lists_with refs r reference change is =
     rw is (map-set {A = Reference} {B = List Entry} (λ x. version_entries x None) refs.references r (change reference))
 
-set_same : {A : Type 0} → (xs : List A) (r : ℕ) (x : A) → slice_get xs r ≡ Some x → slice_set xs r x ≡ xs
+pub set_same : {A : Type 0} → (xs : List A) (r : ℕ) (x : A) → slice_get xs r ≡ Some x → slice_set xs r x ≡ xs
 set_same xs r x is = rw (get_or_from_slice_get xs r x x is) at (set-get_or xs r x)
 
 changed_list : (asked : ListChange) (xs : List (List Entry)) (r : ℕ) (before after : List Entry) → slice_get xs r ≡ Some before
@@ -276,3 +278,167 @@ fit_lists refs r (NewValue key value) within =
 pub changed_lists : (refs new : References) (r : ℕ) (asked : ListChange) → r < length refs.references → is_fit asked ≡ true
     → new ≡ after_fit_change refs r asked → ChangesList r asked (searched_lists refs) (searched_lists new)
 changed_lists refs new r asked within fit is = rw (fit, is) (fit_lists refs r asked within)
+
+-- ---- keys that are appended
+
+list_is : (refs : References) (r : ℕ) → entries_at (searched_lists refs) r ≡ entries_in refs r None
+list_is refs r = go (slice_get refs.references r) refl
+  where
+    go : (found : Option Reference) → slice_get refs.references r ≡ found
+        → entries_at (searched_lists refs) r ≡ entries_in refs r None
+    go None is =
+        rw (slice_get-map {A = Reference} {B = List Entry} (λ x. version_entries x None) refs.references r, is) refl
+    go (Some reference) is =
+        rw (slice_get-map {A = Reference} {B = List Entry} (λ x. version_entries x None) refs.references r, is) refl
+
+-- a key that is appended is asked for by its change
+pub asked_for : (a : Result ⊤ TableFault) (refs : References) (r : ℕ) (asked : ListChange) (key : List ℕ) (before now : MakerState)
+    → IsAppendedKey asked key → is_fit asked ≡ true → is_key_of refs r key ≡ false
+    → ChangeCountsLarge a (IsReadBy refs.heads r key) before now
+    → ChangeCountsLarge a (ChangeAsksFor refs.heads (searched_lists refs) r asked) before now
+asked_for (Ok x) refs r asked key before now appended fit absent counts = counts
+asked_for (Err NoMemoryChange) refs r asked key before now appended fit absent counts = counts
+asked_for (Err TooLargeChange) refs r asked key before now appended fit absent counts = (
+  counts.0,
+  record {
+    text = counts.1.text;
+    is = counts.1.is;
+    asked = record {
+      key = key;
+      appended = appended;
+      fit = fit;
+      absent = rw (list_is refs r) absent;
+      read = counts.1.asked;
+    };
+  },
+)
+
+absent_by : (here fine : Bool) → option_or (fault_unless here KeyNotFound) (fault_unless fine BadValue) ≡ Some KeyNotFound
+    → here ≡ false
+absent_by false fine is = refl
+absent_by true true is = absurd (cc)
+absent_by true false is = absurd (cc)
+
+-- no entry has the key where a change of its value is refused for that
+pub key_absent : (refs : References) (r : ℕ) (key value : List ℕ) → r < length refs.references
+    → fault_at refs r (value_fault (has_key key) value) ≡ Some KeyNotFound → is_key_of refs r key ≡ false
+key_absent refs r key value within refused =
+    let found = reference_at refs r within in
+    key_here refs r key found.0 found.1
+    ∙ absent_by (list_any (has_key key) (version_entries found.0 None)) (not (refuses_value found.0.outputs value))
+    (rw found.1 at refused)
+
+-- what stays of references of which nothing changes is their content, too
+pub same_content : {T : Type 0} (a : Result T RefFault) (old new : RefsState) → OnErr a (new ≡ old)
+    → OnErr a (new.content ≡ old.content)
+same_content (Ok x) old new same = tt
+same_content (Err fault) old new same = ap (λ state. state.content) same
+
+there_by : (here fine : Bool) (fault : RefFault) → ¬ (fault ≡ KeyNotFound)
+    → option_or (fault_unless here KeyNotFound) (fault_unless fine BadValue) ≡ Some fault → here ≡ true
+there_by true fine fault other is = refl
+there_by false fine fault other is = absurd (other (cc))
+
+there_where_fine : (here fine : Bool)
+    → option_or (fault_unless here KeyNotFound) (fault_unless fine BadValue) ≡ None → here ≡ true
+there_where_fine true fine is = refl
+there_where_fine false fine is = absurd (cc)
+
+-- an entry has the key where a change of its value is refused for something else, or isn't refused
+key_there : (refs : References) (r : ℕ) (key value : List ℕ) (fault : RefFault) → r < length refs.references
+    → ¬ (fault ≡ KeyNotFound) → fault_at refs r (value_fault (has_key key) value) ≡ Some fault → is_key_of refs r key ≡ true
+key_there refs r key value fault within other refused =
+    let found = reference_at refs r within in
+    key_here refs r key found.0 found.1
+    ∙ there_by (list_any (has_key key) (version_entries found.0 None)) (not (refuses_value found.0.outputs value)) fault other
+    (rw found.1 at refused)
+
+key_changed : (refs : References) (r : ℕ) (key value : List ℕ) → r < length refs.references
+    → fault_at refs r (value_fault (has_key key) value) ≡ None → is_key_of refs r key ≡ true
+key_changed refs r key value within none =
+    let found = reference_at refs r within in
+    key_here refs r key found.0 found.1
+    ∙ there_where_fine (list_any (has_key key) (version_entries found.0 None)) (not (refuses_value found.0.outputs value))
+    (rw found.1 at none)
+
+stays_where_refused : (old new : References) (r : ℕ) (key value : List ℕ) (fault : RefFault) → r < length old.references
+    → ¬ (fault ≡ KeyNotFound) → fault_at old r (value_fault (has_key key) value) ≡ Some fault → new ≡ old
+    → new ≡ after_fit_change old r (NewValue key value)
+stays_where_refused old new r key value fault within other refused same =
+    rw (key_there old r key value fault within other refused, refused) same
+
+-- what a change of a value makes of the references, where an entry has the key
+pub value_answered : (a : Result ⊤ RefFault) (old new : RefsState) (r : ℕ) (key value : List ℕ) → r < length old.content.references
+    → lacks_key a ≡ false → OnOk a (new.content ≡ after_change_of_value old.content r (has_key key) value)
+    → OnOk a (fault_at old.content r (value_fault (has_key key) value) ≡ None)
+    → IfErr a (MayFail (fault_at old.content r (value_fault (has_key key) value))) → OnErr a (new ≡ old)
+    → OnOk (table_answer a) (new.content ≡ after_fit_change old.content r (NewValue key value))
+value_answered (Ok x) old new r key value within other done fine refused kept =
+    rw (key_changed old.content r key value within fine, fine) done
+value_answered (Err TooLarge) old new r key value within other done fine refused kept = tt
+value_answered (Err NoMemory) old new r key value within other done fine refused kept = tt
+value_answered (Err KeyNotFound) old new r key value within other done fine refused kept = absurd (cc)
+value_answered (Err UnknownRef) old new r key value within other done fine refused kept =
+    stays_where_refused old.content new.content r key value UnknownRef within (λ is. cc) refused (ap (λ state. state.content) kept)
+value_answered (Err BadVersion) old new r key value within other done fine refused kept =
+    stays_where_refused old.content new.content r key value BadVersion within (λ is. cc) refused (ap (λ state. state.content) kept)
+value_answered (Err BadPattern) old new r key value within other done fine refused kept =
+    stays_where_refused old.content new.content r key value BadPattern within (λ is. cc) refused (ap (λ state. state.content) kept)
+value_answered (Err BadValue) old new r key value within other done fine refused kept =
+    stays_where_refused old.content new.content r key value BadValue within (λ is. cc) refused (ap (λ state. state.content) kept)
+value_answered (Err NeedsMap) old new r key value within other done fine refused kept =
+    stays_where_refused old.content new.content r key value NeedsMap within (λ is. cc) refused (ap (λ state. state.content) kept)
+value_answered (Err UsedAsMap) old new r key value within other done fine refused kept =
+    stays_where_refused old.content new.content r key value UsedAsMap within (λ is. cc) refused (ap (λ state. state.content) kept)
+value_answered (Err VersionFull) old new r key value within other done fine refused kept =
+    stays_where_refused old.content new.content r key value VersionFull within (λ is. cc) refused (ap (λ state. state.content) kept)
+value_answered (Err VersionWorn) old new r key value within other done fine refused kept =
+    stays_where_refused old.content new.content r key value VersionWorn within (λ is. cc) refused (ap (λ state. state.content) kept)
+value_answered (Err NoMoreVersions) old new r key value within other done fine refused kept =
+    stays_where_refused old.content new.content r key value NoMoreVersions within (λ is. cc) refused (ap (λ state. state.content) kept)
+
+-- where a call lacks the key, that is its fault
+pub lacked : (a : Result ⊤ RefFault) (own : Option RefFault) → lacks_key a ≡ true → IfErr a (MayFail own) → own ≡ Some KeyNotFound
+lacked (Ok x) own is refused = absurd (cc)
+lacked (Err KeyNotFound) own is refused = refused
+lacked (Err TooLarge) own is refused = absurd (cc)
+lacked (Err NoMemory) own is refused = absurd (cc)
+lacked (Err UnknownRef) own is refused = absurd (cc)
+lacked (Err BadVersion) own is refused = absurd (cc)
+lacked (Err BadPattern) own is refused = absurd (cc)
+lacked (Err BadValue) own is refused = absurd (cc)
+lacked (Err NeedsMap) own is refused = absurd (cc)
+lacked (Err UsedAsMap) own is refused = absurd (cc)
+lacked (Err VersionFull) own is refused = absurd (cc)
+lacked (Err VersionWorn) own is refused = absurd (cc)
+lacked (Err NoMoreVersions) own is refused = absurd (cc)
+
+pub lacked_kept : (a : Result ⊤ RefFault) (old new : RefsState) → lacks_key a ≡ true → OnErr a (new ≡ old) → new ≡ old
+lacked_kept (Ok x) old new is kept = absurd (cc)
+lacked_kept (Err fault) old new is kept = kept
+
+never_large : (here fine : Bool) → option_or (fault_unless here KeyNotFound) (fault_unless fine BadValue) ≡ Some TooLarge → ⊥
+never_large true true is = cc
+never_large true false is = cc
+never_large false fine is = cc
+
+-- a change of a value asks no maker
+pub value_counts : (a : Result ⊤ RefFault) (refs : References) (r : ℕ) (key value : List ℕ) (Asked : ExpressionText → Type 0)
+    (state : MakerState) → r < length refs.references → IfErr a (MayFail (fault_at refs r (value_fault (has_key key) value)))
+    → ChangeCountsLarge (table_answer a) Asked state state
+value_counts (Ok x) refs r key value Asked state within refused = (refl, refl)
+value_counts (Err TooLarge) refs r key value Asked state within refused =
+    let found = reference_at refs r within in
+    absurd (never_large (list_any (has_key key) (version_entries found.0 None)) (not (refuses_value found.0.outputs value))
+    (rw found.1 at refused))
+value_counts (Err NoMemory) refs r key value Asked state within refused = (refl, refl)
+value_counts (Err KeyNotFound) refs r key value Asked state within refused = (refl, refl)
+value_counts (Err UnknownRef) refs r key value Asked state within refused = (refl, refl)
+value_counts (Err BadVersion) refs r key value Asked state within refused = (refl, refl)
+value_counts (Err BadPattern) refs r key value Asked state within refused = (refl, refl)
+value_counts (Err BadValue) refs r key value Asked state within refused = (refl, refl)
+value_counts (Err NeedsMap) refs r key value Asked state within refused = (refl, refl)
+value_counts (Err UsedAsMap) refs r key value Asked state within refused = (refl, refl)
+value_counts (Err VersionFull) refs r key value Asked state within refused = (refl, refl)
+value_counts (Err VersionWorn) refs r key value Asked state within refused = (refl, refl)
+value_counts (Err NoMoreVersions) refs r key value Asked state within refused = (refl, refl)

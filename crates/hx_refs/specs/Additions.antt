@@ -1,10 +1,9 @@
 -- Which entries may be added to a version of a reference, why others may not, and what an addition
 -- makes of the references (HAProxy management guide 2.4, section 9.3, `add acl`, `add map`).
-use Rattle.std.specs.Prelude.{◌≡◌, ℕ, ◌+◌, ◌*◌, ◌^◌, nat_le, Bool, List, [], ◌∷◌, ◌++◌, length, map, slice_get, Option, None, Some, is_some, IfSome, unwrap_or, Result, Err, if◌then◌else◌, ⊤, ◌⊎◌}
+use Rattle.std.specs.Prelude.{◌≡◌, ℕ, ◌+◌, ◌*◌, ◌^◌, nat_le, Bool, true, false, List, [], ◌∷◌, ◌++◌, length, map, slice_get, Option, None, Some, is_some, IfSome, unwrap_or, Result, Err, if◌then◌else◌, ⊤, ◌⊎◌}
 use Rattle.std.specs.List.{enumerate_from, list_any}
 use Rattle.std.specs.Option.{option_map_or, option_or}
-use Rattle.hx_outside.specs.Count.{Rose}
-use Rattle.hx_outside.specs.Makers.{ExpressionText, LastIsAsked, MakerState}
+use Rattle.hx_outside.specs.Makers.{CountsLarge, ExpressionText, MakerState}
 use Rattle.hx_text.specs.declared.kinds.By.TheVariants as by
 use Rattle.hx_match.specs.Patterns.{text_fault}
 use Rattle.hx_sample.specs.Find.{Entry}
@@ -121,12 +120,8 @@ MayRefuse own TooLarge = ⊤
 MayRefuse own NoMemory = ⊤
 MayRefuse own fault = own ≡ Some fault
 
--- What a maker of regular expressions knows before and after a call. With `TooLarge` its count of
--- texts that were too large rose, and the last of them is one that the call asked for. With any
--- other answer both stay.
-abbrev pub CountsLarge :
+-- what a maker of regular expressions knows before and after a call that asks for such texts
+abbrev pub AdditionCountsLarge :
     {T : Type 0} → Result T RefFault → (ExpressionText → Type 0) → MakerState → MakerState → Type 0
-CountsLarge (Err TooLarge) Asked before now =
-    Rose before.too_large now.too_large × LastIsAsked Asked now
-CountsLarge _ Asked before now =
-    (now.too_large ≡ before.too_large) × (now.large ≡ before.large)
+AdditionCountsLarge (Err TooLarge) Asked before now = CountsLarge true Asked before now
+AdditionCountsLarge _ Asked before now = CountsLarge false Asked before now

@@ -5,6 +5,7 @@ pub mod Additions
 pub mod Changes
 pub mod TableChanges
 pub mod Naming
+pub mod Numbers
 pub mod FileLines
 -- views of the code, for the contracts of private functions
 pub mod Kept

@@ -1,6 +1,6 @@
 -- What the references of a configuration are: lists of patterns and maps, with their versions and
 -- entries (HAProxy management guide 2.4, section 9.3, `add acl`, `add map`, `prepare acl`).
-use Rattle.std.specs.Prelude.{◌≡◌, ℕ, ◌-◌, ◌&&◌, ◌||◌, nat_le, Bool, true, false, List, [], ◌∷◌, ◌++◌, length, map, sum, slice_get, slice_set, Option, None, Some, is_none, IfSome, option_and_then, if◌then◌else◌, ⊤}
+use Rattle.std.specs.Prelude.{◌≡◌, ℕ, ◌-◌, min, ◌&&◌, ◌||◌, nat_le, Bool, true, false, List, [], ◌∷◌, ◌++◌, length, map, sum, slice_get, slice_set, Option, None, Some, is_none, IfSome, option_and_then, if◌then◌else◌, ⊤}
 use Rattle.std.specs.Option.{option_map_or}
 use Rattle.hx_text.specs.declared.kinds.Out.{Out}
 use Rattle.hx_text.specs.declared.kinds.Out.TheVariants as out
@@ -10,6 +10,7 @@ use Rattle.hx_sample.specs.Find.{Entry}
 use Rattle.hx_sample.specs.Tables.{TableHead}
 use Rattle.hx_refs.specs.declared.limits.Limits.{Limits}
 use Rattle.hx_refs.specs.declared.info.RefInfo.{RefInfo}
+use Rattle.hx_refs.specs.declared.slots.Slots.{Slots}
 
 -- the types, beside strings, in which the values of a map are read; any value is a string
 pub record Outputs : Type 0 where
@@ -40,6 +41,23 @@ pub record References : Type 0 where
   pub limits : Limits
   pub heads : List TableHead
   pub references : List Reference
+
+-- What callers see of references that are kept: what they hold, and the slots of memory in which
+-- they hold it. No answer of a request or a command depends on the slots.
+pub record RefsState : Type 0 where
+  pub content : References
+  pub slots : Slots
+
+-- no slot is in use
+abbrev pub no_slots : Slots
+no_slots = record { used = 0; retired = 0 }
+
+-- so many of the slots that wait are given back, or all where there are fewer
+abbrev pub after_tidying : ℕ → Slots → Slots
+after_tidying most slots = record {
+  used = slots.used - min most slots.retired;
+  retired = slots.retired - most;
+}
 
 -- ---- parts of a reference
 

@@ -6,6 +6,7 @@ use Rattle.hx_refs.specs.Additions.{new_entries, Pair}
 use Rattle.hx_refs.specs.Changes.{has_number}
 use Rattle.hx_sample.specs.Changes.{has_key}
 use Rattle.hx_refs.specs.Kept.{shown_entries, AreRead, TakePatterns}
+use Rattle.hx_refs.specs.Numbers.{HasRisingNumbers}
 use Rattle.hx_refs.specs.References.{empty_version, Reference, Version}
 use Rattle.hx_refs.specs.Uses.{Use}
 use Rattle.hx_refs.specs.declared.choice.Choice.{Choice}
@@ -83,12 +84,17 @@ AreCounted [] = ⊤
 AreCounted (version ∷ versions) =
     (length version.entries.items ≤ version.serial) × AreCounted versions
 
+-- the numbers of their entries rise
+abbrev pub AreRising : List KeptVersion → Type 0
+AreRising versions = (number : ℕ) → HasRisingNumbers number (version_numbered number versions)
+
 pub record IsKept (uses : List Use) (curr next : ℕ) (versions : List KeptVersion) : Type 0 where
   pub methods : TakePatterns uses
   pub order : curr ≤ next
   pub numbers : AreNumbered curr next versions
   pub read : AreReadEach uses versions
   pub counted : AreCounted versions
+  pub rising : AreRising versions
 
 -- ---- changes of one version
 

@@ -1,6 +1,6 @@
 ghost use Rattle.std.specs.Prelude.{◌≡◌, ◌≢◌, ◌+◌, List, [], ◌∷◌, ◌++◌, false, None, is_some, length, IfOk, IfErr, OnOk};
 ghost use Rattle.hx_match.specs.Patterns.{text_fault};
-ghost use Rattle.hx_refs.specs.Additions.{new_entries, pairs_fault, refuses_key, CountsLarge, IsReadAs, MayRefuse, PairsAskFor};
+ghost use Rattle.hx_refs.specs.Additions.{new_entries, pairs_fault, refuses_key, AdditionCountsLarge, IsReadAs, MayRefuse, PairsAskFor};
 ghost use Rattle.hx_refs.specs.Kept.{key_fault, kept_demands, pattern_texts, shown_entries, shown_entry, AreRead, TakePatterns};
 ghost use Rattle.hx_refs.specs.References.{refuses_value};
 ghost use Rattle.hx_refs.specs.Uses.{Use};
@@ -31,10 +31,9 @@ fn read_key<M: ReMaker>(
     ensures read { OnOk result (is_some (text_fault by ci key.now) ≡ false) }
     ensures refused { IfErr result
         (MayRefuse (key_fault (is_some (text_fault by ci key.now)))) }
-    ensures large { CountsLarge result
+    ensures large { AdditionCountsLarge result
         (λ text. (by ≡ By.Reg) × (text ≡ record { text = key.now; ci = ci }))
-        (record { too_large = M.too_large maker.old; large = M.large maker.old })
-        (record { too_large = M.too_large maker.new; large = M.large maker.new }) }
+        (M.state maker.old) (M.state maker.new) }
 {
     match parse(alloc, by, ci, key, maker) {
         Ok(pattern) => Ok(pattern),
@@ -60,9 +59,8 @@ pub(crate) fn read_keys<M: ReMaker>(
     ensures parsed { IfOk result (λ patterns. patterns.items ≡ pattern_texts uses.now key.now) }
     ensures read { OnOk result (refuses_key uses.now key.now ≡ false) }
     ensures refused { IfErr result (MayRefuse (key_fault (refuses_key uses.now key.now))) }
-    ensures large { CountsLarge result (IsReadAs uses.now key.now)
-        (record { too_large = M.too_large maker.old; large = M.large maker.old })
-        (record { too_large = M.too_large maker.new; large = M.large maker.new }) }
+    ensures large { AdditionCountsLarge result (IsReadAs uses.now key.now)
+        (M.state maker.old) (M.state maker.new) }
 {
     let mut patterns = Vec::new(alloc);
     let mut rest = uses;
@@ -120,10 +118,9 @@ pub(crate) fn new_entries<M: ReMaker>(
         count serial pairs.now ≡ None) }
     ensures refused { IfErr result (MayRefuse (pairs_fault (kept_demands reference.now limits)
         count serial pairs.now)) }
-    ensures large { CountsLarge result (PairsAskFor (kept_demands reference.now limits)
+    ensures large { AdditionCountsLarge result (PairsAskFor (kept_demands reference.now limits)
         count serial pairs.now)
-        (record { too_large = M.too_large maker.old; large = M.large maker.old })
-        (record { too_large = M.too_large maker.new; large = M.large maker.new }) }
+        (M.state maker.old) (M.state maker.new) }
 {
     let mut entries = Vec::new(alloc);
     let mut count = count;

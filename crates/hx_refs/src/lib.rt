@@ -4,7 +4,8 @@
 //! `specs/Changes.antt` what the other calls on entries and versions make of them,
 //! `specs/TableChanges.antt` what a change that a rule asks for makes of them,
 //! `specs/Naming.antt` which of them a word names, and `specs/FileLines.antt` which entries the
-//! lines of a file give.
+//! lines of a file give. `specs/Numbers.antt` says what holds of them at any time, and
+//! `laws` what follows from the definitions.
 #![tactic(auto)]
 
 mod choice;
@@ -13,6 +14,7 @@ mod fault;
 mod heads;
 mod info;
 mod judging;
+pub mod laws;
 mod limits;
 mod lines;
 mod naming;
@@ -21,6 +23,7 @@ mod reference;
 mod refs;
 mod searching;
 mod side;
+mod slots;
 mod stored;
 mod table_changes;
 mod uses;
@@ -33,3 +36,4 @@ pub use limits::Limits;
 pub use pairs::Pairs;
 pub use refs::Refs;
 pub use side::Side;
+pub use slots::Slots;

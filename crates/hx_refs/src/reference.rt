@@ -1,14 +1,15 @@
-ghost use Rattle.std.specs.Prelude.{◌≡◌, ◌≢◌, ℕ, ◌+◌, ◌^◌, ◌<◌, ◌++◌, map, min, unwrap_or, [], ◌∷◌, List, slice_get, true, false, Option, Some, None, is_some, IfOk, IfErr, IfSome, IfNone, OnOk, OnErr, option_map};
+ghost use Rattle.std.specs.Prelude.{◌≡◌, ◌≢◌, ℕ, ◌+◌, ◌^◌, ◌<◌, ◌++◌, map, min, unwrap_or, [], ◌∷◌, List, slice_get, true, false, Option, Some, None, is_some, IfOk, IsOk, IfErr, IfSome, IfNone, OnOk, OnErr, option_map};
 ghost use Rattle.std.specs.List.{list_any};
 ghost use Rattle.std.specs.Option.{option_copied, option_map_or};
 ghost use Rattle.std.specs.Str.{bytes_eq};
 ghost use Rattle.hx_sample.specs.Changes.{has_key, with_value, without_chosen};
 ghost use Rattle.hx_sample.specs.Find.{found_entry};
 ghost use Rattle.hx_sample.specs.Seen.{value_of};
-ghost use Rattle.hx_refs.specs.Additions.{new_entry, pair_fault, with_pairs, CountsLarge, IsReadAs, MayRefuse, Pair, VersionAsksFor};
+ghost use Rattle.hx_refs.specs.Additions.{new_entry, pair_fault, with_pairs, AdditionCountsLarge, IsReadAs, MayRefuse, Pair, VersionAsksFor};
 ghost use Rattle.hx_refs.specs.Changes.{answer, commit_fault, deletion_fault, preparation_fault, value_fault, with_current_version, with_entries, with_new_version, MayFail};
 ghost use Rattle.hx_refs.specs.Kept.{kept_demands, pattern_texts, shown_entries, shown_entry, version_fault, AreRead, IsAdded};
 ghost use Rattle.hx_refs.specs.Naming.{is_named, side_fault};
+ghost use Rattle.hx_refs.specs.Numbers.{HasVersionsInOrder, NumbersRise};
 ghost use Rattle.hx_refs.specs.References.{info_of, new_reference, version_entries, version_of, version_place, with_output, AreEmpty};
 ghost use Rattle.hx_refs.specs.Uses.{use_parts, use_with, uses_in_order};
 ghost use Rattle.hx_refs.specs.Versions.{is_chosen, HasVersion};
@@ -214,8 +215,9 @@ impl KeptReference {
         sample: &Sample<'_>,
     ) -> Result<Option<&Stored>, NoMemory>
         requires { is_some (use_with by ci self.now.uses) ≡ true }
-        ensures { IfOk result (λ found. option_map shown_entry (option_copied found)
+        ensures found { IfOk result (λ found. option_map shown_entry (option_copied found)
             ≡ found_entry by ci (version_entries self.now.shown None) (value_of sample.now)) }
+        ensures free { by ≢ By.Reg → IsOk result }
     {
         let place = place_with(self.uses.as_slice(), by, ci);
         let search = Search { by, ci, place };
@@ -258,9 +260,8 @@ impl KeptReference {
         ensures serial { OnOk result (serial < limits.adds) }
         ensures refused { IfErr result (MayRefuse (pair_fault (kept_demands self.now limits)
             count serial pair.now)) }
-        ensures large { CountsLarge result (IsReadAs self.now.uses pair.now.key)
-            (record { too_large = M.too_large maker.old; large = M.large maker.old })
-            (record { too_large = M.too_large maker.new; large = M.large maker.new }) }
+        ensures large { AdditionCountsLarge result (IsReadAs self.now.uses pair.now.key)
+            (M.state maker.old) (M.state maker.new) }
     {
         let patterns = read_keys(alloc, self.uses.as_slice(), pair.key(), maker)?;
         if refuses_value(self.as_int, self.as_ip, pair.value()) {
@@ -293,10 +294,9 @@ impl KeptReference {
             (version_of self.now.shown (Some number)) pairs.now ≡ None) }
         ensures refused { IfErr result (MayRefuse (version_fault (kept_demands self.now limits)
             (version_of self.now.shown (Some number)) pairs.now)) }
-        ensures large { CountsLarge result (VersionAsksFor (kept_demands self.now limits)
+        ensures large { AdditionCountsLarge result (VersionAsksFor (kept_demands self.now limits)
             (version_of self.now.shown (Some number)) pairs.now)
-            (record { too_large = M.too_large maker.old; large = M.large maker.old })
-            (record { too_large = M.too_large maker.new; large = M.large maker.new }) }
+            (M.state maker.old) (M.state maker.new) }
     {
         let (count, serial) = filling_of(self.versions.as_slice(), number);
         new_entries(alloc, limits, self, number, count, serial, pairs, maker)
@@ -333,10 +333,9 @@ impl KeptReference {
         ensures refused { IfErr result (MayRefuse (version_fault (kept_demands self.old limits)
             (version_of self.old.shown ver) pairs.now)) }
         ensures kept { OnErr result (self.new ≡ self.old) }
-        ensures large { CountsLarge result (VersionAsksFor (kept_demands self.old limits)
+        ensures large { AdditionCountsLarge result (VersionAsksFor (kept_demands self.old limits)
             (version_of self.old.shown ver) pairs.now)
-            (record { too_large = M.too_large maker.old; large = M.large maker.old })
-            (record { too_large = M.too_large maker.new; large = M.large maker.new }) }
+            (M.state maker.old) (M.state maker.new) }
     {
         let Some(number) = self.number(ver) else {
             return Err(RefFault::BadVersion);
@@ -495,5 +494,13 @@ impl KeptReference {
             Side::Map if self.two_column => None,
             Side::Map => Some(RefFault::NeedsMap),
         }
+    }
+
+    /// Does nothing. Its versions are in order, and the numbers of their entries rise.
+    pub(crate) fn is_numbered(&self)
+        ensures versions { HasVersionsInOrder self.now.shown }
+        ensures entries { NumbersRise self.now.shown }
+    {
+        let _next = self.next;
     }
 }

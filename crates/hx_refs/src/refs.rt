@@ -1,10 +1,11 @@
 ghost use Rattle.std.specs.Prelude.{◌≡◌, ◌≢◌, ◌<◌, [], ◌∷◌, All, length, slice_get, None, Some, IfOk, IfErr, IfSome, OnOk, OnErr, option_map};
 ghost use Rattle.std.specs.Option.{option_copied};
-ghost use Rattle.hx_refs.specs.Additions.{addition_fault, after_addition, AdditionAsksFor, CountsLarge, MayRefuse};
+ghost use Rattle.hx_refs.specs.Additions.{addition_fault, after_addition, AdditionAsksFor, AdditionCountsLarge, MayRefuse};
 ghost use Rattle.hx_refs.specs.Changes.{after_change_of_value, after_clearing, after_commit, after_deletion, after_preparation, answer, commit_fault, deletion_fault, fault_at, has_number, preparation_fault, prepared_version, value_fault, MayFail};
 ghost use Rattle.hx_sample.specs.Changes.{has_key};
 ghost use Rattle.hx_refs.specs.Naming.{resolution};
-ghost use Rattle.hx_refs.specs.References.{after_output, entries_in, file_of, info_of, no_references, with_new, HasHadNone};
+ghost use Rattle.hx_refs.specs.Numbers.{HasVersionsInOrder, NumbersRise};
+ghost use Rattle.hx_refs.specs.References.{after_output, after_tidying, entries_in, file_of, info_of, no_references, no_slots, with_new, HasHadNone};
 ghost use Rattle.hx_refs.specs.TableChanges.{is_key_of};
 ghost use Rattle.hx_refs.specs.Uses.{after_use, head_for, use_parts, uses_in_order, uses_of, KeepsToCase};
 ghost use Rattle.hx_refs.specs.Versions.{is_chosen};
@@ -19,6 +20,7 @@ use crate::naming::named_number;
 use crate::pairs::{KeptPair, Pairs};
 use crate::reference::KeptReference;
 use crate::side::Side;
+use crate::slots::Slots;
 use crate::table_changes::is_fit;
 use hx_outside::ReMaker;
 use hx_pool::Steps;
@@ -38,8 +40,9 @@ fn answer(position: u32, fault: Option<RefFault>) -> Result<u32, RefFault>
     }
 }
 
-/// The references of a configuration, by their positions. Contracts see the limits, the heads in
-/// the order of their numbers, and the references in their order.
+/// The references of a configuration, by their positions. Contracts see their content, which is the
+/// limits, the heads in the order of their numbers, and the references in their order; and how many
+/// slots of memory they use.
 #[derive(Drop)]
 pub struct Refs {
     alloc: Global,
@@ -49,16 +52,20 @@ pub struct Refs {
 }
 
 impl Model for Refs {
-    ghost use Rattle.hx_refs.specs.References.{References};
+    ghost use Rattle.hx_refs.specs.References.{RefsState, no_slots};
 
-    ghost Value = { References };
+    ghost Value = { RefsState };
 
     ghost use Rattle.hx_refs.specs.Kept.{shown_references, AreKept};
 
+    // Entries are kept in lists of their own, so that no slot is in use, and none waits.
     ghost view = { λ refs. record {
-      limits = refs.limits;
-      heads = refs.heads.items;
-      references = shown_references refs.references.items;
+      content = record {
+        limits = refs.limits;
+        heads = refs.heads.items;
+        references = shown_references refs.references.items;
+      };
+      slots = no_slots;
     } };
 
     ghost invariant = { λ refs. AreKept refs.heads.items refs.references.items };
@@ -67,7 +74,7 @@ impl Model for Refs {
 impl Refs {
     /// No references. It takes no memory; those that are added later take it from `alloc`.
     pub fn new(alloc: Global, limits: Limits) -> Refs
-        ensures { result ≡ no_references limits }
+        ensures { result ≡ record { content = no_references limits; slots = no_slots } }
     {
         Refs {
             alloc,
@@ -79,7 +86,7 @@ impl Refs {
 
     /// How many references there are.
     pub fn len(&self) -> u32
-        ensures { result ≡ length self.now.references }
+        ensures { result ≡ length self.now.content.references }
     {
         self.references.len() as u32
     }
@@ -97,13 +104,14 @@ impl Refs {
         two_column: bool,
         acl: bool,
     ) -> Result<u32, NoMemory>
-        requires id { All (λ reference. reference.id ≢ id) self.old.references }
+        requires id { All (λ reference. reference.id ≢ id) self.old.content.references }
         requires file { IfSome (option_copied file)
-            (λ name. All (λ reference. reference.file ≢ Some name) self.old.references) }
-        requires few { length self.old.references < 65536 }
-        ensures position { IfOk result (λ position. position ≡ length self.old.references) }
+            (λ name. All (λ reference. reference.file ≢ Some name) self.old.content.references) }
+        requires few { length self.old.content.references < 65536 }
+        ensures position { IfOk result (λ position. position ≡ length self.old.content.references) }
         ensures ok { OnOk result
-            (self.new ≡ with_new self.old id (option_copied file.entry) two_column acl) }
+            (self.new.content ≡ with_new self.old.content id (option_copied file.entry) two_column
+            acl) }
         ensures err { OnErr result (self.new ≡ self.old) }
     {
         let position = self.references.len() as u32;
@@ -116,8 +124,8 @@ impl Refs {
     ///
     /// There are more than `r` references.
     pub fn info(&self, r: u32) -> RefInfo
-        requires { r < length self.now.references }
-        ensures { Some result ≡ option_map info_of (slice_get self.now.references r) }
+        requires { r < length self.now.content.references }
+        ensures { Some result ≡ option_map info_of (slice_get self.now.content.references r) }
     {
         let reference = &self.references[r as usize];
         reference.info()
@@ -127,8 +135,8 @@ impl Refs {
     ///
     /// There are more than `r` references.
     pub fn file(&self, r: u32) -> Option<&[u8]>
-        requires { r < length self.now.references }
-        ensures { option_copied result ≡ file_of self.now r }
+        requires { r < length self.now.content.references }
+        ensures { option_copied result ≡ file_of self.now.content r }
     {
         let reference = &self.references[r as usize];
         reference.file()
@@ -139,9 +147,9 @@ impl Refs {
     ///
     /// There are more than `r` references, and nothing was added to this one.
     pub fn add_out(&mut self, r: u32, out: Out) -> Result<(), NoMemory>
-        requires r { r < length self.old.references }
-        requires none { HasHadNone self.old r }
-        ensures ok { OnOk result (self.new ≡ after_output self.old r out) }
+        requires r { r < length self.old.content.references }
+        requires none { HasHadNone self.old.content r }
+        ensures ok { OnOk result (self.new.content ≡ after_output self.old.content r out) }
         ensures err { OnErr result (self.new ≡ self.old) }
     {
         let reference = &mut self.references[r as usize];
@@ -157,13 +165,13 @@ impl Refs {
     /// patterns, so it is neither `Found` nor `Bool`, and `ci` is false for `Int`, `Ip`, `Bin` and
     /// `Len`.
     pub fn add_use(&mut self, r: u32, by: By, ci: bool) -> Result<u32, NoMemory>
-        requires r { r < length self.old.references }
-        requires none { HasHadNone self.old r }
+        requires r { r < length self.old.content.references }
+        requires none { HasHadNone self.old.content r }
         requires found { by ≢ By.Found }
         requires bool { by ≢ By.Bool }
         requires case { KeepsToCase by ci }
-        ensures head { IfOk result (λ head. head ≡ head_for self.old r by ci) }
-        ensures ok { OnOk result (self.new ≡ after_use self.old r by ci) }
+        ensures head { IfOk result (λ head. head ≡ head_for self.old.content r by ci) }
+        ensures ok { OnOk result (self.new.content ≡ after_use self.old.content r by ci) }
         ensures err { OnErr result (self.new ≡ self.old) }
     {
         let reference = &self.references[r as usize];
@@ -190,9 +198,9 @@ impl Refs {
     ///
     /// There are more than `r` references.
     pub fn use_at(&self, r: u32, k: u32) -> Option<(By, bool, u32)>
-        requires { r < length self.now.references }
+        requires { r < length self.now.content.references }
         ensures { result ≡ option_map use_parts
-            (slice_get (uses_in_order (uses_of self.now.heads r)) k) }
+            (slice_get (uses_in_order (uses_of self.now.content.heads r)) k) }
     {
         let reference = &self.references[r as usize];
         reference.use_at(k)
@@ -204,8 +212,8 @@ impl Refs {
     ///
     /// There are more than `r` references.
     pub fn entries(&self, r: u32, ver: Option<u32>) -> Entries<'_>
-        requires { r < length self.now.references }
-        ensures { result ≡ entries_in self.now r ver }
+        requires { r < length self.now.content.references }
+        ensures { result ≡ entries_in self.now.content r ver }
     {
         let reference = &self.references[r as usize];
         reference.entries(ver)
@@ -214,8 +222,8 @@ impl Refs {
     /// Whether an entry of the reference at the position `r` has the key, in the version that is
     /// searched.
     pub(crate) fn has_key(&self, r: u32, key: &[u8]) -> bool
-        requires { r < length self.now.references }
-        ensures { result ≡ is_key_of self.now r key.now }
+        requires { r < length self.now.content.references }
+        ensures { result ≡ is_key_of self.now.content r key.now }
     {
         let reference = &self.references[r as usize];
         reference.has_key(key)
@@ -234,18 +242,17 @@ impl Refs {
         value: &[u8],
         maker: &mut M,
     ) -> Result<(), RefFault>
-        requires { r < length self.old.references }
-        ensures ok { OnOk result (self.new ≡ after_addition self.old r ver
+        requires { r < length self.old.content.references }
+        ensures ok { OnOk result (self.new.content ≡ after_addition self.old.content r ver
             (record { key = key.now; value = value.now } ∷ [])) }
-        ensures none { OnOk result (addition_fault self.old r ver
+        ensures none { OnOk result (addition_fault self.old.content r ver
             (record { key = key.now; value = value.now } ∷ []) ≡ None) }
-        ensures refused { IfErr result (MayRefuse (addition_fault self.old r ver
+        ensures refused { IfErr result (MayRefuse (addition_fault self.old.content r ver
             (record { key = key.now; value = value.now } ∷ []))) }
         ensures kept { OnErr result (self.new ≡ self.old) }
-        ensures large { CountsLarge result (AdditionAsksFor self.old r ver
+        ensures large { AdditionCountsLarge result (AdditionAsksFor self.old.content r ver
             (record { key = key.now; value = value.now } ∷ []))
-            (record { too_large = M.too_large maker.old; large = M.large maker.old })
-            (record { too_large = M.too_large maker.new; large = M.large maker.new }) }
+            (M.state maker.old) (M.state maker.new) }
     {
         let pair = KeptPair::copy(self.alloc, key, value)?;
         let pairs = [pair];
@@ -275,14 +282,16 @@ impl Refs {
         pairs: &Pairs,
         maker: &mut M,
     ) -> Result<(), RefFault>
-        requires { r < length self.old.references }
-        ensures ok { OnOk result (self.new ≡ after_addition self.old r ver pairs.now) }
-        ensures none { OnOk result (addition_fault self.old r ver pairs.now ≡ None) }
-        ensures refused { IfErr result (MayRefuse (addition_fault self.old r ver pairs.now)) }
+        requires { r < length self.old.content.references }
+        ensures ok { OnOk result (self.new.content ≡ after_addition self.old.content r ver
+            pairs.now) }
+        ensures none { OnOk result (addition_fault self.old.content r ver pairs.now ≡ None) }
+        ensures refused { IfErr result
+            (MayRefuse (addition_fault self.old.content r ver pairs.now)) }
         ensures kept { OnErr result (self.new ≡ self.old) }
-        ensures large { CountsLarge result (AdditionAsksFor self.old r ver pairs.now)
-            (record { too_large = M.too_large maker.old; large = M.large maker.old })
-            (record { too_large = M.too_large maker.new; large = M.large maker.new }) }
+        ensures large { AdditionCountsLarge result
+            (AdditionAsksFor self.old.content r ver pairs.now)
+            (M.state maker.old) (M.state maker.new) }
     {
         self.add_pairs(r, ver, pairs.as_slice(), maker)
     }
@@ -294,14 +303,16 @@ impl Refs {
         pairs: &[KeptPair],
         maker: &mut M,
     ) -> Result<(), RefFault>
-        requires { r < length self.old.references }
-        ensures ok { OnOk result (self.new ≡ after_addition self.old r ver pairs.now) }
-        ensures none { OnOk result (addition_fault self.old r ver pairs.now ≡ None) }
-        ensures refused { IfErr result (MayRefuse (addition_fault self.old r ver pairs.now)) }
+        requires { r < length self.old.content.references }
+        ensures ok { OnOk result (self.new.content ≡ after_addition self.old.content r ver
+            pairs.now) }
+        ensures none { OnOk result (addition_fault self.old.content r ver pairs.now ≡ None) }
+        ensures refused { IfErr result
+            (MayRefuse (addition_fault self.old.content r ver pairs.now)) }
         ensures kept { OnErr result (self.new ≡ self.old) }
-        ensures large { CountsLarge result (AdditionAsksFor self.old r ver pairs.now)
-            (record { too_large = M.too_large maker.old; large = M.large maker.old })
-            (record { too_large = M.too_large maker.new; large = M.large maker.new }) }
+        ensures large { AdditionCountsLarge result
+            (AdditionAsksFor self.old.content r ver pairs.now)
+            (M.state maker.old) (M.state maker.new) }
     {
         let alloc = self.alloc;
         let limits = self.limits;
@@ -316,10 +327,11 @@ impl Refs {
     /// There are more than `r` references. HAProxy management guide 2.4, section 9.3, `del acl`,
     /// `del map`.
     pub fn del_key(&mut self, r: u32, key: &[u8]) -> Result<(), RefFault>
-        requires { r < length self.old.references }
+        requires { r < length self.old.content.references }
         ensures answer { result
-            ≡ answer tt (fault_at self.old r (deletion_fault (has_key key.now))) }
-        ensures ok { OnOk result (self.new ≡ after_deletion self.old r (has_key key.now)) }
+            ≡ answer tt (fault_at self.old.content r (deletion_fault (has_key key.now))) }
+        ensures ok { OnOk result (self.new.content ≡ after_deletion self.old.content r
+            (has_key key.now)) }
         ensures err { OnErr result (self.new ≡ self.old) }
     {
         self.delete(r, &Choice::Key(key))
@@ -332,20 +344,22 @@ impl Refs {
     /// There are more than `r` references. HAProxy management guide 2.4, section 9.3, `del acl`,
     /// `del map`.
     pub fn del_id(&mut self, r: u32, number: u64) -> Result<(), RefFault>
-        requires { r < length self.old.references }
+        requires { r < length self.old.content.references }
         ensures answer { result
-            ≡ answer tt (fault_at self.old r (deletion_fault (has_number number))) }
-        ensures ok { OnOk result (self.new ≡ after_deletion self.old r (has_number number)) }
+            ≡ answer tt (fault_at self.old.content r (deletion_fault (has_number number))) }
+        ensures ok { OnOk result (self.new.content ≡ after_deletion self.old.content r
+            (has_number number)) }
         ensures err { OnErr result (self.new ≡ self.old) }
     {
         self.delete(r, &Choice::Number(number))
     }
 
     fn delete(&mut self, r: u32, choice: &Choice<'_>) -> Result<(), RefFault>
-        requires { r < length self.old.references }
+        requires { r < length self.old.content.references }
         ensures answer { result
-            ≡ answer tt (fault_at self.old r (deletion_fault (is_chosen choice.now))) }
-        ensures ok { OnOk result (self.new ≡ after_deletion self.old r (is_chosen choice.now)) }
+            ≡ answer tt (fault_at self.old.content r (deletion_fault (is_chosen choice.now))) }
+        ensures ok { OnOk result (self.new.content ≡ after_deletion self.old.content r
+            (is_chosen choice.now)) }
         ensures err { OnErr result (self.new ≡ self.old) }
     {
         let reference = &mut self.references[r as usize];
@@ -360,13 +374,14 @@ impl Refs {
     ///
     /// There are more than `r` references. HAProxy management guide 2.4, section 9.3, `set map`.
     pub fn set_key(&mut self, r: u32, key: &[u8], value: &[u8]) -> Result<(), RefFault>
-        requires { r < length self.old.references }
+        requires { r < length self.old.content.references }
         ensures ok { OnOk result
-            (self.new ≡ after_change_of_value self.old r (has_key key.now) value.now) }
+            (self.new.content ≡ after_change_of_value self.old.content r (has_key key.now)
+            value.now) }
         ensures none { OnOk result
-            (fault_at self.old r (value_fault (has_key key.now) value.now) ≡ None) }
+            (fault_at self.old.content r (value_fault (has_key key.now) value.now) ≡ None) }
         ensures refused { IfErr result
-            (MayFail (fault_at self.old r (value_fault (has_key key.now) value.now))) }
+            (MayFail (fault_at self.old.content r (value_fault (has_key key.now) value.now))) }
         ensures kept { OnErr result (self.new ≡ self.old) }
     {
         self.set(r, &Choice::Key(key), value)
@@ -378,26 +393,28 @@ impl Refs {
     ///
     /// There are more than `r` references. HAProxy management guide 2.4, section 9.3, `set map`.
     pub fn set_id(&mut self, r: u32, number: u64, value: &[u8]) -> Result<(), RefFault>
-        requires { r < length self.old.references }
+        requires { r < length self.old.content.references }
         ensures ok { OnOk result
-            (self.new ≡ after_change_of_value self.old r (has_number number) value.now) }
+            (self.new.content ≡ after_change_of_value self.old.content r (has_number number)
+            value.now) }
         ensures none { OnOk result
-            (fault_at self.old r (value_fault (has_number number) value.now) ≡ None) }
+            (fault_at self.old.content r (value_fault (has_number number) value.now) ≡ None) }
         ensures refused { IfErr result
-            (MayFail (fault_at self.old r (value_fault (has_number number) value.now))) }
+            (MayFail (fault_at self.old.content r (value_fault (has_number number) value.now))) }
         ensures kept { OnErr result (self.new ≡ self.old) }
     {
         self.set(r, &Choice::Number(number), value)
     }
 
     fn set(&mut self, r: u32, choice: &Choice<'_>, value: &[u8]) -> Result<(), RefFault>
-        requires { r < length self.old.references }
+        requires { r < length self.old.content.references }
         ensures ok { OnOk result
-            (self.new ≡ after_change_of_value self.old r (is_chosen choice.now) value.now) }
+            (self.new.content ≡ after_change_of_value self.old.content r (is_chosen choice.now)
+            value.now) }
         ensures none { OnOk result
-            (fault_at self.old r (value_fault (is_chosen choice.now) value.now) ≡ None) }
+            (fault_at self.old.content r (value_fault (is_chosen choice.now) value.now) ≡ None) }
         ensures refused { IfErr result
-            (MayFail (fault_at self.old r (value_fault (is_chosen choice.now) value.now))) }
+            (MayFail (fault_at self.old.content r (value_fault (is_chosen choice.now) value.now))) }
         ensures kept { OnErr result (self.new ≡ self.old) }
     {
         let alloc = self.alloc;
@@ -413,8 +430,8 @@ impl Refs {
     /// There are more than `r` references. HAProxy management guide 2.4, section 9.3, `clear acl`,
     /// `clear map`.
     pub fn clear(&mut self, r: u32, ver: Option<u32>)
-        requires { r < length self.old.references }
-        ensures { self.new ≡ after_clearing self.old r ver }
+        requires { r < length self.old.content.references }
+        ensures { self.new.content ≡ after_clearing self.old.content r ver }
     {
         let reference = &mut self.references[r as usize];
         reference.clear(ver);
@@ -428,10 +445,10 @@ impl Refs {
     /// There are more than `r` references. HAProxy management guide 2.4, section 9.3,
     /// `prepare acl`, `prepare map`.
     pub fn prepare(&mut self, r: u32) -> Result<u32, RefFault>
-        requires { r < length self.old.references }
-        ensures answer { result ≡ answer (prepared_version self.old r)
-            (fault_at self.old r (preparation_fault self.old.limits)) }
-        ensures ok { OnOk result (self.new ≡ after_preparation self.old r) }
+        requires { r < length self.old.content.references }
+        ensures answer { result ≡ answer (prepared_version self.old.content r)
+            (fault_at self.old.content r (preparation_fault self.old.content.limits)) }
+        ensures ok { OnOk result (self.new.content ≡ after_preparation self.old.content r) }
         ensures err { OnErr result (self.new ≡ self.old) }
     {
         let limits = self.limits;
@@ -452,21 +469,37 @@ impl Refs {
         ver: u32,
         _steps: &mut Steps<L>,
     ) -> Result<(), RefFault>
-        requires { r < length self.old.references }
-        ensures answer { result ≡ answer tt (fault_at self.old r (commit_fault ver)) }
-        ensures ok { OnOk result (self.new ≡ after_commit self.old r ver) }
+        requires { r < length self.old.content.references }
+        ensures answer { result ≡ answer tt (fault_at self.old.content r (commit_fault ver)) }
+        ensures ok { OnOk result (self.new.content ≡ after_commit self.old.content r ver) }
         ensures err { OnErr result (self.new ≡ self.old) }
     {
         let reference = &mut self.references[r as usize];
         reference.commit(ver)
     }
 
-    /// Gives back at most `_n` slots of memory that no version needs any more. Entries are kept in
-    /// lists of their own, which a commit drops at once, so that there are none. It takes no
-    /// memory.
-    pub fn tidy(&mut self, _n: usize)
-        ensures { self.new ≡ self.old }
-    {}
+    /// How many slots of memory are in use, and how many of these wait to be given back.
+    pub fn slots(&self) -> Slots
+        ensures { result ≡ self.now.slots }
+    {
+        // Each reference keeps its entries in lists of its own.
+        let _lists = &self.references;
+        Slots {
+            used: 0,
+            retired: 0,
+        }
+    }
+
+    /// Gives back `n` of the slots of memory that no version needs any more, or all where fewer
+    /// wait. It takes no memory.
+    pub fn tidy(&mut self, n: usize)
+        ensures content { self.new.content ≡ self.old.content }
+        ensures slots { self.new.slots ≡ after_tidying n self.old.slots }
+    {
+        // A commit drops the lists of older versions at once, so that none waits.
+        let _lists = &self.references;
+        let _ = n;
+    }
 
     /// The position of the reference that a word names for a side. `#` and decimal digits, which
     /// may be any number of them, name the reference with that number, and never a file. Any other
@@ -479,7 +512,7 @@ impl Refs {
     ///
     /// HAProxy management guide 2.4, section 9.3, `show acl`, `add acl`, `show map`.
     pub fn resolve(&self, word: &[u8], side: Side) -> Result<u32, RefFault>
-        ensures { result ≡ resolution self.now word.now side }
+        ensures { result ≡ resolution self.now.content word.now side }
     {
         let number = named_number(word);
         let mut position = 0;
@@ -496,8 +529,12 @@ impl Refs {
 }
 
 impl Tables for Refs {
-    ghost use Rattle.hx_refs.specs.References.{searched_lists};
+    ghost use Rattle.hx_refs.specs.References.{References, searched_lists};
     ghost use Rattle.hx_refs.specs.TableChanges.{after_table_change};
+
+    ghost State = { References };
+
+    ghost state = { λ refs. refs.content };
 
     ghost heads = { λ refs. refs.heads };
 
@@ -530,5 +567,20 @@ impl Tables for Refs {
             return Ok(());
         }
         self.change_fit(table, change, maker)
+    }
+}
+
+impl Refs {
+    /// Does nothing. Of each reference the versions are in order, and the numbers of their entries
+    /// rise.
+    pub(crate) fn are_numbered(&self)
+        ensures versions { All HasVersionsInOrder self.now.content.references }
+        ensures entries { All NumbersRise self.now.content.references }
+    {
+        let mut rest = self.references.as_slice();
+        while let [reference, others @ ..] = rest {
+            reference.is_numbered();
+            rest = others;
+        }
     }
 }

@@ -1,4 +1,4 @@
-ghost use Rattle.std.specs.Prelude.{◌≡◌, ◌==◌, IfOk, length, option_map};
+ghost use Rattle.std.specs.Prelude.{◌≡◌, ◌≢◌, ◌==◌, IfOk, IsOk, length, option_map};
 ghost use Rattle.std.specs.List.{filter};
 ghost use Rattle.std.specs.Option.{option_copied};
 ghost use Rattle.hx_sample.specs.Find.{by_network, first_item, found_entry, greatest, nearness, prefix_width, with_greatest};
@@ -27,8 +27,9 @@ pub(crate) fn found<'a>(
     sample: &Sample<'_>,
 ) -> Result<Option<&'a Stored>, NoMemory>
     requires { AreReadAt search entries.now }
-    ensures { IfOk result (λ found. option_map shown_entry (option_copied found)
+    ensures found { IfOk result (λ found. option_map shown_entry (option_copied found)
         ≡ found_entry search.by search.ci (shown_entries entries.now) (value_of sample.now)) }
+    ensures free { search.by ≢ By.Reg → IsOk result }
 {
     match search.by {
         By::Beg => {
@@ -54,8 +55,9 @@ fn hits(
     sample: &Sample<'_>,
 ) -> Result<bool, NoMemory>
     requires { IsReadAt search entry.now }
-    ensures { IfOk result (λ hit. hit
+    ensures found { IfOk result (λ hit. hit
         ≡ hits search.by search.ci entry.now.key (value_of sample.now)) }
+    ensures free { search.by ≢ By.Reg → IsOk result }
 {
     let pattern = &entry.patterns[search.place];
     hx_match::hits(alloc, pattern, sample)
@@ -69,8 +71,9 @@ fn first_hit<'a>(
     sample: &Sample<'_>,
 ) -> Result<Option<&'a Stored>, NoMemory>
     requires { AreReadAt search entries.now }
-    ensures { IfOk result (λ found. option_map shown_entry (option_copied found)
+    ensures found { IfOk result (λ found. option_map shown_entry (option_copied found)
         ≡ first_item (hitting search entries.now (value_of sample.now))) }
+    ensures free { search.by ≢ By.Reg → IsOk result }
 {
     let mut rest = entries;
     while let [entry, others @ ..] = rest {
@@ -90,9 +93,10 @@ fn longest<'a>(
     sample: &Sample<'_>,
 ) -> Result<Option<&'a Stored>, NoMemory>
     requires { AreReadAt search entries.now }
-    ensures { IfOk result (λ found. option_map shown_entry (option_copied found)
+    ensures found { IfOk result (λ found. option_map shown_entry (option_copied found)
         ≡ first_item (with_greatest (λ entry. length entry.key)
         (hitting search entries.now (value_of sample.now)))) }
+    ensures free { search.by ≢ By.Reg → IsOk result }
 {
     let most = greatest_length(alloc, search, entries, sample)?;
     first_of_length(alloc, search, entries, sample, most)
@@ -106,8 +110,9 @@ fn greatest_length(
     sample: &Sample<'_>,
 ) -> Result<usize, NoMemory>
     requires { AreReadAt search entries.now }
-    ensures { IfOk result (λ most. most ≡ greatest (λ entry. length entry.key)
+    ensures found { IfOk result (λ most. most ≡ greatest (λ entry. length entry.key)
         (hitting search entries.now (value_of sample.now))) }
+    ensures free { search.by ≢ By.Reg → IsOk result }
 {
     let mut most = 0;
     let mut rest = entries;
@@ -129,9 +134,10 @@ fn first_of_length<'a>(
     len: usize,
 ) -> Result<Option<&'a Stored>, NoMemory>
     requires { AreReadAt search entries.now }
-    ensures { IfOk result (λ found. option_map shown_entry (option_copied found)
+    ensures found { IfOk result (λ found. option_map shown_entry (option_copied found)
         ≡ first_item (filter (λ entry. length entry.key == len)
         (hitting search entries.now (value_of sample.now)))) }
+    ensures free { search.by ≢ By.Reg → IsOk result }
 {
     let mut rest = entries;
     while let [entry, others @ ..] = rest {
@@ -153,10 +159,11 @@ fn finest<'a>(
 ) -> Result<Option<&'a Stored>, NoMemory>
     requires by { search.by ≡ By.Ip }
     requires read { AreReadAt search entries.now }
-    ensures { IfOk result (λ found. option_map shown_entry (option_copied found)
+    ensures found { IfOk result (λ found. option_map shown_entry (option_copied found)
         ≡ first_item (with_greatest (by_network prefix_width)
         (with_greatest (by_network (nearness ip))
         (hitting search entries.now (value_of sample.now))))) }
+    ensures free { search.by ≢ By.Reg → IsOk result }
 {
     let near = greatest_nearness(alloc, search, entries, sample, ip)?;
     let width = greatest_width(alloc, search, entries, sample, ip, near)?;
@@ -217,8 +224,9 @@ fn greatest_nearness(
 ) -> Result<u32, NoMemory>
     requires by { search.by ≡ By.Ip }
     requires read { AreReadAt search entries.now }
-    ensures { IfOk result (λ most. most ≡ greatest (by_network (nearness ip))
+    ensures found { IfOk result (λ most. most ≡ greatest (by_network (nearness ip))
         (hitting search entries.now (value_of sample.now))) }
+    ensures free { search.by ≢ By.Reg → IsOk result }
 {
     let mut most = 0;
     let mut rest = entries;
@@ -242,8 +250,9 @@ fn greatest_width(
 ) -> Result<u32, NoMemory>
     requires by { search.by ≡ By.Ip }
     requires read { AreReadAt search entries.now }
-    ensures { IfOk result (λ most. most ≡ greatest (by_network prefix_width)
+    ensures found { IfOk result (λ most. most ≡ greatest (by_network prefix_width)
         (near_hitting search entries.now (value_of sample.now) ip near)) }
+    ensures free { search.by ≢ By.Reg → IsOk result }
 {
     let mut most = 0;
     let mut rest = entries;
@@ -268,9 +277,10 @@ fn first_of_width<'a>(
 ) -> Result<Option<&'a Stored>, NoMemory>
     requires by { search.by ≡ By.Ip }
     requires read { AreReadAt search entries.now }
-    ensures { IfOk result (λ found. option_map shown_entry (option_copied found)
+    ensures found { IfOk result (λ found. option_map shown_entry (option_copied found)
         ≡ first_item (filter (λ entry. by_network prefix_width entry == bits)
         (near_hitting search entries.now (value_of sample.now) ip near))) }
+    ensures free { search.by ≢ By.Reg → IsOk result }
 {
     let mut rest = entries;
     while let [entry, others @ ..] = rest {

@@ -1,7 +1,8 @@
-ghost use Rattle.std.specs.Prelude.{◌≡◌, ◌<◌, [], length, OnOk, OnErr};
+ghost use Rattle.std.specs.Prelude.{◌≡◌, ◌<◌, [], true, length, OnOk, OnErr};
 ghost use Rattle.hx_sample.specs.Changes.{change_of, has_key, is_entry_key, is_entry_text, is_fit, Addition, ChangeAsksFor, ChangeCountsLarge, IsReadBy, NewValue, Removal};
 ghost use Rattle.hx_refs.specs.Changes.{after_deletion};
-ghost use Rattle.hx_refs.specs.TableAnswers.{table_answer};
+ghost use Rattle.hx_refs.specs.References.{searched_lists};
+ghost use Rattle.hx_refs.specs.TableAnswers.{lacks_key, table_answer};
 ghost use Rattle.hx_refs.specs.TableChanges.{after_fit_change, with_pair};
 
 use crate::fault::RefFault;
@@ -45,6 +46,16 @@ fn table_answer(answer: Result<(), RefFault>) -> Result<(), TableFault>
     }
 }
 
+/// Whether a call on the references was refused since no entry has the key.
+fn lacks_key(answer: &Result<(), RefFault>) -> bool
+    ensures { result ≡ lacks_key answer.now }
+{
+    match answer {
+        Err(RefFault::KeyNotFound) => true,
+        _ => false,
+    }
+}
+
 impl Refs {
     /// Appends an entry to the version that is searched, unless it is refused.
     fn append_pair<M: ReMaker>(
@@ -54,13 +65,12 @@ impl Refs {
         value: &[u8],
         maker: &mut M,
     ) -> Result<(), TableFault>
-        requires { r < length self.old.references }
-        ensures ok { OnOk result
-            (self.new ≡ with_pair self.old r (record { key = key.now; value = value.now })) }
+        requires { r < length self.old.content.references }
+        ensures ok { OnOk result (self.new.content
+            ≡ with_pair self.old.content r (record { key = key.now; value = value.now })) }
         ensures kept { OnErr result (self.new ≡ self.old) }
-        ensures large { ChangeCountsLarge result (IsReadBy self.old.heads r key.now)
-            (record { too_large = M.too_large maker.old; large = M.large maker.old })
-            (record { too_large = M.too_large maker.new; large = M.large maker.new }) }
+        ensures large { ChangeCountsLarge result (IsReadBy self.old.content.heads r key.now)
+            (M.state maker.old) (M.state maker.new) }
     {
         let answer = self.add(r, None, key, value, maker);
         table_answer(answer)
@@ -73,12 +83,14 @@ impl Refs {
         key: &[u8],
         maker: &mut M,
     ) -> Result<(), TableFault>
-        requires { r < length self.old.references }
-        ensures ok { OnOk result (self.new ≡ after_fit_change self.old r (Addition key.now)) }
+        requires r { r < length self.old.content.references }
+        requires fit { is_fit (Addition key.now) ≡ true }
+        ensures ok { OnOk result
+            (self.new.content ≡ after_fit_change self.old.content r (Addition key.now)) }
         ensures kept { OnErr result (self.new ≡ self.old) }
-        ensures large { ChangeCountsLarge result (IsReadBy self.old.heads r key.now)
-            (record { too_large = M.too_large maker.old; large = M.large maker.old })
-            (record { too_large = M.too_large maker.new; large = M.large maker.new }) }
+        ensures large { ChangeCountsLarge result (ChangeAsksFor self.old.content.heads
+            (searched_lists self.old.content) r (Addition key.now))
+            (M.state maker.old) (M.state maker.new) }
     {
         if self.has_key(r, key) {
             return Ok(());
@@ -88,8 +100,8 @@ impl Refs {
 
     /// Removes all entries with the key from the version that is searched.
     fn delete_all(&mut self, r: u32, key: &[u8])
-        requires { r < length self.old.references }
-        ensures { self.new ≡ after_deletion self.old r (has_key key.now) }
+        requires { r < length self.old.content.references }
+        ensures { self.new.content ≡ after_deletion self.old.content r (has_key key.now) }
     {
         // Where no entry has the key there is nothing to remove.
         let _ = self.del_key(r, key);
@@ -103,18 +115,20 @@ impl Refs {
         value: &[u8],
         maker: &mut M,
     ) -> Result<(), TableFault>
-        requires { r < length self.old.references }
-        ensures ok { OnOk result
-            (self.new ≡ after_fit_change self.old r (NewValue key.now value.now)) }
+        requires r { r < length self.old.content.references }
+        requires fit { is_fit (NewValue key.now value.now) ≡ true }
+        ensures ok { OnOk result (self.new.content
+            ≡ after_fit_change self.old.content r (NewValue key.now value.now)) }
         ensures kept { OnErr result (self.new ≡ self.old) }
-        ensures large { ChangeCountsLarge result (IsReadBy self.old.heads r key.now)
-            (record { too_large = M.too_large maker.old; large = M.large maker.old })
-            (record { too_large = M.too_large maker.new; large = M.large maker.new }) }
+        ensures large { ChangeCountsLarge result (ChangeAsksFor self.old.content.heads
+            (searched_lists self.old.content) r (NewValue key.now value.now))
+            (M.state maker.old) (M.state maker.new) }
     {
-        match self.set_key(r, key, value) {
-            Err(RefFault::KeyNotFound) => self.append_pair(r, key, value, maker),
-            answer => table_answer(answer),
+        let answer = self.set_key(r, key, value);
+        if lacks_key(&answer) {
+            return self.append_pair(r, key, value, maker);
         }
+        table_answer(answer)
     }
 
     /// A change that is fit.
@@ -124,14 +138,15 @@ impl Refs {
         change: Change<'_>,
         maker: &mut M,
     ) -> Result<(), TableFault>
-        requires { r < length self.old.references }
+        requires r { r < length self.old.content.references }
+        requires fit { is_fit (change_of change) ≡ true }
         ensures ok { OnOk result
-            (self.new ≡ after_fit_change self.old r (change_of change.entry)) }
+            (self.new.content ≡ after_fit_change self.old.content r (change_of change.entry)) }
         ensures kept { OnErr result (self.new ≡ self.old) }
         ensures large { ChangeCountsLarge result
-            (ChangeAsksFor self.old.heads r (change_of change.entry))
-            (record { too_large = M.too_large maker.old; large = M.large maker.old })
-            (record { too_large = M.too_large maker.new; large = M.large maker.new }) }
+            (ChangeAsksFor self.old.content.heads (searched_lists self.old.content) r
+            (change_of change.entry))
+            (M.state maker.old) (M.state maker.new) }
     {
         match change {
             Change::Add { key } => self.append_absent(r, key, maker),

@@ -6,5 +6,5 @@ pub show_holds-requires-clause-heads : goal.show_holds-requires-clause-heads
 show_holds-requires-clause-heads c =
     let found : c.has_cond_heads.result ≡ true = search rules in
     rw c.in-Ok.ensures.built
-    (cond_has_heads c.args.filled.now.refs.heads c.args.cond.now
+    (cond_has_heads c.args.filled.now.refs.content.heads c.args.cond.now
     (rw c.as_slice.ensures at (c.has_cond_heads.ensures found)))

@@ -7,6 +7,6 @@ abbrev pub invariant-loop-piece : goal.invariant-loop-piece
 invariant-loop-piece l = record {
   next : (goal.iterator-loop-piece).can_next l.piece-iterator;
   finite : (goal.iterator-loop-piece).is_finite l.piece-iterator;
-  within : l.r < length l.refs.references;
-  none : HasHadNone l.refs l.r;
+  within : l.r < length l.refs.content.references;
+  none : HasHadNone l.refs.content l.r;
 }

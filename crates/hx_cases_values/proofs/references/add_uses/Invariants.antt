@@ -8,6 +8,6 @@ abbrev pub invariant-loop-piece : goal.invariant-loop-piece
 invariant-loop-piece l = record {
   next : (goal.iterator-loop-piece).can_next l.piece-iterator;
   finite : (goal.iterator-loop-piece).is_finite l.piece-iterator;
-  references : l.refs.references ≡ l.fn.refs.references;
-  head : (method : By) → IsHeadBy l.fn.refs.heads 0 method → IsHeadBy l.refs.heads 0 method;
+  references : l.refs.content.references ≡ l.fn.refs.content.references;
+  head : (method : By) → IsHeadBy l.fn.refs.content.heads 0 method → IsHeadBy l.refs.content.heads 0 method;
 }

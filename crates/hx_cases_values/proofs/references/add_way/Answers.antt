@@ -15,5 +15,5 @@ head_stays None h (g ∷ heads) method is = record { head = omega arith; by = is
 pub returns-clause-head : goal.returns-clause-head
 returns-clause-head c method is =
     rw c.in_ok-add_use.ensures.ok
-    (head_stays (use_with c.in_ok-by.by c.in_ok-by.ci (uses_of c.args.refs.now.heads 0))
-    (record { by = c.in_ok-by.by; ci = c.in_ok-by.ci; list = 0 }) c.args.refs.now.heads method is)
+    (head_stays (use_with c.in_ok-by.by c.in_ok-by.ci (uses_of c.args.refs.now.content.heads 0))
+    (record { by = c.in_ok-by.by; ci = c.in_ok-by.ci; list = 0 }) c.args.refs.now.content.heads method is)

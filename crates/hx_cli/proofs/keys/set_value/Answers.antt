@@ -22,5 +22,5 @@ returns-in-Some-number_after_sign-clause-refused c =
 pub returns-in-None-clause-refused : goal.returns-in-None-clause-refused
 returns-in-None-clause-refused c =
     let says = c.in-Some.ensures.cases in
-    rw (meant_number c.args.word.now c.in-Some.rest.now None says.0 says.1 c.in-None.ensures, none_valued c.args.refs.now c.args.r c.args.value.now c.requires)
+    rw (meant_number c.args.word.now c.in-Some.rest.now None says.0 says.1 c.in-None.ensures, none_valued c.args.refs.now.content c.args.r c.args.value.now c.requires)
     refl

@@ -8,4 +8,4 @@ use Rattle.hx_cli.proofs.showing.entries_reply.Given as goal
 abbrev pub invariant-loop-entry : goal.invariant-loop-entry
 invariant-loop-entry l =
     with_lines l.reply (map (entry_text l.is_map) l.entries)
-    ≡ record { code = 0; lines = map (entry_text l.is_map) (entries_in l.refs l.r l.fn.ver) }
+    ≡ record { code = 0; lines = map (entry_text l.is_map) (entries_in l.refs.content l.r l.fn.ver) }

@@ -17,8 +17,8 @@ invariant-loop-rest g l =
       asked : (text : ExpressionText)
           → PairsAskFor demands l.count l.serial l.rest text
           → PairsAskFor demands l.fn.count l.fn.serial l.pairs text;
-      too_large : g.M.ReMaker.too_large l.maker ≡ g.M.ReMaker.too_large l.fn.maker;
-      large : g.M.ReMaker.large l.maker ≡ g.M.ReMaker.large l.fn.maker;
+      too_large : (g.M.ReMaker.state l.maker).too_large ≡ (g.M.ReMaker.state l.fn.maker).too_large;
+      large : (g.M.ReMaker.state l.maker).large ≡ (g.M.ReMaker.state l.fn.maker).large;
     }
 
 abbrev pub decreases-loop-rest : goal.decreases-loop-rest

@@ -10,8 +10,8 @@ invariant-loop-rest g l = record {
   parsed : l.patterns.items ++ pattern_texts l.rest l.key ≡ pattern_texts l.uses l.key;
   refused : refuses_key l.rest l.key ≡ refuses_key l.uses l.key;
   asked : (text : ExpressionText) → IsReadAs l.rest l.key text → IsReadAs l.uses l.key text;
-  too_large : g.M.ReMaker.too_large l.maker ≡ g.M.ReMaker.too_large l.fn.maker;
-  large : g.M.ReMaker.large l.maker ≡ g.M.ReMaker.large l.fn.maker;
+  too_large : (g.M.ReMaker.state l.maker).too_large ≡ (g.M.ReMaker.state l.fn.maker).too_large;
+  large : (g.M.ReMaker.state l.maker).large ≡ (g.M.ReMaker.state l.fn.maker).large;
 }
 
 abbrev pub decreases-loop-rest : goal.decreases-loop-rest

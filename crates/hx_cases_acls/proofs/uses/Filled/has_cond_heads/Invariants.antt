@@ -5,4 +5,4 @@ use Rattle.hx_cases_acls.proofs.uses.Filled.has_cond_heads.Given as goal
 -- where the heads of those that are left are there, all are
 abbrev pub invariant-loop-conj : goal.invariant-loop-conj
 invariant-loop-conj l =
-    HaveConjHeads l.self.refs.heads (drop l.conj-index l.cond) → HaveConjHeads l.self.refs.heads l.cond
+    HaveConjHeads l.self.refs.content.heads (drop l.conj-index l.cond) → HaveConjHeads l.self.refs.content.heads l.cond

@@ -8,19 +8,19 @@ pub returns-in-Err-BadCommand-clause-reply : goal.returns-in-Err-BadCommand-clau
 returns-in-Err-BadCommand-clause-reply g c =
     let says = c.in-Err-BadCommand.ensures in
     let bad = ap Err c.in-Err-BadCommand.field-0-is in
-    rw (bad_line c.args.session (words_of c.args.text.now) c.args.self.now c.args.refs.now (says.bad_command bad).0 (says.not_found bad))
+    rw (bad_line c.args.session (words_of c.args.text.now) c.args.self.now c.args.refs.now.content (says.bad_command bad).0 (says.not_found bad))
     (ap Some c.new.ensures)
 
 pub returns-in-Err-BadCommand-clause-payloads : goal.returns-in-Err-BadCommand-clause-payloads
 returns-in-Err-BadCommand-clause-payloads g c =
     let says = c.in-Err-BadCommand.ensures in
     let bad = ap Err c.in-Err-BadCommand.field-0-is in
-    rw (bad_line c.args.session (words_of c.args.text.now) c.args.self.now c.args.refs.now (says.bad_command bad).0 (says.not_found bad))
+    rw (bad_line c.args.session (words_of c.args.text.now) c.args.self.now c.args.refs.now.content (says.bad_command bad).0 (says.not_found bad))
     refl
 
 pub returns-in-Err-BadCommand-clause-refs : goal.returns-in-Err-BadCommand-clause-refs
 returns-in-Err-BadCommand-clause-refs g c =
     let says = c.in-Err-BadCommand.ensures in
     let bad = ap Err c.in-Err-BadCommand.field-0-is in
-    rw (bad_line c.args.session (words_of c.args.text.now) c.args.self.now c.args.refs.now (says.bad_command bad).0 (says.not_found bad))
+    rw (bad_line c.args.session (words_of c.args.text.now) c.args.self.now c.args.refs.now.content (says.bad_command bad).0 (says.not_found bad))
     refl

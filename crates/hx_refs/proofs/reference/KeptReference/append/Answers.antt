@@ -3,7 +3,7 @@ use Rattle.std.proofs.lemmas.Result.{on_ok_weaker}
 use Rattle.hx_refs.specs.References.{Reference}
 use Rattle.hx_refs.specs.Versions.{with_added}
 use Rattle.hx_refs.specs.contracts.reference.KeptReference.{the_view}
-use Rattle.hx_refs.proofs.ReferenceLemmas.{few_added, kept_after, pairs_shown, unchanged_between, version_here}
+use Rattle.hx_refs.proofs.ReferenceLemmas.{few_added, kept_after, pairs_shown, rising_with_added, unchanged_between, version_here}
 use Rattle.hx_refs.proofs.VersionLemmas.{either, on_err}
 use Rattle.hx_refs.proofs.reference.KeptReference.append.Goals as goal
 
@@ -17,11 +17,12 @@ invariant_of-self c =
     let few = few_added c.args.number kept pairs.0 c.args.added c.self.invariant.counted added.0 added.1 in
     let read = c.append.ensures.read inside.uses.items c.self.invariant.read (rw (← c.self.view_is) at c.requires.read) in
     let counted = c.append.ensures.counted inside.curr inside.next c.self.invariant.numbers c.self.invariant.counted few in
+    let rising = rising_with_added c.args.number kept pairs.0 c.args.added c.self.invariant.rising added.0 added.1 in
     either c.append.result
     (λ changes. kept_after inside.uses.items inside.curr inside.next c.args.number (with_added c.args.added) kept
-    c.append.new.versions.items c.self.invariant has.0 has.1 changes read counted)
+    c.append.new.versions.items c.self.invariant has.0 has.1 changes read counted rising)
     (λ same. kept_after inside.uses.items inside.curr inside.next c.args.number (λ version. version) kept
-    c.append.new.versions.items c.self.invariant has.0 has.1 same read counted)
+    c.append.new.versions.items c.self.invariant has.0 has.1 same read counted (c.self.invariant.rising c.args.number))
     c.append.ensures.ok c.append.ensures.err
 
 pub returns-clause-ok : goal.returns-clause-ok

@@ -11,7 +11,7 @@ invariant_of-self c =
     let has = rw (← c.self.view_is) at c.in-Some.ensures.version in
     kept_after inside.uses.items inside.curr inside.next c.in-Some.number (changed_entries (λ _. [])) inside.versions.items c.clear.new.versions.items
     c.self.invariant has.0 has.1 c.clear.ensures.changes (c.clear.ensures.read inside.uses.items c.self.invariant.read)
-    (c.clear.ensures.counted c.self.invariant.counted)
+    (c.clear.ensures.counted c.self.invariant.counted) tt
 
 pub returns-in-Some : goal.returns-in-Some
 returns-in-Some c =

@@ -3,8 +3,9 @@ use Rattle.std.specs.Prelude.{None}
 use Rattle.std.proofs.lemmas.Result.{on_ok_weaker}
 use Rattle.hx_sample.specs.Changes.{with_value}
 use Rattle.hx_refs.specs.References.{Reference}
-use Rattle.hx_refs.specs.Versions.{changed_entries, is_chosen}
+use Rattle.hx_refs.specs.Versions.{changed_entries, is_chosen, version_numbered}
 use Rattle.hx_refs.specs.contracts.reference.KeptReference.{the_view}
+use Rattle.hx_refs.proofs.NumberLemmas.{rising_with}
 use Rattle.hx_refs.proofs.ReferenceLemmas.{change_shown, kept_after, searched_place, unchanged_between}
 use Rattle.hx_refs.proofs.VersionLemmas.{either, on_err}
 use Rattle.hx_refs.proofs.reference.KeptReference.set_values.Goals as goal
@@ -17,9 +18,10 @@ invariant_of-self c =
     either c.set.result
     (λ changes. kept_after inside.uses.items inside.curr inside.next inside.curr
     (changed_entries (map (with_value (is_chosen c.args.choice.now) c.args.value.now))) inside.versions.items c.set.new.versions.items c.self.invariant
-    (omega arith) c.self.invariant.order changes read counted)
+    (omega arith) c.self.invariant.order changes read counted
+    (rising_with inside.curr (is_chosen c.args.choice.now) c.args.value.now (version_numbered inside.curr inside.versions.items) (c.self.invariant.rising inside.curr)))
     (λ same. kept_after inside.uses.items inside.curr inside.next inside.curr (λ version. version) inside.versions.items
-    c.set.new.versions.items c.self.invariant (omega arith) c.self.invariant.order same read counted)
+    c.set.new.versions.items c.self.invariant (omega arith) c.self.invariant.order same read counted (c.self.invariant.rising inside.curr))
     c.set.ensures.ok c.set.ensures.err
 
 pub returns-clause-ok : goal.returns-clause-ok

@@ -12,10 +12,10 @@ returns-then-is_named c =
     ∙ (ap (answer c.loop-rest.position) c.side_fault.ensures
     ∙ (first_named (named_number word) word c.args.side c.loop-rest.position c.loop-rest.rest.now c.reference-item.result
     c.in-len1-up.len_at_least c.reference-item.is named
-    ∙ (c.loop-rest.invariant.found ∙ resolution_is c.args.self.now word c.args.side)))
+    ∙ (c.loop-rest.invariant.found ∙ resolution_is c.args.self.now.content word c.args.side)))
 
 pub returns : goal.returns
 returns c =
     let word = c.args.word.now in
     none_named (named_number word) word c.args.side c.loop-rest.position c.loop-rest.rest.now c.in_default.len_below
-    ∙ (c.loop-rest.invariant.found ∙ resolution_is c.args.self.now word c.args.side)
+    ∙ (c.loop-rest.invariant.found ∙ resolution_is c.args.self.now.content word c.args.side)

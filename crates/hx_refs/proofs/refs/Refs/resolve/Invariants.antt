@@ -9,7 +9,7 @@ abbrev pub invariant-loop-rest : goal.invariant-loop-rest
 invariant-loop-rest l = record {
   found :
       resolution_from (named_number l.word) l.word l.side l.position (shown_references l.rest)
-      ≡ resolution_from (named_number l.word) l.word l.side 0 l.self.references;
+      ≡ resolution_from (named_number l.word) l.word l.side 0 l.self.content.references;
   few : l.position + length l.rest ≤ 65536;
 }
 

@@ -10,8 +10,8 @@ use Rattle.hx_refs.proofs.refs.RefsTables.change.Goals as goal
 pub returns-clause-lists : goal.returns-clause-lists
 returns-clause-lists g c =
     let asked = change_of c.args.change in
-    let within = rw (length-map c.args.self.now.references (λ reference. version_entries reference None)) at c.requires.table in
+    let within = rw (length-map c.args.self.now.content.references (λ reference. version_entries reference None)) at c.requires.table in
     let fit : is_fit asked ≡ true = cc (c.is_fit.ensures, c.if-not-is_fit.false) in
     on_ok_weaker c.change_fit.result
-    (λ after. changed_lists c.args.self.now c.change_fit.new.self c.args.table asked within fit after)
+    (λ after. changed_lists c.args.self.now.content c.change_fit.new.self.content c.args.table asked within fit after)
     c.change_fit.ensures.ok

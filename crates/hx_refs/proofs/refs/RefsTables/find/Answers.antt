@@ -22,8 +22,8 @@ find-requires g c =
     (record { by = known.by; ci = known.ci; list = known.list }) c.index-reference.result.now
     c.self.invariant head (rw (← c.known.view_is) at c.index-known.ensures) c.index-reference.ensures).1
 
-pub returns-in-Some : goal.returns-in-Some
-returns-in-Some g c =
+pub returns-in-Some-clause-found : goal.returns-in-Some-clause-found
+returns-in-Some-clause-found g c =
     let known = c.known.inside in
     let heads = c.self.inside.heads.items in
     let kept = c.self.inside.references.items in
@@ -33,13 +33,13 @@ returns-in-Some g c =
     (record { by = known.by; ci = known.ci; list = known.list }) c.index-reference.result.now
     c.self.invariant head read c.index-reference.ensures in
     rw (← c.self.view_is)
-    (ap Some c.hit.ensures ∙ (rw c.in-Some.is at c.in_ok-entry.ensures)
+    (ap Some c.hit.ensures ∙ (rw c.in-Some.is at c.in_ok-entry.ensures.found)
     ∙ found_here c.self.inside.limits heads kept c.args.head
     (record { by = known.by; ci = known.ci; list = known.list }) c.index-reference.result.now
     (value_of c.args.sample.now) head read is.0)
 
-pub returns-in-None : goal.returns-in-None
-returns-in-None g c =
+pub returns-in-None-clause-found : goal.returns-in-None-clause-found
+returns-in-None-clause-found g c =
     let known = c.known.inside in
     let heads = c.self.inside.heads.items in
     let kept = c.self.inside.references.items in
@@ -49,7 +49,7 @@ returns-in-None g c =
     (record { by = known.by; ci = known.ci; list = known.list }) c.index-reference.result.now
     c.self.invariant head read c.index-reference.ensures in
     rw (← c.self.view_is)
-    ((rw c.in-None.is at c.in_ok-entry.ensures)
+    ((rw c.in-None.is at c.in_ok-entry.ensures.found)
     ∙ found_here c.self.inside.limits heads kept c.args.head
     (record { by = known.by; ci = known.ci; list = known.list }) c.index-reference.result.now
     (value_of c.args.sample.now) head read is.0)

@@ -1,0 +1,92 @@
+-- The numbers of entries rise, and go on rising after changes.
+use Rattle.std.proofs.Common.{◌≡◌, ℕ, ◌+◌, ◌*◌, ◌^◌, ◌≤◌, Bool, List, [], ◌∷◌, ◌++◌, length, drop, map, refl, arith, inl, inr}
+use Rattle.std.proofs.lemmas.Bool.{cases_Bool, cases_eq, cases_lt}
+use Rattle.hx_sample.specs.Changes.{with_value, without_chosen}
+use Rattle.hx_sample.specs.Find.{Entry}
+use Rattle.hx_refs.specs.Additions.{new_entries, Pair}
+use Rattle.hx_refs.specs.Numbers.{HasRisingNumbers, RiseBetween}
+use Rattle.hx_refs.specs.References.{Version}
+use Rattle.hx_refs.specs.Versions.{changed_entries, version_numbered, with_new_entries, AreNumbered, AreRising, ChangesVersion, IsPlace}
+use Rattle.hx_refs.specs.declared.versions.KeptVersion.{KeptVersion}
+use Rattle.hx_refs.proofs.VersionLemmas.{dropped_others, none_below}
+
+-- ---- lists of entries
+
+rise_from : (low least last : ℕ) (entries : List Entry) → low ≤ least → RiseBetween least last entries
+    → RiseBetween low last entries
+rise_from low least last [] le rise = tt
+rise_from low least last (entry ∷ entries) le rise = (omega (arith, rise.0, le), rise.1, rise.2)
+
+-- entries that are removed
+rise_without : (test : Entry → Bool) (least last : ℕ) (entries : List Entry) → RiseBetween least last entries
+    → RiseBetween least last (without_chosen test entries)
+rise_without test least last [] rise = tt
+rise_without test least last (entry ∷ entries) rise =
+    let rest = rise_without test entry.number last entries rise.2 in
+    elim (cases_Bool (test entry)) [
+      | inl chosen ↦ rw chosen (rise_from least entry.number last (without_chosen test entries) (omega (arith, rise.0)) rest)
+      | inr stays ↦ rw stays (rise.0, rise.1, rest)
+    ]
+
+-- values that are changed
+same_number : (test : Entry → Bool) (value : List ℕ) (entry : Entry) → (with_value test value entry).number ≡ entry.number
+same_number test value entry = elim (cases_Bool (test entry)) [
+  | inl chosen ↦ rw chosen refl
+  | inr stays ↦ rw stays refl
+]
+
+rise_with : (test : Entry → Bool) (value : List ℕ) (least last : ℕ) (entries : List Entry) → RiseBetween least last entries
+    → RiseBetween least last (map (with_value test value) entries)
+rise_with test value least last [] rise = tt
+rise_with test value least last (entry ∷ entries) rise =
+    rw (same_number test value entry)
+    (rise.0, rise.1, rise_with test value entry.number last entries rise.2)
+
+-- entries that are added
+rise_on : (least middle last : ℕ) (entries more : List Entry) → least ≤ middle → middle ≤ last
+    → RiseBetween least middle entries → RiseBetween middle last more → RiseBetween least last (entries ++ more)
+rise_on least middle last [] more low high first second = rise_from least middle last more low second
+rise_on least middle last (entry ∷ entries) more low high first second =
+    (first.0, omega (arith, first.1, high), rise_on entry.number middle last entries more first.1 high first.2 second)
+
+new_rise : (number serial last : ℕ) (pairs : List Pair) → last ≡ number * 2 ^ 32 + (serial + length pairs)
+    → RiseBetween (number * 2 ^ 32 + serial) last (new_entries number serial pairs)
+new_rise number serial last [] is = tt
+new_rise number serial last (pair ∷ pairs) is =
+    (omega arith, omega (arith, is), new_rise number (serial + 1) last pairs (omega (arith, is)))
+
+-- ---- versions
+
+pub rising_added : (number : ℕ) (pairs : List Pair) (version : Version) → HasRisingNumbers number version
+    → HasRisingNumbers number (with_new_entries number pairs version)
+rising_added number pairs version rise =
+    rise_on (number * 2 ^ 32) (number * 2 ^ 32 + version.serial) (number * 2 ^ 32 + (version.serial + length pairs))
+    version.entries (new_entries number version.serial pairs) (omega arith) (omega arith) rise
+    (new_rise number version.serial (number * 2 ^ 32 + (version.serial + length pairs)) pairs refl)
+
+pub rising_without : (number : ℕ) (test : Entry → Bool) (version : Version) → HasRisingNumbers number version
+    → HasRisingNumbers number (changed_entries (without_chosen test) version)
+rising_without number test version rise =
+    rise_without test (number * 2 ^ 32) (number * 2 ^ 32 + version.serial) version.entries rise
+
+pub rising_with : (number : ℕ) (test : Entry → Bool) (value : List ℕ) (version : Version) → HasRisingNumbers number version
+    → HasRisingNumbers number (changed_entries (map (with_value test value)) version)
+rising_with number test value version rise =
+    rise_with test value (number * 2 ^ 32) (number * 2 ^ 32 + version.serial) version.entries rise
+
+-- ---- the versions that are kept
+
+pub rising_after : (first last number : ℕ) (change : Version → Version) (old new : List KeptVersion)
+    → ChangesVersion first last number change old new → AreRising old
+    → HasRisingNumbers number (change (version_numbered number old)) → AreRising new
+rising_after first last number change old new changes rising here other = elim (cases_eq other number) [
+  | inl same ↦ rw (same, changes.changed) here
+  | inr apart ↦ rw (changes.others other apart) (rising other)
+]
+
+pub rising_dropped : (number place last : ℕ) (kept : List KeptVersion) → IsPlace number place kept
+    → AreNumbered number last (drop place kept) → AreRising kept → AreRising (drop place kept)
+rising_dropped number place last kept is all rising other = elim (cases_lt other number) [
+  | inl below ↦ rw (none_below other number last (drop place kept) all below) tt
+  | inr above ↦ rw (dropped_others number place other kept is above) (rising other)
+]

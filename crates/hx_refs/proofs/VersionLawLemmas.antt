@@ -1,0 +1,122 @@
+-- What is searched after changes of versions that aren't, and after a commit.
+use Rattle.std.proofs.Common.{◌≡◌, ◌≢◌, ℕ, zero, suc, ◌-◌, ◌<◌, ◌≤◌, Bool, true, false, List, [], ◌∷◌, ◌++◌, length, drop, refl, ap, sym, ◌∙◌, arith, inl, inr}
+use Rattle.std.specs.Prelude.{Option, None, Some, IfSome, slice_get, slice_set, ◌&&◌, nat_le, nat_lt}
+use Rattle.std.specs.Option.{option_map_or}
+use Rattle.std.proofs.lemmas.Bool.{and_parts, cases_Bool, le-leb, leb-true, ltb-true}
+use Rattle.std.proofs.lemmas.Option.{slice_get_cases}
+use Rattle.hx_refs.specs.Additions.{after_addition, Pair}
+use Rattle.hx_refs.specs.Changes.{after_clearing, after_commit, after_preparation, commit_fault, fault_at, fault_unless, with_current_version, with_new_version, with_version}
+use Rattle.hx_refs.specs.Numbers.{IsNotSearched}
+use Rattle.hx_refs.specs.References.{changed_at, empty_version, entries_in, searched_lists, version_entries, with_reference, Reference, References, Version}
+use Rattle.hx_refs.specs.Versions.{changed_entries, with_new_entries}
+use Rattle.hx_refs.specs.declared.fault.RefFault.{RefFault}
+use Rattle.hx_refs.specs.declared.fault.RefFault.TheVariants.{BadVersion}
+use Rattle.hx_refs.proofs.ListLemmas.{get_set_other, get_set_same}
+use Rattle.hx_refs.proofs.TableLemmas.{list_at, lists_with, set_same}
+
+-- ---- a reference
+
+first_left : {A : Type 0} → (n : ℕ) (xs : List A) → slice_get (drop n xs) 0 ≡ slice_get xs n
+first_left zero xs = refl
+first_left (suc n) [] = refl
+first_left (suc n) (x ∷ xs) = first_left n xs
+
+get_changed_other : {A : Type 0} → (xs : List A) (r q : ℕ) (change : A → A) → r ≢ q
+    → slice_get (changed_at r change xs) q ≡ slice_get xs q
+get_changed_other {A} xs r q change other = go (slice_get xs r)
+  where
+    go : (found : Option A) → slice_get (option_map_or (λ x. slice_set xs r (change x)) found xs) q ≡ slice_get xs q
+    go None = refl
+    go (Some x) = get_set_other xs r q (change x) other
+
+-- a change of a version that isn't searched
+searched_apart : (number : ℕ) (change : Version → Version) (old : Reference) → number ≢ old.curr
+    → version_entries (with_version (Some number) change old) None ≡ version_entries old None
+searched_apart number change old apart = elim (cases_Bool (nat_le old.curr number && nat_le number old.next)) [
+  | inl has ↦
+      let low : old.curr ≤ number = leb-true old.curr number (and_parts (nat_le old.curr number) (nat_le number old.next) has).0 in
+      rw (has, get_changed_other old.versions (number - old.curr) 0 change (λ e. omega (arith, e, low, apart))) refl
+  | inr none ↦ rw none refl
+]
+
+-- one version more
+searched_prepared : (old : Reference) → version_entries (with_new_version old) None ≡ version_entries old None
+searched_prepared old = go old.versions
+  where
+    go : (versions : List Version)
+        → option_map_or (λ (version : Version). version.entries) (slice_get (versions ++ empty_version ∷ []) 0) []
+        ≡ option_map_or (λ (version : Version). version.entries) (slice_get versions 0) []
+    go [] = refl
+    go (version ∷ versions) = refl
+
+no_fault : (fine : Bool) (fault : RefFault) → fault_unless fine fault ≡ None → fine ≡ true
+no_fault true fault none = refl
+no_fault false fault none = absurd (cc)
+
+-- a commit that isn't refused
+searched_committed : (number : ℕ) (old : Reference) → commit_fault number old ≡ None
+    → version_entries (with_current_version number old) None ≡ version_entries old (Some number)
+searched_committed number old none =
+    let fine =
+    and_parts (nat_lt old.curr number) (nat_le number old.next) (no_fault (nat_lt old.curr number && nat_le number old.next) BadVersion none) in
+    let low : old.curr < number = ltb-true old.curr number fine.0 in
+    let has : nat_le old.curr number ≡ true = le-leb old.curr number (omega (arith, low)) in
+    rw (has, fine.1, first_left (number - old.curr) old.versions) refl
+
+-- ---- the references
+
+-- a change of a reference that leaves what is searched of it
+lists_stay : (refs : References) (r : ℕ) (change : Reference → Reference)
+    → IfSome (slice_get refs.references r) (λ old. version_entries (change old) None ≡ version_entries old None)
+    → searched_lists (with_reference r change refs) ≡ searched_lists refs
+lists_stay refs r change same = elim (slice_get_cases refs.references r).1 [
+  | inl w ↦
+      let stays : version_entries (change w.0) None ≡ version_entries w.0 None = rw w.2 at same in
+      lists_with refs r w.0 change w.2
+      ∙ rw stays (set_same (searched_lists refs) r (version_entries w.0 None) (list_at refs r w.0 w.2))
+  | inr past ↦ rw past.1 refl
+]
+
+if_some : {A : Type 0} {P Q : A → Type 0} (found : Option A) → ((x : A) → P x → Q x) → IfSome found P → IfSome found Q
+if_some None f p = tt
+if_some (Some x) f p = f x p
+
+always : {A : Type 0} {Q : A → Type 0} (found : Option A) → ((x : A) → Q x) → IfSome found Q
+always None f = tt
+always (Some x) f = f x
+
+pub lists_after_addition : (refs : References) (r number : ℕ) (pairs : List Pair) → IsNotSearched refs r number
+    → searched_lists (after_addition refs r (Some number) pairs) ≡ searched_lists refs
+lists_after_addition refs r number pairs apart =
+    lists_stay refs r (with_version (Some number) (with_new_entries number pairs))
+    (if_some (slice_get refs.references r) (searched_apart number (with_new_entries number pairs)) apart)
+
+pub lists_after_clearing : (refs : References) (r number : ℕ) → IsNotSearched refs r number
+    → searched_lists (after_clearing refs r (Some number)) ≡ searched_lists refs
+lists_after_clearing refs r number apart =
+    lists_stay refs r (with_version (Some number) (changed_entries (λ _. [])))
+    (if_some (slice_get refs.references r) (searched_apart number (changed_entries (λ _. []))) apart)
+
+pub lists_after_preparation : (refs : References) (r : ℕ) → searched_lists (after_preparation refs r) ≡ searched_lists refs
+lists_after_preparation refs r =
+    lists_stay refs r with_new_version (always (slice_get refs.references r) searched_prepared)
+
+pub list_after_commit : (refs : References) (r number : ℕ) → r < length refs.references
+    → fault_at refs r (commit_fault number) ≡ None
+    → slice_get (searched_lists (after_commit refs r number)) r ≡ Some (entries_in refs r (Some number))
+list_after_commit refs r number within none = elim (slice_get_cases refs.references r).1 [
+  | inl w ↦
+      let fine : commit_fault number w.0 ≡ None = rw w.2 at none in
+      rw (lists_with refs r w.0 (with_current_version number) w.2, get_set_same (searched_lists refs) r (version_entries w.0 None) (version_entries (with_current_version number w.0) None) (list_at refs r w.0 w.2), w.2)
+      (ap Some (searched_committed number w.0 fine))
+  | inr past ↦ absurd (omega (arith, past.0, within))
+]
+
+pub lists_after_commit : (refs : References) (r number other : ℕ) → other ≢ r
+    → slice_get (searched_lists (after_commit refs r number)) other ≡ slice_get (searched_lists refs) other
+lists_after_commit refs r number other apart = elim (slice_get_cases refs.references r).1 [
+  | inl w ↦
+      rw (lists_with refs r w.0 (with_current_version number) w.2)
+      (get_set_other (searched_lists refs) r other (version_entries (with_current_version number w.0) None) (λ e. apart (sym e)))
+  | inr past ↦ rw past.1 refl
+]
