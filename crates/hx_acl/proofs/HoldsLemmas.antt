@@ -5,6 +5,7 @@ use Rattle.std.specs.List.{list_any}
 use Rattle.std.specs.Str.{bytes_eq}
 use Rattle.std.proofs.lemmas.List.{at_drop_all}
 use Rattle.std.proofs.lemmas.List.Folds.{list_any-append}
+use Rattle.hx_ast.specs.declared.statement.Decl.{Decl}
 use Rattle.hx_fetch.specs.World.{Context}
 use Rattle.hx_sample.specs.Find.{Entry}
 use Rattle.hx_sample.specs.Tables.{TableHead}
@@ -12,17 +13,16 @@ use Rattle.hx_sample.specs.declared.sample.Value.{Value}
 use Rattle.hx_text.specs.declared.kinds.By.{By}
 use Rattle.hx_acl.specs.Holds.{declared_matches, is_declared, name_holds}
 use Rattle.hx_acl.specs.Matching.{occurrence_matches, test_matches}
-use Rattle.hx_acl.specs.Tests.{AclTest}
 
--- a test of the ACL of this name
-abbrev is_of : List ℕ → List ℕ × AclTest → Bool
+-- a declaration of the ACL of this name
+abbrev is_of : List ℕ → List ℕ × Decl → Bool
 is_of name declared = bytes_eq declared.0 name
 
--- a name that is declared doesn't hold where none of its tests is left to match
-pub none_matched : (context : Context) (heads : List TableHead) (lists : List (List Entry)) (acls : List (List ℕ × AclTest)) (name : List ℕ) (i : ℕ) → length acls ≤ i → is_declared acls name ≡ true → declared_matches context heads lists (drop i acls) name ≡ declared_matches context heads lists acls name → false ≡ name_holds context heads lists acls name
+-- a name that is declared doesn't hold where none of its declarations is left to match
+pub none_matched : (context : Context) (heads : List TableHead) (lists : List (List Entry)) (acls : List (List ℕ × Decl)) (name : List ℕ) (i : ℕ) → length acls ≤ i → is_declared acls name ≡ true → declared_matches context heads lists (drop i acls) name ≡ declared_matches context heads lists acls name → false ≡ name_holds context heads lists acls name
 none_matched context heads lists acls name i all declared rest =
     let none : declared_matches context heads lists (drop i acls) name ≡ false =
-    at_drop_all (λ (xs : List (List ℕ × AclTest)). declared_matches context heads lists xs name) acls i all in
+    at_drop_all (λ (xs : List (List ℕ × Decl)). declared_matches context heads lists xs name) acls i all in
     rw declared (sym none ∙ rest)
 
 -- no occurrence that is missing matches
@@ -44,14 +44,14 @@ same_bytes : (name : List ℕ) → bytes_eq name name ≡ true
 same_bytes name = search rules
 
 -- a further declaration of a name
-pub declared_more : (context : Context) (heads : List TableHead) (lists : List (List Entry)) (acls : List (List ℕ × AclTest)) (name : List ℕ) (test : AclTest) → name_holds context heads lists (acls ++ (name, test) ∷ []) name ≡ (declared_matches context heads lists acls name || test_matches context heads lists test)
-declared_more context heads lists acls name test =
-    let known : is_declared (acls ++ (name, test) ∷ []) name ≡ true =
-    list_any-append (is_of name) acls ((name, test) ∷ [])
+pub declared_more : (context : Context) (heads : List TableHead) (lists : List (List Entry)) (acls : List (List ℕ × Decl)) (name : List ℕ) (decl : Decl) → name_holds context heads lists (acls ++ (name, decl) ∷ []) name ≡ (declared_matches context heads lists acls name || test_matches context heads lists decl)
+declared_more context heads lists acls name decl =
+    let known : is_declared (acls ++ (name, decl) ∷ []) name ≡ true =
+    list_any-append (is_of name) acls ((name, decl) ∷ [])
     ∙ ap (λ (b : Bool). list_any (is_of name) acls || (b || false)) (same_bytes name)
     ∙ or_true (list_any (is_of name) acls) in
-    let joined : declared_matches context heads lists (acls ++ (name, test) ∷ []) name ≡ (declared_matches context heads lists acls name || test_matches context heads lists test) =
-    list_any-append (λ declared. is_of name declared && test_matches context heads lists declared.1) acls ((name, test) ∷ [])
-    ∙ ap (λ (b : Bool). declared_matches context heads lists acls name || ((b && test_matches context heads lists test) || false)) (same_bytes name)
-    ∙ last_or (declared_matches context heads lists acls name) (test_matches context heads lists test) in
+    let joined : declared_matches context heads lists (acls ++ (name, decl) ∷ []) name ≡ (declared_matches context heads lists acls name || test_matches context heads lists decl) =
+    list_any-append (λ declared. is_of name declared && test_matches context heads lists declared.1) acls ((name, decl) ∷ [])
+    ∙ ap (λ (b : Bool). declared_matches context heads lists acls name || ((b && test_matches context heads lists decl) || false)) (same_bytes name)
+    ∙ last_or (declared_matches context heads lists acls name) (test_matches context heads lists decl) in
     rw known joined

@@ -72,7 +72,7 @@ keys_found heads lists position head v at none =
     ∙ found_is (found_entry head.by head.ci (entries_at lists head.list) v) (list_any (λ entry. hits head.by head.ci entry.key v) (entries_at lists head.list)) none
     ∙ ap (λ (o : Option TableHead). is_some (option_and_then (λ h. found_entry h.by h.ci (entries_at lists h.list) v) o) || false) (sym at)
 
-pub keys_as_declared : (context : Context) (heads : List TableHead) (lists : List (List Entry)) (fetch : Fetch) (position : ℕ) (head : TableHead) → slice_get heads position ≡ Some head → ((entries : List Entry) (v : Value) → (found_entry head.by head.ci entries v ≡ None) ↔ (list_any (λ entry. hits head.by head.ci entry.key v) entries ≡ false)) → keyed_matches context (record { fetch = fetch; by = head.by; ci = head.ci; keys = map (λ entry. entry.key) (entries_at lists head.list) }) ≡ test_matches context heads lists (record { expr = record { fetch = fetch; convs = [] }; by = head.by; heads = position ∷ [] })
-keys_as_declared context heads lists fetch position head at none =
+pub keys_as_declared : (context : Context) (heads : List TableHead) (lists : List (List Entry)) (fetch : Fetch) (position : ℕ) (head : TableHead) (ignores_case : Bool) (words : List (List ℕ)) → slice_get heads position ≡ Some head → ((entries : List Entry) (v : Value) → (found_entry head.by head.ci entries v ≡ None) ↔ (list_any (λ entry. hits head.by head.ci entry.key v) entries ≡ false)) → keyed_matches context (record { fetch = fetch; by = head.by; ci = head.ci; keys = map (λ entry. entry.key) (entries_at lists head.list) }) ≡ test_matches context heads lists (record { expr = record { fetch = fetch; convs = [] }; by = head.by; ci = ignores_case; heads = position ∷ []; words = words })
+keys_as_declared context heads lists fetch position head ignores_case words at none =
     occurrences_same head.by (some_hits head.by head.ci (map (λ entry. entry.key) (entries_at lists head.list))) (finds_entry heads lists (position ∷ []))
     (λ v. keys_found heads lists position head v at (none (entries_at lists head.list) v)) (occurrences_of fetch context)

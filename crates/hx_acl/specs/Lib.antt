@@ -7,3 +7,4 @@ pub mod Typing
 pub mod Expressions
 -- views of the code, for the contracts of private functions
 pub mod PredefinedView
+pub mod TermView

@@ -1,8 +1,9 @@
--- When a test matches: some sample that its expression gives is one that its method accepts
+-- When a declaration matches: some sample that its expression gives is one that its method accepts
 -- (HAProxy configuration manual 2.4, section 7.1).
 use Rattle.std.specs.Prelude.{ℕ, Bool, true, false, List, Option, is_some, option_and_then}
 use Rattle.std.specs.List.{list_any}
 use Rattle.std.specs.Option.{option_map_or}
+use Rattle.hx_ast.specs.declared.statement.Decl.{Decl}
 use Rattle.hx_expr.specs.Values.{expr_values}
 use Rattle.hx_fetch.specs.World.{Context}
 use Rattle.hx_sample.specs.Cast.{cast_of}
@@ -13,7 +14,6 @@ use Rattle.hx_sample.specs.declared.sample.Value.{Value}
 use Rattle.hx_sample.specs.declared.sample.Value.TheVariants as value
 use Rattle.hx_text.specs.declared.kinds.By.{By}
 use Rattle.hx_text.specs.declared.kinds.By.TheVariants as method
-use Rattle.hx_acl.specs.Tests.{AclTest}
 
 -- Whether the method accepts a value of the type that it looks at: `found` any, `bool` true, and
 -- each other method one that some pattern hits.
@@ -35,8 +35,9 @@ abbrev pub finds_entry : List TableHead → List (List Entry) → List ℕ → V
 finds_entry heads lists positions v =
     list_any (λ position. is_some (found_at heads lists position v)) positions
 
--- whether the test matches: some occurrence of its expression does, after the converters
-abbrev pub test_matches : Context → List TableHead → List (List Entry) → AclTest → Bool
-test_matches context heads lists test =
-    list_any (occurrence_matches test.by (finds_entry heads lists test.heads))
-    (expr_values context heads lists test.expr)
+-- Whether the declaration matches: some occurrence of its expression does, after the converters.
+-- Its inline patterns stand under the last of its heads, so the words that write them play no part.
+abbrev pub test_matches : Context → List TableHead → List (List Entry) → Decl → Bool
+test_matches context heads lists decl =
+    list_any (occurrence_matches decl.by (finds_entry heads lists decl.heads))
+    (expr_values context heads lists decl.expr)

@@ -1,7 +1,6 @@
 ghost use Rattle.std.specs.Prelude.{◌≡◌, ◌↔◌, [], ◌∷◌, ◌++◌, OnOk, OnErr, IfOk, IsErrOf, true, false};
 ghost use Rattle.hx_acl.specs.Expressions.{has_expressions};
 ghost use Rattle.hx_acl.specs.Holds.{HasAclsHeads, name_holds};
-ghost use Rattle.hx_acl.specs.Tests.{test_of};
 ghost use Rattle.hx_acl.specs.Typing.{is_decl_typed};
 ghost use Rattle.hx_expr.specs.Expressions.{expression_texts};
 ghost use Rattle.hx_expr.specs.Faults.{CompileCountsLarge, CompileNamesLarge};
@@ -22,7 +21,7 @@ use std::marker::Model;
 use std::sync::ledger::Ledger;
 
 /// The ACLs that are declared (HAProxy configuration manual 2.4, section 7.1). Contracts see them
-/// as the list of what the declarations test, in their order, each with the name of its ACL.
+/// as the list of the declarations, in their order, each with the name of its ACL.
 ///
 /// A name is looked for by going through the list.
 #[derive(Drop)]
@@ -33,9 +32,9 @@ pub struct AclSet {
 
 impl Model for AclSet {
     ghost use Rattle.std.specs.Prelude.{List, ℕ};
-    ghost use Rattle.hx_acl.specs.Tests.{AclTest};
+    ghost use Rattle.hx_ast.specs.declared.statement.Decl.{Decl};
 
-    ghost Value = { List (List ℕ × AclTest) };
+    ghost Value = { List (List ℕ × Decl) };
 
     ghost view = { λ acls. acls.tests };
 }
@@ -52,8 +51,8 @@ impl AclSet {
     }
 
     /// Declares the ACL `name`: from now on it holds also where `decl` matches. Its regular
-    /// expressions are made by `maker`. Its inline patterns aren't read: `holds` looks samples up
-    /// under its heads.
+    /// expressions are made by `maker`. Its inline patterns are kept as they are written and aren't
+    /// read: `holds` looks samples up under its heads.
     ///
     /// `BadType` exactly where a converter takes a type to which what stands before it has no cast,
     /// or the value has none to the type that the match method looks at: that is judged first.
@@ -65,17 +64,17 @@ impl AclSet {
         decl: &Decl,
         maker: &mut M,
     ) -> Result<(), PlanFault>
-        ensures ok { OnOk result (self.new ≡ self.old ++ (name.now, test_of decl.now) ∷ []) }
+        ensures ok { OnOk result (self.new ≡ self.old ++ (name.now, decl.now) ∷ []) }
         ensures err { OnErr result (self.new ≡ self.old) }
         ensures types { OnOk result (is_decl_typed decl.now ≡ true) }
         ensures bad_type { (IsErrOf result PlanFault.BadType) ↔ (is_decl_typed decl.now ≡ false) }
         ensures expressions { OnOk result (has_expressions decl.now.expr ≡ true) }
         ensures bad_pattern { IsErrOf result PlanFault.BadPattern →
             has_expressions decl.now.expr ≡ false }
-        ensures counted { CompileCountsLarge result (M.too_large maker.old)
-            (M.too_large maker.new) }
+        ensures counted { CompileCountsLarge result (M.state maker.old).too_large
+            (M.state maker.new).too_large }
         ensures large { CompileNamesLarge result (expression_texts decl.now.expr)
-            (M.large maker.old) (M.large maker.new) }
+            (M.state maker.old).large (M.state maker.new).large }
     {
         if !is_decl_typed(decl) {
             return Err(PlanFault::BadType);
@@ -95,9 +94,10 @@ impl AclSet {
         tables: &'w T,
         steps: &mut Steps<L>,
     ) -> Result<bool, NoMemory>
-        requires { HasAclsHeads (T.heads tables.now) self.now }
+        requires { HasAclsHeads (T.heads (T.state tables.now)) self.now }
         ensures { IfOk result (λ holds. holds
-            ≡ name_holds (context_of world.now) (T.heads tables.now) (T.lists tables.now)
+            ≡ name_holds (context_of world.now) (T.heads (T.state tables.now))
+            (T.lists (T.state tables.now))
             self.now name.now) }
     {
         let mut is_declared = false;

@@ -1,8 +1,8 @@
-ghost use Rattle.std.specs.Prelude.{◌≡◌, IfOk, OnOk, IsErrOf, true, false, map};
+ghost use Rattle.std.specs.Prelude.{◌≡◌, IfOk, OnOk, IsErrOf, true, false};
 ghost use Rattle.std.specs.List.{list_all};
 ghost use Rattle.hx_ast.specs.Acls.{use_passes};
 ghost use Rattle.hx_acl.specs.Expressions.{cond_has_expressions, cond_texts, conj_texts, has_expressions, use_texts};
-ghost use Rattle.hx_acl.specs.Holds.{acl_of_use, term_of, terms_of};
+ghost use Rattle.hx_acl.specs.TermView.{use_of};
 ghost use Rattle.hx_acl.specs.Typing.{is_cond_typed, is_decl_typed};
 ghost use Rattle.hx_expr.specs.Faults.{CompileCountsLarge, CompileNamesLarge};
 
@@ -17,15 +17,16 @@ use std::alloc::Global;
 /// The ACL of a term, built.
 fn build_acl<M: ReMaker>(alloc: Global, acl: &AclUse, maker: &mut M) -> Result<TermAcl, PlanFault>
     requires { use_passes is_decl_typed acl.now ≡ true }
-    ensures built { IfOk result (λ built. built ≡ acl_of_use acl.now) }
+    ensures built { IfOk result (λ built. use_of built ≡ acl.now) }
     ensures expressions { OnOk result
         (use_passes (λ decl. has_expressions decl.expr) acl.now ≡ true) }
     ensures typed { ¬ (IsErrOf result PlanFault.BadType) }
     ensures bad { IsErrOf result PlanFault.BadPattern →
         use_passes (λ decl. has_expressions decl.expr) acl.now ≡ false }
-    ensures counted { CompileCountsLarge result (M.too_large maker.old) (M.too_large maker.new) }
-    ensures large { CompileNamesLarge result (use_texts acl.now) (M.large maker.old)
-        (M.large maker.new) }
+    ensures counted { CompileCountsLarge result (M.state maker.old).too_large
+        (M.state maker.new).too_large }
+    ensures large { CompileNamesLarge result (use_texts acl.now) (M.state maker.old).large
+        (M.state maker.new).large }
 {
     match acl {
         AclUse::Named(name) => Ok(TermAcl::Named(Octets::copy(alloc, name.as_slice())?)),
@@ -40,15 +41,16 @@ fn build_conj<M: ReMaker>(
     maker: &mut M,
 ) -> Result<Items<TestTerm>, PlanFault>
     requires { list_all (λ term. use_passes is_decl_typed term.acl) conj.now ≡ true }
-    ensures built { IfOk result (λ built. built ≡ map term_of conj.now) }
+    ensures built { IfOk result (λ built. built ≡ conj.now) }
     ensures expressions { OnOk result (list_all
         (λ term. use_passes (λ decl. has_expressions decl.expr) term.acl) conj.now ≡ true) }
     ensures typed { ¬ (IsErrOf result PlanFault.BadType) }
     ensures bad { IsErrOf result PlanFault.BadPattern → list_all
         (λ term. use_passes (λ decl. has_expressions decl.expr) term.acl) conj.now ≡ false }
-    ensures counted { CompileCountsLarge result (M.too_large maker.old) (M.too_large maker.new) }
-    ensures large { CompileNamesLarge result (conj_texts conj.now) (M.large maker.old)
-        (M.large maker.new) }
+    ensures counted { CompileCountsLarge result (M.state maker.old).too_large
+        (M.state maker.new).too_large }
+    ensures large { CompileNamesLarge result (conj_texts conj.now) (M.state maker.old).large
+        (M.state maker.new).large }
 {
     let mut built = Items::new(alloc);
     for term in conj {
@@ -68,13 +70,14 @@ pub(crate) fn build_cond<M: ReMaker>(
     maker: &mut M,
 ) -> Result<Items<Items<TestTerm>>, PlanFault>
     requires { is_cond_typed cond.now ≡ true }
-    ensures built { IfOk result (λ built. built ≡ terms_of cond.now) }
+    ensures built { IfOk result (λ built. built ≡ cond.now) }
     ensures expressions { OnOk result (cond_has_expressions cond.now ≡ true) }
     ensures typed { ¬ (IsErrOf result PlanFault.BadType) }
     ensures bad { IsErrOf result PlanFault.BadPattern → cond_has_expressions cond.now ≡ false }
-    ensures counted { CompileCountsLarge result (M.too_large maker.old) (M.too_large maker.new) }
-    ensures large { CompileNamesLarge result (cond_texts cond.now) (M.large maker.old)
-        (M.large maker.new) }
+    ensures counted { CompileCountsLarge result (M.state maker.old).too_large
+        (M.state maker.new).too_large }
+    ensures large { CompileNamesLarge result (cond_texts cond.now) (M.state maker.old).large
+        (M.state maker.new).large }
 {
     let mut built = Items::new(alloc);
     for conj in cond {

@@ -1,7 +1,8 @@
 ghost use Rattle.std.specs.Prelude.{◌≡◌, ◌↔◌, OnOk, IfOk, IsErrOf, true, false};
 ghost use Rattle.std.specs.List.{All, list_all};
 ghost use Rattle.hx_acl.specs.Expressions.{cond_has_expressions, cond_texts};
-ghost use Rattle.hx_acl.specs.Holds.{HasAclHeads, HasAclsHeads, HasCondHeads, acl_holds, cond_holds, term_holds, terms_of};
+ghost use Rattle.hx_acl.specs.Holds.{HasAclHeads, HasAclsHeads, HasCondHeads, acl_holds, cond_holds, term_holds};
+ghost use Rattle.hx_acl.specs.TermView.{use_of};
 ghost use Rattle.hx_acl.specs.Typing.{is_cond_typed};
 ghost use Rattle.hx_expr.specs.Faults.{CompileCountsLarge, CompileNamesLarge};
 ghost use Rattle.hx_fetch.specs.World.{context_of};
@@ -30,9 +31,9 @@ pub struct Condition {
 
 impl Model for Condition {
     ghost use Rattle.std.specs.Prelude.{List};
-    ghost use Rattle.hx_acl.specs.declared.term.TestTerm.{TestTerm};
+    ghost use Rattle.hx_ast.specs.declared.statement.Term.{Term};
 
-    ghost Value = { List (List TestTerm) };
+    ghost Value = { List (List Term) };
 
     ghost view = { λ condition. condition.conjs };
 }
@@ -52,16 +53,16 @@ impl Condition {
         cond: &Cond,
         maker: &mut M,
     ) -> Result<Condition, PlanFault>
-        ensures built { IfOk result (λ condition. condition ≡ terms_of cond.now) }
+        ensures built { IfOk result (λ condition. condition ≡ cond.now) }
         ensures types { OnOk result (is_cond_typed cond.now ≡ true) }
         ensures bad_type { (IsErrOf result PlanFault.BadType) ↔ (is_cond_typed cond.now ≡ false) }
         ensures expressions { OnOk result (cond_has_expressions cond.now ≡ true) }
         ensures bad_pattern { IsErrOf result PlanFault.BadPattern →
             cond_has_expressions cond.now ≡ false }
-        ensures counted { CompileCountsLarge result (M.too_large maker.old)
-            (M.too_large maker.new) }
-        ensures large { CompileNamesLarge result (cond_texts cond.now) (M.large maker.old)
-            (M.large maker.new) }
+        ensures counted { CompileCountsLarge result (M.state maker.old).too_large
+            (M.state maker.new).too_large }
+        ensures large { CompileNamesLarge result (cond_texts cond.now) (M.state maker.old).large
+            (M.state maker.new).large }
     {
         if !is_cond_typed(cond.as_slice()) {
             return Err(PlanFault::BadType);
@@ -90,10 +91,11 @@ impl Condition {
         tables: &'w T,
         steps: &mut Steps<L>,
     ) -> Result<bool, NoMemory>
-        requires heads { HasCondHeads (T.heads tables.now) self.now }
-        requires acls { HasAclsHeads (T.heads tables.now) acls.now }
+        requires heads { HasCondHeads (T.heads (T.state tables.now)) self.now }
+        requires acls { HasAclsHeads (T.heads (T.state tables.now)) acls.now }
         ensures { IfOk result (λ holds. holds
-            ≡ cond_holds (context_of world.now) (T.heads tables.now) (T.lists tables.now)
+            ≡ cond_holds (context_of world.now) (T.heads (T.state tables.now))
+            (T.lists (T.state tables.now))
             acls.now self.now) }
     {
         for conj in self.conjs.as_slice() {
@@ -114,10 +116,11 @@ fn conj_holds<'w, T: Tables, L: Ledger>(
     tables: &'w T,
     steps: &mut Steps<L>,
 ) -> Result<bool, NoMemory>
-    requires heads { All (λ term. HasAclHeads (T.heads tables.now) term.acl) conj.now }
-    requires acls { HasAclsHeads (T.heads tables.now) acls.now }
+    requires heads { All (λ term. HasAclHeads (T.heads (T.state tables.now)) term.acl) conj.now }
+    requires acls { HasAclsHeads (T.heads (T.state tables.now)) acls.now }
     ensures { IfOk result (λ holds. holds
-        ≡ list_all (term_holds (context_of world.now) (T.heads tables.now) (T.lists tables.now)
+        ≡ list_all (term_holds (context_of world.now) (T.heads (T.state tables.now))
+        (T.lists (T.state tables.now))
         acls.now) conj.now) }
 {
     for term in conj {
@@ -137,10 +140,11 @@ fn term_holds<'w, T: Tables, L: Ledger>(
     tables: &'w T,
     steps: &mut Steps<L>,
 ) -> Result<bool, NoMemory>
-    requires heads { HasAclHeads (T.heads tables.now) term.now.acl }
-    requires acls { HasAclsHeads (T.heads tables.now) acls.now }
+    requires heads { HasAclHeads (T.heads (T.state tables.now)) term.now.acl }
+    requires acls { HasAclsHeads (T.heads (T.state tables.now)) acls.now }
     ensures { IfOk result (λ holds. holds
-        ≡ term_holds (context_of world.now) (T.heads tables.now) (T.lists tables.now) acls.now
+        ≡ term_holds (context_of world.now) (T.heads (T.state tables.now))
+        (T.lists (T.state tables.now)) acls.now
         term.now) }
 {
     let holds = acl_holds(alloc, &term.acl, acls, world, tables, steps)?;
@@ -156,11 +160,12 @@ fn acl_holds<'w, T: Tables, L: Ledger>(
     tables: &'w T,
     steps: &mut Steps<L>,
 ) -> Result<bool, NoMemory>
-    requires heads { HasAclHeads (T.heads tables.now) acl.now }
-    requires acls { HasAclsHeads (T.heads tables.now) acls.now }
+    requires heads { HasAclHeads (T.heads (T.state tables.now)) (use_of acl.now) }
+    requires acls { HasAclsHeads (T.heads (T.state tables.now)) acls.now }
     ensures { IfOk result (λ holds. holds
-        ≡ acl_holds (context_of world.now) (T.heads tables.now) (T.lists tables.now) acls.now
-        acl.now) }
+        ≡ acl_holds (context_of world.now) (T.heads (T.state tables.now))
+        (T.lists (T.state tables.now)) acls.now
+        (use_of acl.now)) }
 {
     match acl {
         TermAcl::Named(name) => acls.name_holds(alloc, name.as_slice(), world, tables, steps),

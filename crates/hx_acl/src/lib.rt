@@ -1,6 +1,6 @@
-//! ACLs and conditions: what declarations test, and when the conditions of rules hold.
+//! ACLs and conditions: when the declarations of ACLs match, and when the conditions of rules hold.
 //!
-//! `specs/Matching.antt` says when a test matches, `specs/Predefined.antt` which ACLs are
+//! `specs/Matching.antt` says when a declaration matches, `specs/Predefined.antt` which ACLs are
 //! predefined, and `specs/Holds.antt` when a condition holds, as the function `cond_holds`.
 //!
 //! ```

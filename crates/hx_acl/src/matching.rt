@@ -27,9 +27,10 @@ fn finds_entry<T: Tables, L: Ledger>(
     tables: &T,
     steps: &mut Steps<L>,
 ) -> Result<bool, NoMemory>
-    requires { All (TakesHead (T.heads tables.now) (value_of sample.now)) heads.now }
+    requires { All (TakesHead (T.heads (T.state tables.now)) (value_of sample.now)) heads.now }
     ensures { IfOk result (λ found. found
-        ≡ finds_entry (T.heads tables.now) (T.lists tables.now) heads.now (value_of sample.now)) }
+        ≡ finds_entry (T.heads (T.state tables.now)) (T.lists (T.state tables.now)) heads.now
+        (value_of sample.now)) }
 {
     for head in heads {
         if tables.find(alloc, *head, sample, steps)?.is_some() {
@@ -59,10 +60,11 @@ impl Test {
         tables: &T,
         steps: &mut Steps<L>,
     ) -> Result<bool, NoMemory>
-        requires { All (λ position. IsHeadBy (T.heads tables.now) position self.now.by)
+        requires { All (λ position. IsHeadBy (T.heads (T.state tables.now)) position self.now.by)
             self.now.heads }
         ensures { IfOk result (λ found. found
-            ≡ option_map_or (finds_entry (T.heads tables.now) (T.lists tables.now) self.now.heads)
+            ≡ option_map_or (finds_entry (T.heads (T.state tables.now))
+            (T.lists (T.state tables.now)) self.now.heads)
             (cast_of (value_of sample.entry) (kind_by self.now.by)) false) }
     {
         match cast(alloc, sample, self.by.kind())? {
@@ -79,11 +81,12 @@ impl Test {
         tables: &T,
         steps: &mut Steps<L>,
     ) -> Result<bool, NoMemory>
-        requires { All (λ position. IsHeadBy (T.heads tables.now) position self.now.by)
+        requires { All (λ position. IsHeadBy (T.heads (T.state tables.now)) position self.now.by)
             self.now.heads }
         ensures { IfOk result (λ matches. matches
             ≡ occurrence_matches self.now.by
-            (finds_entry (T.heads tables.now) (T.lists tables.now) self.now.heads)
+            (finds_entry (T.heads (T.state tables.now)) (T.lists (T.state tables.now))
+            self.now.heads)
             (occurrence_value occurrence.entry)) }
     {
         let Some(sample) = occurrence else {
@@ -106,9 +109,10 @@ impl Test {
         tables: &'w T,
         steps: &mut Steps<L>,
     ) -> Result<bool, NoMemory>
-        requires { HasTestHeads (T.heads tables.now) self.now }
+        requires { HasTestHeads (T.heads (T.state tables.now)) self.now }
         ensures { IfOk result (λ matches. matches
-            ≡ test_matches (context_of world.now) (T.heads tables.now) (T.lists tables.now)
+            ≡ test_matches (context_of world.now) (T.heads (T.state tables.now))
+            (T.lists (T.state tables.now))
             self.now) }
     {
         let mut values = eval_all(alloc, &self.plan, world, tables, steps)?;

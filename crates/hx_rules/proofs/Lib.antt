@@ -1,4 +1,5 @@
 mod PatternLemmas
+pub mod ActionLemmas
 mod TextLemmas
 pub mod LineLemmas
 pub mod ReplacingLemmas

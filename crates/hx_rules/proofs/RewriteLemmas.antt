@@ -1,30 +1,30 @@
 -- The edits of the actions that replace values.
 use Rattle.std.proofs.Common.{◌≡◌, ℕ, true, false, List, Result, None, ap, sym, subst, ◌∙◌}
 use Rattle.std.specs.Prelude.{IfErr, OnOk}
+use Rattle.hx_ast.specs.declared.action.Action.{Action}
+use Rattle.hx_ast.specs.declared.action.Action.TheVariants as action
+use Rattle.hx_ast.specs.declared.action.Part.{Part}
 use Rattle.hx_http.specs.declared.fault.EditFault.{EditFault}
 use Rattle.hx_http.specs.Edits.{MayFail}
 use Rattle.hx_http.specs.Parts.{Parts}
-use Rattle.hx_rules.specs.declared.action.Rewrite.{Rewrite}
-use Rattle.hx_rules.specs.declared.action.Rewrite.TheVariants as rewrite
-use Rattle.hx_rules.specs.declared.format.BuiltPart.{BuiltPart}
 use Rattle.hx_rules.specs.ReplacingView.{replacement_of}
 use Rattle.hx_rules.specs.Rewrites.{Edit, edit_of, replacing_edit}
 
-pub replace_header_is : (text : List BuiltPart → List ℕ) (asked : Rewrite) (head : Parts) (name pattern given sub made : List ℕ) (format : List BuiltPart)
-    → asked ≡ rewrite.ReplaceHeader name pattern format → given ≡ name → sub ≡ made → made ≡ text format
+pub replace_header_is : (text : List Part → List ℕ) (asked : Action) (head : Parts) (name pattern given sub made : List ℕ) (format : List Part)
+    → asked ≡ action.ReplaceHeader name pattern format → given ≡ name → sub ≡ made → made ≡ text format
     → replacing_edit given (replacement_of false pattern sub) head ≡ edit_of text asked head
 replace_header_is text asked head name pattern given sub made format is same_name same_sub same_text =
     ap (λ (n : List ℕ). replacing_edit n (replacement_of false pattern sub) head) same_name
     ∙ ap (λ (t : List ℕ). replacing_edit name (replacement_of false pattern t) head) (same_sub ∙ same_text)
-    ∙ ap (λ (r : Rewrite). edit_of text r head) (sym is)
+    ∙ ap (λ (r : Action). edit_of text r head) (sym is)
 
-pub replace_value_is : (text : List BuiltPart → List ℕ) (asked : Rewrite) (head : Parts) (name pattern given sub made : List ℕ) (format : List BuiltPart)
-    → asked ≡ rewrite.ReplaceValue name pattern format → given ≡ name → sub ≡ made → made ≡ text format
+pub replace_value_is : (text : List Part → List ℕ) (asked : Action) (head : Parts) (name pattern given sub made : List ℕ) (format : List Part)
+    → asked ≡ action.ReplaceValue name pattern format → given ≡ name → sub ≡ made → made ≡ text format
     → replacing_edit given (replacement_of true pattern sub) head ≡ edit_of text asked head
 replace_value_is text asked head name pattern given sub made format is same_name same_sub same_text =
     ap (λ (n : List ℕ). replacing_edit n (replacement_of true pattern sub) head) same_name
     ∙ ap (λ (t : List ℕ). replacing_edit name (replacement_of true pattern t) head) (same_sub ∙ same_text)
-    ∙ ap (λ (r : Rewrite). edit_of text r head) (sym is)
+    ∙ ap (λ (r : Action). edit_of text r head) (sym is)
 
 -- what a call answers, of the same edit
 pub made_as : {T : Type 0} (r : Result T EditFault) (new : Parts) (a b : Edit) → a ≡ b

@@ -3,6 +3,10 @@ use Rattle.std.proofs.Common.{arith, ◌≡◌, Bool, true, false, List, [], ◌
 use Rattle.std.specs.Prelude.{Err, if◌then◌else◌, slice_index_or, take, drop, ◌-◌}
 use Rattle.std.specs.Option.{is_none}
 use Rattle.std.proofs.lemmas.List.{take_rest}
+use Rattle.hx_acl.specs.Holds.{Acls}
+use Rattle.hx_ast.specs.declared.action.Action.{Action}
+use Rattle.hx_ast.specs.declared.action.Action.TheVariants as action
+use Rattle.hx_ast.specs.declared.statement.Rule.{Rule}
 use Rattle.hx_fetch.specs.declared.world.Conn.{Conn}
 use Rattle.hx_http.specs.Parts.{Parts}
 use Rattle.hx_outside.specs.Makers.{ExpressionText, MakerState}
@@ -10,20 +14,17 @@ use Rattle.hx_sample.specs.Changes.{ChangeCountsLarge}
 use Rattle.hx_sample.specs.Vars.{Scopes}
 use Rattle.hx_sample.specs.declared.tables.TableFault.{TableFault}
 use Rattle.hx_sample.specs.declared.tables.TableFault.TheVariants as fault
-use Rattle.hx_rules.specs.declared.action.BuiltAction.{BuiltAction}
-use Rattle.hx_rules.specs.declared.action.BuiltAction.TheVariants as built
 use Rattle.hx_rules.specs.declared.actions.Continuation.{Continuation}
 use Rattle.hx_rules.specs.declared.actions.Continuation.TheVariants as continuation
-use Rattle.hx_rules.specs.declared.program.BuiltRule.{BuiltRule}
 use Rattle.hx_rules.specs.declared.verdict.Verdict.{Verdict}
 use Rattle.hx_rules.specs.declared.verdict.Verdict.TheVariants as verdict
-use Rattle.hx_rules.specs.Failures.{Acls, is_taken_in, RulesAskFor, StandsAt}
+use Rattle.hx_rules.specs.Failures.{is_taken_in, RulesAskFor, StandsAt}
 use Rattle.hx_rules.specs.Formats.{text_in}
 use Rattle.hx_rules.specs.Programs.{Rules}
-use Rattle.hx_rules.specs.Rewrites.{edit_of}
+use Rattle.hx_rules.specs.Rewrites.{Edit, edit_of}
 use Rattle.hx_rules.specs.State.{in_state, State, TableView}
 use Rattle.hx_rules.specs.EffectView.{IsEvaluation, effect_of, rule_effect, RuleAsksFor}
-use Rattle.hx_rules.specs.Verdicts.{action_effect, after_rules, Ends, evaluation, Goes, Effect, rules_effect, Stops, then_rules, verdict_at}
+use Rattle.hx_rules.specs.Verdicts.{action_effect, after_rules, edit_effect, Ends, evaluation, Goes, Effect, rules_effect, Stops, then_rules, verdict_at}
 
 -- ---- lists of rules
 
@@ -32,7 +33,7 @@ if_then rest true done state = refl
 if_then rest false done state = refl
 
 -- a first rule, and what the others make of where it comes to
-effect_first : {S : Type 0} (view : TableView S) (conn : Conn) (acls : Acls) (rule : BuiltRule) (rules : List BuiltRule) (state : State S) → rules_effect view conn acls (rule ∷ rules) state ≡ then_rules (rules_effect view conn acls rules) (rule_effect view conn acls rule state)
+effect_first : {S : Type 0} (view : TableView S) (conn : Conn) (acls : Acls) (rule : Rule) (rules : List Rule) (state : State S) → rules_effect view conn acls (rule ∷ rules) state ≡ then_rules (rules_effect view conn acls rules) (rule_effect view conn acls rule state)
 effect_first view conn acls rule rules state =
     if_then (rules_effect view conn acls rules) (is_taken_in view conn acls state rule.unless rule.cond) (action_effect view conn rule.action state) state
 
@@ -41,7 +42,7 @@ then_then whole first last is (Goes state) = is state
 then_then whole first last is (Stops state) = refl
 then_then whole first last is (Ends given state) = refl
 
-effect_joined : {S : Type 0} (view : TableView S) (conn : Conn) (acls : Acls) (xs ys : List BuiltRule) (state : State S) → rules_effect view conn acls (xs ++ ys) state ≡ then_rules (rules_effect view conn acls ys) (rules_effect view conn acls xs state)
+effect_joined : {S : Type 0} (view : TableView S) (conn : Conn) (acls : Acls) (xs ys : List Rule) (state : State S) → rules_effect view conn acls (xs ++ ys) state ≡ then_rules (rules_effect view conn acls ys) (rules_effect view conn acls xs state)
 effect_joined view conn acls [] ys state = refl
 effect_joined view conn acls (x ∷ xs) ys state =
     effect_first view conn acls x (xs ++ ys) state
@@ -51,45 +52,45 @@ effect_joined view conn acls (x ∷ xs) ys state =
 -- ---- where rules come to
 
 -- The rules come from a state to another, in which these are left.
-pub record Comes {S : Type 0} (view : TableView S) (conn : Conn) (program : Rules) (origin state : State S) (left : List BuiltRule) : Type 0 where
-  pub done : List BuiltRule
+pub record Comes {S : Type 0} (view : TableView S) (conn : Conn) (program : Rules) (origin state : State S) (left : List Rule) : Type 0 where
+  pub done : List Rule
   pub rules : program.rules ≡ done ++ left
   pub effect : rules_effect view conn program.acls done origin ≡ Goes state
 
-pub comes_first : {S : Type 0} (view : TableView S) (conn : Conn) (program : Rules) (origin : State S) (left : List BuiltRule) → left ≡ program.rules → Comes view conn program origin origin left
+pub comes_first : {S : Type 0} (view : TableView S) (conn : Conn) (program : Rules) (origin : State S) (left : List Rule) → left ≡ program.rules → Comes view conn program origin origin left
 comes_first view conn program origin left all = record { done = []; rules = sym all; effect = refl }
 
 -- the rules after the first
-abbrev pub other_rules : List BuiltRule → List BuiltRule
+abbrev pub other_rules : List Rule → List Rule
 other_rules rules = take (length rules - 1) (drop 1 rules)
 
-pub first_and_others : (rules : List BuiltRule) (rule : BuiltRule) → 0 < length rules → rule ≡ slice_index_or rules 0 rule → rules ≡ rule ∷ other_rules rules
+pub first_and_others : (rules : List Rule) (rule : Rule) → 0 < length rules → rule ≡ slice_index_or rules 0 rule → rules ≡ rule ∷ other_rules rules
 first_and_others rules rule within is =
     drop-cons rules 0 rule within
-    ∙ ap (λ (x : BuiltRule). x ∷ drop 1 rules) (sym is)
-    ∙ ap (λ (xs : List BuiltRule). rule ∷ xs) (sym (take_rest rules 1))
+    ∙ ap (λ (x : Rule). x ∷ drop 1 rules) (sym is)
+    ∙ ap (λ (xs : List Rule). rule ∷ xs) (sym (take_rest rules 1))
 
-pub no_rules_left : (rules : List BuiltRule) → length rules < 1 → rules ≡ []
+pub no_rules_left : (rules : List Rule) → length rules < 1 → rules ≡ []
 no_rules_left [] none = refl
 no_rules_left (rule ∷ rules) none = absurd (omega arith)
 
 -- the next rule to be judged
-pub comes_to : {S : Type 0} {view : TableView S} {conn : Conn} {program : Rules} {origin state : State S} {left : List BuiltRule} (rule : BuiltRule) (others : List BuiltRule) → Comes view conn program origin state left → left ≡ rule ∷ others → Comes view conn program origin state (rule ∷ others)
+pub comes_to : {S : Type 0} {view : TableView S} {conn : Conn} {program : Rules} {origin state : State S} {left : List Rule} (rule : Rule) (others : List Rule) → Comes view conn program origin state left → left ≡ rule ∷ others → Comes view conn program origin state (rule ∷ others)
 comes_to rule others at list = record {
   done = at.done;
-  rules = at.rules ∙ ap (λ (xs : List BuiltRule). at.done ++ xs) list;
+  rules = at.rules ∙ ap (λ (xs : List Rule). at.done ++ xs) list;
   effect = at.effect;
 }
 
 -- what a rule does, by the answer of the code
-effect_is : {S : Type 0} (view : TableView S) (conn : Conn) (program : Rules) (rule : BuiltRule) (acls : Acls) (state next : State S) (answer given : Continuation) → acls ≡ program.acls → answer ≡ given → effect_of answer next ≡ rule_effect view conn acls rule state → effect_of given next ≡ rule_effect view conn program.acls rule state
+effect_is : {S : Type 0} (view : TableView S) (conn : Conn) (program : Rules) (rule : Rule) (acls : Acls) (state next : State S) (answer given : Continuation) → acls ≡ program.acls → answer ≡ given → effect_of answer next ≡ rule_effect view conn acls rule state → effect_of given next ≡ rule_effect view conn program.acls rule state
 effect_is view conn program rule acls state next answer given same is does =
     ap (λ (answer : Continuation). effect_of answer next) (sym is)
     ∙ does
     ∙ ap (λ (acls : Acls). rule_effect view conn acls rule state) same
 
 -- a rule after which the next is judged
-further : {S : Type 0} {view : TableView S} {conn : Conn} {program : Rules} {origin state : State S} {rule : BuiltRule} {left : List BuiltRule} (next : State S) → Comes view conn program origin state (rule ∷ left) → Goes next ≡ rule_effect view conn program.acls rule state → Comes view conn program origin next left
+further : {S : Type 0} {view : TableView S} {conn : Conn} {program : Rules} {origin state : State S} {rule : Rule} {left : List Rule} (next : State S) → Comes view conn program origin state (rule ∷ left) → Goes next ≡ rule_effect view conn program.acls rule state → Comes view conn program origin next left
 further {S} {view} {conn} {program} {origin} {state} {rule} {left} next at goes = record {
   done = at.done ++ rule ∷ [];
   rules = at.rules ∙ sym (append_assoc at.done (rule ∷ []) left);
@@ -99,19 +100,19 @@ further {S} {view} {conn} {program} {origin} {state} {rule} {left} next at goes 
       ∙ ap (then_rules (rules_effect view conn program.acls [])) (sym goes);
 }
 
-pub comes_further : {S : Type 0} {view : TableView S} {conn : Conn} {program : Rules} {origin state : State S} {rule : BuiltRule} {left : List BuiltRule} (acls : Acls) (next : State S) (answer : Continuation) → Comes view conn program origin state (rule ∷ left) → acls ≡ program.acls → answer ≡ continuation.Goes → effect_of answer next ≡ rule_effect view conn acls rule state → Comes view conn program origin next left
+pub comes_further : {S : Type 0} {view : TableView S} {conn : Conn} {program : Rules} {origin state : State S} {rule : Rule} {left : List Rule} (acls : Acls) (next : State S) (answer : Continuation) → Comes view conn program origin state (rule ∷ left) → acls ≡ program.acls → answer ≡ continuation.Goes → effect_of answer next ≡ rule_effect view conn acls rule state → Comes view conn program origin next left
 comes_further {S} {view} {conn} {program} {origin} {state} {rule} {left} acls next answer at same is does =
     further next at (effect_is view conn program rule acls state next answer continuation.Goes same is does)
 
 -- what all rules make of the first state is what those that are left make of this one
-all_from : {S : Type 0} {view : TableView S} {conn : Conn} {program : Rules} {origin state : State S} {left : List BuiltRule} → Comes view conn program origin state left → rules_effect view conn program.acls program.rules origin ≡ rules_effect view conn program.acls left state
+all_from : {S : Type 0} {view : TableView S} {conn : Conn} {program : Rules} {origin state : State S} {left : List Rule} → Comes view conn program origin state left → rules_effect view conn program.acls program.rules origin ≡ rules_effect view conn program.acls left state
 all_from {S} {view} {conn} {program} {origin} {state} {left} at =
-    ap (λ (rules : List BuiltRule). rules_effect view conn program.acls rules origin) at.rules
+    ap (λ (rules : List Rule). rules_effect view conn program.acls rules origin) at.rules
     ∙ effect_joined view conn program.acls at.done left origin
     ∙ ap (then_rules (rules_effect view conn program.acls left)) at.effect
 
 -- the state stands, also where it is known by its parts
-pub stands_at : {S : Type 0} {view : TableView S} {conn : Conn} {program : Rules} {origin state : State S} {left : List BuiltRule} {message : Parts} {vars : Scopes} {tables : S} → Comes view conn program origin state left → message ≡ state.message → vars ≡ state.vars → tables ≡ state.tables → StandsAt view conn program origin message vars tables
+pub stands_at : {S : Type 0} {view : TableView S} {conn : Conn} {program : Rules} {origin state : State S} {left : List Rule} {message : Parts} {vars : Scopes} {tables : S} → Comes view conn program origin state left → message ≡ state.message → vars ≡ state.vars → tables ≡ state.tables → StandsAt view conn program origin message vars tables
 stands_at {S} {view} {conn} {program} {origin} {state} {left} at m v t = record {
   state = state;
   reaches = record { done = at.done; left = left; rules = at.rules; effect = at.effect };
@@ -136,37 +137,43 @@ rewritten_leaves : {S : Type 0} (state next : State S) (done : Bool) (given : Ve
 rewritten_leaves state next true given = tt
 rewritten_leaves state next false given = refused_leaves state state.strict given
 
-action_leaves : {S : Type 0} (view : TableView S) (conn : Conn) (action : BuiltAction) (state : State S) → Leaves state (action_effect view conn action state)
-action_leaves view conn built.Allow state = refl
-action_leaves view conn (built.Deny code) state = refl
-action_leaves view conn (built.Rewrite asked) state =
-    let edit = edit_of (text_in view conn state) asked state.message in
+edit_leaves : {S : Type 0} (edit : Edit) (state : State S) → Leaves state (edit_effect edit state)
+edit_leaves edit state =
     rewritten_leaves state (record state { message = edit.head }) (is_none edit.fault) verdict.Error
-action_leaves view conn (built.SetVar name expr) state = tt
-action_leaves view conn (built.UnsetVar name) state = tt
-action_leaves view conn (built.Change asked) state = tt
-action_leaves view conn (built.Redirect redirect) state = refl
-action_leaves view conn (built.StrictMode on) state = tt
+
+action_leaves : {S : Type 0} (view : TableView S) (conn : Conn) (does : Action) (state : State S) → Leaves state (action_effect view conn does state)
+action_leaves view conn action.Allow state = refl
+action_leaves view conn (action.Deny status) state = refl
+action_leaves view conn (action.SetVar name expr) state = tt
+action_leaves view conn (action.UnsetVar name) state = tt
+action_leaves view conn (action.AddAcl table key) state = tt
+action_leaves view conn (action.DelAcl table key) state = tt
+action_leaves view conn (action.DelMap table key) state = tt
+action_leaves view conn (action.SetMap table key value) state = tt
+action_leaves view conn (action.Redirect kind format status drop_query) state = refl
+action_leaves view conn (action.StrictMode on) state = tt
+action_leaves view conn rewrite state =
+    edit_leaves (edit_of (text_in view conn state) rewrite state.message) state
 
 if_leaves : {S : Type 0} (state : State S) (taken : Bool) (effect : Effect S) → Leaves state effect → Leaves state (if taken then effect else Goes state)
 if_leaves state true effect leaves = leaves
 if_leaves state false effect leaves = tt
 
-rule_leaves : {S : Type 0} (view : TableView S) (conn : Conn) (acls : Acls) (rule : BuiltRule) (state : State S) → Leaves state (rule_effect view conn acls rule state)
+rule_leaves : {S : Type 0} (view : TableView S) (conn : Conn) (acls : Acls) (rule : Rule) (state : State S) → Leaves state (rule_effect view conn acls rule state)
 rule_leaves view conn acls rule state =
     if_leaves state (is_taken_in view conn acls state rule.unless rule.cond) (action_effect view conn rule.action state) (action_leaves view conn rule.action state)
 
 -- the last rule leaves the state as it was
-stands_left : {S : Type 0} {view : TableView S} {conn : Conn} {program : Rules} {origin state : State S} {left : List BuiltRule} (next : State S) → Comes view conn program origin state left → next ≡ state → StandsAt view conn program origin next.message next.vars next.tables
+stands_left : {S : Type 0} {view : TableView S} {conn : Conn} {program : Rules} {origin state : State S} {left : List Rule} (next : State S) → Comes view conn program origin state left → next ≡ state → StandsAt view conn program origin next.message next.vars next.tables
 stands_left next at same =
     stands_at at (ap (λ s. s.message) same) (ap (λ s. s.vars) same) (ap (λ s. s.tables) same)
 
-pub stands_stopped : {S : Type 0} {view : TableView S} {conn : Conn} {program : Rules} {origin state : State S} {rule : BuiltRule} {left : List BuiltRule} (acls : Acls) (next : State S) (answer : Continuation) → Comes view conn program origin state (rule ∷ left) → acls ≡ program.acls → answer ≡ continuation.Stops → effect_of answer next ≡ rule_effect view conn acls rule state → StandsAt view conn program origin next.message next.vars next.tables
+pub stands_stopped : {S : Type 0} {view : TableView S} {conn : Conn} {program : Rules} {origin state : State S} {rule : Rule} {left : List Rule} (acls : Acls) (next : State S) (answer : Continuation) → Comes view conn program origin state (rule ∷ left) → acls ≡ program.acls → answer ≡ continuation.Stops → effect_of answer next ≡ rule_effect view conn acls rule state → StandsAt view conn program origin next.message next.vars next.tables
 stands_stopped {S} {view} {conn} {program} {origin} {state} {rule} {left} acls next answer at same is does =
     let stops = effect_is view conn program rule acls state next answer continuation.Stops same is does in
     stands_left next at (rw (← stops) at (rule_leaves view conn program.acls rule state))
 
-pub stands_ended : {S : Type 0} {view : TableView S} {conn : Conn} {program : Rules} {origin state : State S} {rule : BuiltRule} {left : List BuiltRule} (acls : Acls) (next : State S) (answer : Continuation) (given : Verdict) → Comes view conn program origin state (rule ∷ left) → acls ≡ program.acls → answer ≡ continuation.Ends given → effect_of answer next ≡ rule_effect view conn acls rule state → StandsAt view conn program origin next.message next.vars next.tables
+pub stands_ended : {S : Type 0} {view : TableView S} {conn : Conn} {program : Rules} {origin state : State S} {rule : Rule} {left : List Rule} (acls : Acls) (next : State S) (answer : Continuation) (given : Verdict) → Comes view conn program origin state (rule ∷ left) → acls ≡ program.acls → answer ≡ continuation.Ends given → effect_of answer next ≡ rule_effect view conn acls rule state → StandsAt view conn program origin next.message next.vars next.tables
 stands_ended {S} {view} {conn} {program} {origin} {state} {rule} {left} acls next answer given at same is does =
     let ends = effect_is view conn program rule acls state next answer (continuation.Ends given) same is does in
     stands_left next at (rw (← ends) at (rule_leaves view conn program.acls rule state))
@@ -178,26 +185,26 @@ of_effect : {S : Type 0} (view : TableView S) (conn : Conn) (program : Rules) (o
 of_effect view conn program origin next given effect is made = rw is made
 
 -- all rules were judged
-pub evaluated : {S : Type 0} {view : TableView S} {conn : Conn} {program : Rules} {origin state : State S} {left : List BuiltRule} → Comes view conn program origin state left → left ≡ [] → IsEvaluation view conn program None state.message state.vars state.tables (evaluation view conn program origin)
+pub evaluated : {S : Type 0} {view : TableView S} {conn : Conn} {program : Rules} {origin state : State S} {left : List Rule} → Comes view conn program origin state left → left ≡ [] → IsEvaluation view conn program None state.message state.vars state.tables (evaluation view conn program origin)
 evaluated {S} {view} {conn} {program} {origin} {state} {left} at none =
     of_effect view conn program origin state None (Goes state)
-    (all_from at ∙ ap (λ (rules : List BuiltRule). rules_effect view conn program.acls rules state) none)
+    (all_from at ∙ ap (λ (rules : List Rule). rules_effect view conn program.acls rules state) none)
     (record { message_is = refl; vars_are = refl; tables_are = refl; verdict_is = refl })
 
 -- the effect of all rules where one of them stops or ends them
-ended : {S : Type 0} {view : TableView S} {conn : Conn} {program : Rules} {origin state : State S} {rule : BuiltRule} {left : List BuiltRule} (effect : Effect S) → Comes view conn program origin state (rule ∷ left) → effect ≡ rule_effect view conn program.acls rule state → rules_effect view conn program.acls program.rules origin ≡ then_rules (rules_effect view conn program.acls left) effect
+ended : {S : Type 0} {view : TableView S} {conn : Conn} {program : Rules} {origin state : State S} {rule : Rule} {left : List Rule} (effect : Effect S) → Comes view conn program origin state (rule ∷ left) → effect ≡ rule_effect view conn program.acls rule state → rules_effect view conn program.acls program.rules origin ≡ then_rules (rules_effect view conn program.acls left) effect
 ended {S} {view} {conn} {program} {origin} {state} {rule} {left} effect at is =
     all_from at
     ∙ effect_first view conn program.acls rule left state
     ∙ ap (then_rules (rules_effect view conn program.acls left)) (sym is)
 
-pub evaluated_stopped : {S : Type 0} {view : TableView S} {conn : Conn} {program : Rules} {origin state : State S} {rule : BuiltRule} {left : List BuiltRule} (acls : Acls) (next : State S) (answer : Continuation) → Comes view conn program origin state (rule ∷ left) → acls ≡ program.acls → answer ≡ continuation.Stops → effect_of answer next ≡ rule_effect view conn acls rule state → IsEvaluation view conn program None next.message next.vars next.tables (evaluation view conn program origin)
+pub evaluated_stopped : {S : Type 0} {view : TableView S} {conn : Conn} {program : Rules} {origin state : State S} {rule : Rule} {left : List Rule} (acls : Acls) (next : State S) (answer : Continuation) → Comes view conn program origin state (rule ∷ left) → acls ≡ program.acls → answer ≡ continuation.Stops → effect_of answer next ≡ rule_effect view conn acls rule state → IsEvaluation view conn program None next.message next.vars next.tables (evaluation view conn program origin)
 evaluated_stopped {S} {view} {conn} {program} {origin} {state} {rule} {left} acls next answer at same is does =
     let stops = effect_is view conn program rule acls state next answer continuation.Stops same is does in
     of_effect view conn program origin next None (Stops next) (ended (Stops next) at stops)
     (record { message_is = refl; vars_are = refl; tables_are = refl; verdict_is = refl })
 
-pub evaluated_ended : {S : Type 0} {view : TableView S} {conn : Conn} {program : Rules} {origin state : State S} {rule : BuiltRule} {left : List BuiltRule} (acls : Acls) (next : State S) (answer : Continuation) (given : Verdict) → Comes view conn program origin state (rule ∷ left) → acls ≡ program.acls → answer ≡ continuation.Ends given → effect_of answer next ≡ rule_effect view conn acls rule state → IsEvaluation view conn program (Some given) next.message next.vars next.tables (evaluation view conn program origin)
+pub evaluated_ended : {S : Type 0} {view : TableView S} {conn : Conn} {program : Rules} {origin state : State S} {rule : Rule} {left : List Rule} (acls : Acls) (next : State S) (answer : Continuation) (given : Verdict) → Comes view conn program origin state (rule ∷ left) → acls ≡ program.acls → answer ≡ continuation.Ends given → effect_of answer next ≡ rule_effect view conn acls rule state → IsEvaluation view conn program (Some given) next.message next.vars next.tables (evaluation view conn program origin)
 evaluated_ended {S} {view} {conn} {program} {origin} {state} {rule} {left} acls next answer given at same is does =
     let ends = effect_is view conn program rule acls state next answer (continuation.Ends given) same is does in
     of_effect view conn program origin next (Some given) (Ends given next) (ended (Ends given next) at ends)
@@ -206,7 +213,7 @@ evaluated_ended {S} {view} {conn} {program} {origin} {state} {rule} {left} acls 
 -- ---- what the maker counts
 
 -- what a rule asks for, the rules ask for
-asks_for : {S : Type 0} {view : TableView S} {conn : Conn} {program : Rules} {origin state : State S} {rule : BuiltRule} {left : List BuiltRule} (acls : Acls) (text : ExpressionText) → Comes view conn program origin state (rule ∷ left) → acls ≡ program.acls → RuleAsksFor view conn acls rule state text → RulesAskFor view conn program origin text
+asks_for : {S : Type 0} {view : TableView S} {conn : Conn} {program : Rules} {origin state : State S} {rule : Rule} {left : List Rule} (acls : Acls) (text : ExpressionText) → Comes view conn program origin state (rule ∷ left) → acls ≡ program.acls → RuleAsksFor view conn acls rule state text → RulesAskFor view conn program origin text
 asks_for {S} {view} {conn} {program} {origin} {state} {rule} {left} acls text at same asks = record {
   done = at.done;
   rule = rule;
@@ -231,7 +238,7 @@ counts_for_more T U fault.TooLarge Asked Wider first before now wider count last
 counts_for_more T U fault.NoMemory Asked Wider first before now wider count last counts = (counts.0 ∙ count, counts.1 ∙ last)
 
 -- a rule that failed counts as the rules do
-pub rules_count : {S : Type 0} {view : TableView S} {conn : Conn} {program : Rules} {origin state : State S} {rule : BuiltRule} {left : List BuiltRule} (acls : Acls) (given : TableFault) (first before now : MakerState) → Comes view conn program origin state (rule ∷ left) → acls ≡ program.acls → before.too_large ≡ first.too_large → before.large ≡ first.large → ChangeCountsLarge {T = Continuation} (Err given) (RuleAsksFor view conn acls rule state) before now → ChangeCountsLarge {T = Option Verdict} (Err given) (RulesAskFor view conn program origin) first now
+pub rules_count : {S : Type 0} {view : TableView S} {conn : Conn} {program : Rules} {origin state : State S} {rule : Rule} {left : List Rule} (acls : Acls) (given : TableFault) (first before now : MakerState) → Comes view conn program origin state (rule ∷ left) → acls ≡ program.acls → before.too_large ≡ first.too_large → before.large ≡ first.large → ChangeCountsLarge {T = Continuation} (Err given) (RuleAsksFor view conn acls rule state) before now → ChangeCountsLarge {T = Option Verdict} (Err given) (RulesAskFor view conn program origin) first now
 rules_count {S} {view} {conn} {program} {origin} {state} {rule} {left} acls given first before now at same count last counts =
     counts_for_more Continuation (Option Verdict) given (RuleAsksFor view conn acls rule state) (RulesAskFor view conn program origin) first before now
     (λ text asks. asks_for acls text at same asks) count last counts

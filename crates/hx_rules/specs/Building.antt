@@ -1,18 +1,15 @@
--- What the statements of a configuration become, and which of them have types that fit and texts
--- that are regular expressions (HAProxy configuration manual 2.4, sections 4.2, 7.1 and 7.3.1).
-use Rattle.std.specs.Prelude.{◌&&◌, ℕ, Bool, true, false, List, [], ◌∷◌, ◌++◌, map, Option, Some, is_some, option_map}
+-- What the statements of a configuration add to its rules, and which of them have types that fit
+-- and texts that are regular expressions (HAProxy configuration manual 2.4, sections 4.2, 7.1 and
+-- 7.3.1).
+use Rattle.std.specs.Prelude.{◌&&◌, Bool, true, false, List, [], ◌∷◌, ◌++◌, Option, Some, is_some}
 use Rattle.std.specs.List.{flat_map, list_all}
-use Rattle.std.specs.Option.{option_map_or, unwrap_or}
+use Rattle.std.specs.Option.{option_map_or}
 use Rattle.hx_acl.specs.Expressions.{cond_has_expressions, cond_texts, has_expressions}
-use Rattle.hx_acl.specs.Holds.{terms_of}
-use Rattle.hx_acl.specs.Tests.{test_of}
-use Rattle.hx_acl.specs.declared.term.TestTerm.{TestTerm}
 use Rattle.hx_acl.specs.Typing.{is_cond_typed, is_decl_typed}
 use Rattle.hx_ast.specs.declared.action.Action.{Action}
 use Rattle.hx_ast.specs.declared.action.Action.TheVariants as action
 use Rattle.hx_ast.specs.declared.action.Part.{Part}
 use Rattle.hx_ast.specs.declared.action.Part.TheVariants as part
-use Rattle.hx_ast.specs.declared.action.RedirectKind.{RedirectKind}
 use Rattle.hx_ast.specs.declared.expr.Expr.{Expr}
 use Rattle.hx_ast.specs.declared.statement.Rule.{Rule}
 use Rattle.hx_ast.specs.declared.statement.Statement.{Statement}
@@ -22,77 +19,21 @@ use Rattle.hx_expr.specs.Expressions.{expression_texts}
 use Rattle.hx_expr.specs.Types.{is_typed}
 use Rattle.hx_outside.specs.Makers.{ExpressionText}
 use Rattle.hx_sample.specs.Keys.{key_expression}
-use Rattle.hx_rules.specs.declared.action.BuiltAction.{BuiltAction}
-use Rattle.hx_rules.specs.declared.action.BuiltAction.TheVariants as built
-use Rattle.hx_rules.specs.declared.action.BuiltRedirect.{BuiltRedirect}
-use Rattle.hx_rules.specs.declared.action.Rewrite.TheVariants as rewrite
-use Rattle.hx_rules.specs.declared.action.TableChange.TheVariants as change
-use Rattle.hx_rules.specs.declared.format.BuiltPart.{BuiltPart}
-use Rattle.hx_rules.specs.declared.format.BuiltPart.TheVariants.{Text, Value}
-use Rattle.hx_rules.specs.declared.program.BackendRule.{BackendRule}
-use Rattle.hx_rules.specs.declared.program.BuiltRule.{BuiltRule}
-use Rattle.hx_rules.specs.Programs.{Rules}
+use Rattle.hx_rules.specs.Programs.{BackendRule, Rules}
 
--- ---- what they become
+-- ---- what they add
 
-abbrev pub part_of : Part → BuiltPart
-part_of (part.Text bytes) = Text bytes
-part_of (part.Value expr) = Value expr
-
-abbrev pub format_of : List Part → List BuiltPart
-format_of format = map part_of format
-
-abbrev pub redirect_to : RedirectKind → List BuiltPart → ℕ → Bool → BuiltRedirect
-redirect_to kind format code drop_query =
-    record { kind = kind; format = format; code = code; drop_query = drop_query }
-
--- Without a status a request is denied with 403, and a client is sent elsewhere with 302. A key is
--- removed from a list of patterns as it is from a map.
-abbrev pub action_of : Action → BuiltAction
-action_of action.Allow = built.Allow
-action_of (action.Deny status) = built.Deny (unwrap_or status 403)
-action_of (action.SetHeader name parts) = built.Rewrite (rewrite.SetHeader name (format_of parts))
-action_of (action.AddHeader name parts) = built.Rewrite (rewrite.AddHeader name (format_of parts))
-action_of (action.DelHeader name) = built.Rewrite (rewrite.DelHeader name)
-action_of (action.ReplaceHeader name pattern parts) =
-    built.Rewrite (rewrite.ReplaceHeader name pattern (format_of parts))
-action_of (action.ReplaceValue name pattern parts) =
-    built.Rewrite (rewrite.ReplaceValue name pattern (format_of parts))
-action_of (action.SetMethod parts) = built.Rewrite (rewrite.SetMethod (format_of parts))
-action_of (action.SetUri parts) = built.Rewrite (rewrite.SetUri (format_of parts))
-action_of (action.SetPath parts) = built.Rewrite (rewrite.SetPath (format_of parts))
-action_of (action.SetQuery parts) = built.Rewrite (rewrite.SetQuery (format_of parts))
-action_of (action.SetVar name expr) = built.SetVar name expr
-action_of (action.UnsetVar name) = built.UnsetVar name
-action_of (action.AddAcl table key) = built.Change (change.Add table (format_of key))
-action_of (action.DelAcl table key) = built.Change (change.Remove table (format_of key))
-action_of (action.DelMap table key) = built.Change (change.Remove table (format_of key))
-action_of (action.SetMap table key value) =
-    built.Change (change.Set table (format_of key) (format_of value))
-action_of (action.Redirect kind parts status drop_query) =
-    built.Redirect (redirect_to kind (format_of parts) (unwrap_or status 302) drop_query)
-action_of (action.StrictMode on) = built.StrictMode on
-
-abbrev pub when_of : Option (List (List Term)) → Option (List (List TestTerm))
-when_of cond = option_map terms_of cond
-
-abbrev pub rule_of : Rule → BuiltRule
-rule_of rule =
-    record { action = action_of rule.action; unless = rule.unless; cond = when_of rule.cond }
-
-abbrev pub backend_rule_of : List Part → Bool → Option (List (List Term)) → BackendRule
-backend_rule_of parts unless cond =
-    record { format = format_of parts; unless = unless; cond = when_of cond }
+abbrev pub backend_rule : List Part → Bool → Option (List (List Term)) → BackendRule
+backend_rule parts unless cond = record { format = parts; unless = unless; cond = cond }
 
 -- the old rules, with those of one statement more
 abbrev pub with_statement : Statement → Rules → Rules
 with_statement (statement.Acl line name decl) old =
-    record old { acls = old.acls ++ (name, test_of decl) ∷ [] }
-with_statement (statement.Rule rule) old = record old { rules = old.rules ++ rule_of rule ∷ [] }
-with_statement (statement.Redirect rule) old =
-    record old { redirects = old.redirects ++ rule_of rule ∷ [] }
+    record old { acls = old.acls ++ (name, decl) ∷ [] }
+with_statement (statement.Rule rule) old = record old { rules = old.rules ++ rule ∷ [] }
+with_statement (statement.Redirect rule) old = record old { redirects = old.redirects ++ rule ∷ [] }
 with_statement (statement.Backend line parts unless cond) old =
-    record old { backends = old.backends ++ backend_rule_of parts unless cond ∷ [] }
+    record old { backends = old.backends ++ backend_rule parts unless cond ∷ [] }
 with_statement (statement.Fallback line name) old = record old { fallback = Some name }
 with_statement _ old = old
 

@@ -1,6 +1,8 @@
 -- What comes after a rule, as the code keeps it beside the state.
 use Rattle.std.specs.Prelude.{◌≡◌, Bool, true, Option, Result, Ok, Err, if◌then◌else◌}
 use Rattle.std.specs.Option.{unwrap_or}
+use Rattle.hx_acl.specs.Holds.{Acls}
+use Rattle.hx_ast.specs.declared.statement.Rule.{Rule}
 use Rattle.hx_fetch.specs.declared.world.Conn.{Conn}
 use Rattle.hx_http.specs.Parts.{Parts}
 use Rattle.hx_http.specs.declared.fault.EditFault.{EditFault}
@@ -8,17 +10,18 @@ use Rattle.hx_http.specs.declared.fault.EditFault.TheVariants as fault
 use Rattle.hx_outside.specs.Makers.{ExpressionText}
 use Rattle.hx_sample.specs.Vars.{Scopes}
 use Rattle.hx_text.specs.declared.fault.NoMemory.{NoMemory}
-use Rattle.hx_rules.specs.declared.action.BuiltAction.TheVariants as built
 use Rattle.hx_rules.specs.declared.action.Rewrite.{Rewrite}
 use Rattle.hx_rules.specs.declared.actions.Continuation.{Continuation}
 use Rattle.hx_rules.specs.declared.actions.Continuation.TheVariants as continuation
 use Rattle.hx_rules.specs.declared.verdict.Verdict.{Verdict}
 use Rattle.hx_rules.specs.declared.verdict.Verdict.TheVariants as verdict
-use Rattle.hx_rules.specs.declared.program.BuiltRule.{BuiltRule}
-use Rattle.hx_rules.specs.Failures.{Acls, ActionAsksFor, is_taken_in}
+use Rattle.hx_rules.specs.Failures.{ActionAsksFor, is_taken_in}
+use Rattle.hx_rules.specs.Formats.{text_in}
+use Rattle.hx_rules.specs.ProgramView.{action_of_rewrite}
 use Rattle.hx_rules.specs.Programs.{Rules}
+use Rattle.hx_rules.specs.Rewrites.{edit_of}
 use Rattle.hx_rules.specs.State.{in_state, State, TableView}
-use Rattle.hx_rules.specs.Verdicts.{action_effect, Ends, Evaluation, Goes, Effect, Stops, verdict_at}
+use Rattle.hx_rules.specs.Verdicts.{action_effect, edit_effect, Ends, Evaluation, Goes, Effect, Stops, verdict_at}
 
 -- the effect that leaves this state
 abbrev pub effect_of : {S : Type 0} → Continuation → State S → Effect S
@@ -38,17 +41,19 @@ continuation_after (Err _) strict = Ok (continuation_refused strict)
 
 -- what a rewriting action does in a state
 abbrev pub rewrite_effect : {S : Type 0} → TableView S → Conn → Rewrite → State S → Effect S
-rewrite_effect view conn asked state = action_effect view conn (built.Rewrite asked) state
+rewrite_effect view conn asked state =
+    let text = text_in view conn state in
+    edit_effect (edit_of text (action_of_rewrite asked) state.message) state
 
 -- what a rule does in a state: its action where it is taken
-abbrev pub rule_effect : {S : Type 0} → TableView S → Conn → Acls → BuiltRule → State S → Effect S
+abbrev pub rule_effect : {S : Type 0} → TableView S → Conn → Acls → Rule → State S → Effect S
 rule_effect view conn acls rule state =
     if is_taken_in view conn acls state rule.unless rule.cond
     then action_effect view conn rule.action state
     else Goes state
 
 -- a rule in a state is taken, and asks for this expression
-abbrev pub RuleAsksFor : {S : Type 0} → TableView S → Conn → Acls → BuiltRule → State S
+abbrev pub RuleAsksFor : {S : Type 0} → TableView S → Conn → Acls → Rule → State S
     → ExpressionText → Type 0
 RuleAsksFor view conn acls rule state text =
     (is_taken_in view conn acls state rule.unless rule.cond ≡ true)

@@ -9,6 +9,8 @@ pub mod Verdicts
 pub mod Tables
 pub mod Failures
 -- views of the code, for the contracts of private functions
+pub mod ProgramView
+pub mod RedirectView
 pub mod EffectView
 pub mod ActionView
 pub mod ReplacingView

@@ -1,7 +1,7 @@
 -- Where a redirect sends the client (HAProxy configuration manual 2.4, section 4.2, `redirect`).
-use Rattle.std.specs.Prelude.{ℕ, Bool, List, [], ◌++◌, codes, if◌then◌else◌}
+use Rattle.std.specs.Prelude.{ℕ, Bool, List, [], ◌++◌, Option, codes, if◌then◌else◌}
 use Rattle.std.specs.List.{find, list_any}
-use Rattle.std.specs.Option.{option_map_or}
+use Rattle.std.specs.Option.{option_map_or, unwrap_or}
 use Rattle.std.specs.Str.{bytes_eq}
 use Rattle.hx_ast.specs.declared.action.RedirectKind.{RedirectKind}
 use Rattle.hx_ast.specs.declared.action.RedirectKind.TheVariants.{Location, Prefix, Scheme}
@@ -9,7 +9,6 @@ use Rattle.hx_base.specs.Bytes.{is_bad_value_byte}
 use Rattle.hx_http.specs.Edits.{has_name}
 use Rattle.hx_http.specs.Parts.{Parts}
 use Rattle.hx_http.specs.Target.{path_of, query_of, query_text}
-use Rattle.hx_rules.specs.declared.action.BuiltRedirect.{BuiltRedirect}
 use Rattle.hx_rules.specs.declared.verdict.Verdict.{Verdict}
 use Rattle.hx_rules.specs.declared.verdict.Verdict.TheVariants as verdict
 
@@ -31,10 +30,10 @@ location_of Prefix text drop_query head =
 location_of Scheme text drop_query head =
     text ++ codes "://" ++ host_of head ++ target_rest drop_query head.target
 
--- the verdict of a redirect whose format makes the text: an error where the location has CR, LF or
--- NUL
-abbrev pub redirect_verdict : BuiltRedirect → List ℕ → Parts → Verdict
-redirect_verdict redirect text head =
-    let location = location_of redirect.kind text redirect.drop_query head in
+-- The verdict of a redirect whose format makes the text: an error where the location has CR, LF or
+-- NUL. Without a status the client is sent there with 302.
+abbrev pub redirect_verdict : RedirectKind → List ℕ → Option ℕ → Bool → Parts → Verdict
+redirect_verdict kind text status drop_query head =
+    let location = location_of kind text drop_query head in
     if list_any is_bad_value_byte location then verdict.Error
-    else verdict.Redirect redirect.code location
+    else verdict.Redirect (unwrap_or status 302) location

@@ -4,6 +4,9 @@ use Rattle.std.specs.Prelude.{ℕ, ◌&&◌, Bool, false, List, ◌++◌, map, O
 use Rattle.std.specs.List.{join_with_byte, list_any}
 use Rattle.std.specs.Option.{option_map_or, unwrap_or}
 use Rattle.httparse.specs.Grammar.{is_token}
+use Rattle.hx_ast.specs.declared.action.Action.{Action}
+use Rattle.hx_ast.specs.declared.action.Action.TheVariants as action
+use Rattle.hx_ast.specs.declared.action.Part.{Part}
 use Rattle.hx_base.specs.Bytes.{ascii, is_bad_value_byte}
 use Rattle.hx_conv_text.specs.Substitution.{expanded_of}
 use Rattle.hx_http.specs.declared.fault.EditFault.{EditFault}
@@ -12,9 +15,6 @@ use Rattle.hx_http.specs.Edits.{add_header_fault, has_name, method_fault, path_f
 use Rattle.hx_http.specs.Parts.{Parts}
 use Rattle.hx_lists.specs.Blanks.{first_blanks, last_blanks, trim_blanks}
 use Rattle.hx_lists.specs.HeaderValues.{hdr_pieces}
-use Rattle.hx_rules.specs.declared.action.Rewrite.{Rewrite}
-use Rattle.hx_rules.specs.declared.action.Rewrite.TheVariants as rewrite
-use Rattle.hx_rules.specs.declared.format.BuiltPart.{BuiltPart}
 
 -- ---- values
 
@@ -68,24 +68,26 @@ replacing_edit name replace head =
 
 -- The edit of a rewriting action, where `text` gives the texts of formats. `replace-header` and
 -- `replace-value` put what their text makes of the leftmost match in the place of a value, if there
--- is a match: of the whole value of a line, or of each between commas.
-abbrev pub edit_of : (List BuiltPart → List ℕ) → Rewrite → Parts → Edit
-edit_of text (rewrite.SetHeader name format) head =
+-- is a match: of the whole value of a line, or of each between commas. Any other action leaves the
+-- head as it is.
+abbrev pub edit_of : (List Part → List ℕ) → Action → Parts → Edit
+edit_of text (action.SetHeader name format) head =
     edited (named_fault name (set_header_fault name (text format) head))
     (with_only_header name (text format) head)
-edit_of text (rewrite.AddHeader name format) head =
+edit_of text (action.AddHeader name format) head =
     edited (named_fault name (add_header_fault name (text format) head))
     (with_header name (text format) head)
-edit_of text (rewrite.DelHeader name) head = edited None (without_header name head)
-edit_of text (rewrite.ReplaceHeader name pattern format) head =
+edit_of text (action.DelHeader name) head = edited None (without_header name head)
+edit_of text (action.ReplaceHeader name pattern format) head =
     replacing_edit name (expanded_of false pattern (text format)) head
-edit_of text (rewrite.ReplaceValue name pattern format) head =
+edit_of text (action.ReplaceValue name pattern format) head =
     replacing_edit name (each_replaced (expanded_of false pattern (text format))) head
-edit_of text (rewrite.SetMethod format) head =
+edit_of text (action.SetMethod format) head =
     edited (method_fault (text format)) (with_method (text format) head)
-edit_of text (rewrite.SetUri format) head =
+edit_of text (action.SetUri format) head =
     edited (target_fault (text format)) (with_target (text format) head)
-edit_of text (rewrite.SetPath format) head =
+edit_of text (action.SetPath format) head =
     edited (path_fault (text format) head.target) (with_path (text format) head)
-edit_of text (rewrite.SetQuery format) head =
+edit_of text (action.SetQuery format) head =
     edited (query_fault (text format)) (with_query (text format) head)
+edit_of text _ head = edited None head

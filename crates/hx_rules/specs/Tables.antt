@@ -2,59 +2,48 @@
 use Rattle.std.specs.Prelude.{ℕ, ◌<◌, List, Option, IfSome, ⊤}
 use Rattle.std.specs.List.{All}
 use Rattle.hx_acl.specs.Holds.{HasAclsHeads, HasCondHeads}
-use Rattle.hx_acl.specs.declared.term.TestTerm.{TestTerm}
+use Rattle.hx_ast.specs.declared.action.Action.{Action}
+use Rattle.hx_ast.specs.declared.action.Action.TheVariants as action
+use Rattle.hx_ast.specs.declared.action.Part.{Part}
+use Rattle.hx_ast.specs.declared.action.Part.TheVariants.{Text, Value}
+use Rattle.hx_ast.specs.declared.statement.Rule.{Rule}
+use Rattle.hx_ast.specs.declared.statement.Term.{Term}
 use Rattle.hx_expr.specs.Values.{HasTableHeads}
 use Rattle.hx_sample.specs.Tables.{TableHead}
-use Rattle.hx_rules.specs.declared.action.BuiltAction.{BuiltAction}
-use Rattle.hx_rules.specs.declared.action.BuiltAction.TheVariants as built
-use Rattle.hx_rules.specs.declared.action.Rewrite.{Rewrite}
-use Rattle.hx_rules.specs.declared.action.Rewrite.TheVariants as rewrite
-use Rattle.hx_rules.specs.declared.action.TableChange.{TableChange}
-use Rattle.hx_rules.specs.declared.action.TableChange.TheVariants as change
-use Rattle.hx_rules.specs.declared.format.BuiltPart.{BuiltPart}
-use Rattle.hx_rules.specs.declared.format.BuiltPart.TheVariants.{Text, Value}
-use Rattle.hx_rules.specs.declared.program.BackendRule.{BackendRule}
-use Rattle.hx_rules.specs.declared.program.BuiltRule.{BuiltRule}
-use Rattle.hx_rules.specs.Programs.{Rules}
+use Rattle.hx_rules.specs.Programs.{BackendRule, Rules}
 
 -- ---- heads
 
-abbrev pub HasPartHeads : List TableHead → BuiltPart → Type 0
+abbrev pub HasPartHeads : List TableHead → Part → Type 0
 HasPartHeads heads (Text bytes) = ⊤
 HasPartHeads heads (Value expr) = HasTableHeads heads expr.convs
 
 -- the heads that the expressions of a format name are among these, with the methods named there
-abbrev pub HasFormatHeads : List TableHead → List BuiltPart → Type 0
+abbrev pub HasFormatHeads : List TableHead → List Part → Type 0
 HasFormatHeads heads format = All (HasPartHeads heads) format
 
-abbrev pub HasRewriteHeads : List TableHead → Rewrite → Type 0
-HasRewriteHeads heads (rewrite.SetHeader name format) = HasFormatHeads heads format
-HasRewriteHeads heads (rewrite.AddHeader name format) = HasFormatHeads heads format
-HasRewriteHeads heads (rewrite.DelHeader name) = ⊤
-HasRewriteHeads heads (rewrite.ReplaceHeader name pattern format) = HasFormatHeads heads format
-HasRewriteHeads heads (rewrite.ReplaceValue name pattern format) = HasFormatHeads heads format
-HasRewriteHeads heads (rewrite.SetMethod format) = HasFormatHeads heads format
-HasRewriteHeads heads (rewrite.SetUri format) = HasFormatHeads heads format
-HasRewriteHeads heads (rewrite.SetPath format) = HasFormatHeads heads format
-HasRewriteHeads heads (rewrite.SetQuery format) = HasFormatHeads heads format
-
-abbrev pub HasChangeHeads : List TableHead → TableChange → Type 0
-HasChangeHeads heads (change.Add table key) = HasFormatHeads heads key
-HasChangeHeads heads (change.Remove table key) = HasFormatHeads heads key
-HasChangeHeads heads (change.Set table key value) =
+abbrev pub HasActionHeads : List TableHead → Action → Type 0
+HasActionHeads heads (action.SetHeader name format) = HasFormatHeads heads format
+HasActionHeads heads (action.AddHeader name format) = HasFormatHeads heads format
+HasActionHeads heads (action.ReplaceHeader name pattern format) = HasFormatHeads heads format
+HasActionHeads heads (action.ReplaceValue name pattern format) = HasFormatHeads heads format
+HasActionHeads heads (action.SetMethod format) = HasFormatHeads heads format
+HasActionHeads heads (action.SetUri format) = HasFormatHeads heads format
+HasActionHeads heads (action.SetPath format) = HasFormatHeads heads format
+HasActionHeads heads (action.SetQuery format) = HasFormatHeads heads format
+HasActionHeads heads (action.SetVar name expr) = HasTableHeads heads expr.convs
+HasActionHeads heads (action.AddAcl table key) = HasFormatHeads heads key
+HasActionHeads heads (action.DelAcl table key) = HasFormatHeads heads key
+HasActionHeads heads (action.DelMap table key) = HasFormatHeads heads key
+HasActionHeads heads (action.SetMap table key value) =
     HasFormatHeads heads key × HasFormatHeads heads value
-
-abbrev pub HasActionHeads : List TableHead → BuiltAction → Type 0
-HasActionHeads heads (built.Rewrite rewrite) = HasRewriteHeads heads rewrite
-HasActionHeads heads (built.SetVar name expr) = HasTableHeads heads expr.convs
-HasActionHeads heads (built.Change asked) = HasChangeHeads heads asked
-HasActionHeads heads (built.Redirect redirect) = HasFormatHeads heads redirect.format
+HasActionHeads heads (action.Redirect kind format status drop_query) = HasFormatHeads heads format
 HasActionHeads heads _ = ⊤
 
-abbrev pub HasWhenHeads : List TableHead → Option (List (List TestTerm)) → Type 0
+abbrev pub HasWhenHeads : List TableHead → Option (List (List Term)) → Type 0
 HasWhenHeads heads cond = IfSome cond (HasCondHeads heads)
 
-pub record HasRuleHeads (heads : List TableHead) (rule : BuiltRule) : Type 0 where
+pub record HasRuleHeads (heads : List TableHead) (rule : Rule) : Type 0 where
   pub action : HasActionHeads heads rule.action
   pub cond : HasWhenHeads heads rule.cond
 
@@ -71,15 +60,12 @@ pub record HasHeads (heads : List TableHead) (program : Rules) : Type 0 where
 
 -- ---- lists
 
--- the position of the list that an action changes
-abbrev pub list_of : TableChange → ℕ
-list_of (change.Add table key) = table
-list_of (change.Remove table key) = table
-list_of (change.Set table key value) = table
-
 -- an action changes one of so many lists, if it changes one
-abbrev pub ChangesOneOf : ℕ → BuiltAction → Type 0
-ChangesOneOf count (built.Change asked) = list_of asked < count
+abbrev pub ChangesOneOf : ℕ → Action → Type 0
+ChangesOneOf count (action.AddAcl table key) = table < count
+ChangesOneOf count (action.DelAcl table key) = table < count
+ChangesOneOf count (action.DelMap table key) = table < count
+ChangesOneOf count (action.SetMap table key value) = table < count
 ChangesOneOf count _ = ⊤
 
 -- the rules of a program change none but so many lists

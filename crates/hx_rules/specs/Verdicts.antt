@@ -3,9 +3,12 @@
 use Rattle.std.specs.Prelude.{ℕ, ◌&&◌, nat_lt, Bool, true, not, ◌==◌, List, [], ◌∷◌, length, Option, None, Some, if◌then◌else◌}
 use Rattle.std.specs.List.{filter, filter_map, find, list_all}
 use Rattle.std.specs.Option.{is_none, option_map_or, unwrap_or}
-use Rattle.hx_acl.specs.Holds.{cond_holds}
-use Rattle.hx_acl.specs.Tests.{AclTest}
-use Rattle.hx_acl.specs.declared.term.TestTerm.{TestTerm}
+use Rattle.hx_acl.specs.Holds.{Acls, cond_holds}
+use Rattle.hx_ast.specs.declared.action.Action.{Action}
+use Rattle.hx_ast.specs.declared.action.Action.TheVariants as action
+use Rattle.hx_ast.specs.declared.action.Part.{Part}
+use Rattle.hx_ast.specs.declared.statement.Rule.{Rule}
+use Rattle.hx_ast.specs.declared.statement.Term.{Term}
 use Rattle.hx_expr.specs.Values.{expr_value}
 use Rattle.hx_fetch.specs.World.{Context}
 use Rattle.hx_fetch.specs.declared.world.Conn.{Conn}
@@ -14,26 +17,19 @@ use Rattle.hx_sample.specs.Changes.{Addition, ListChange, NewValue, Removal}
 use Rattle.hx_sample.specs.Find.{Entry, first_item}
 use Rattle.hx_sample.specs.Tables.{TableHead}
 use Rattle.hx_sample.specs.Vars.{Scopes, with_var, without_var}
-use Rattle.hx_rules.specs.declared.action.BuiltAction.{BuiltAction}
-use Rattle.hx_rules.specs.declared.action.BuiltAction.TheVariants as built
-use Rattle.hx_rules.specs.declared.action.TableChange.{TableChange}
-use Rattle.hx_rules.specs.declared.action.TableChange.TheVariants as change
-use Rattle.hx_rules.specs.declared.format.BuiltPart.{BuiltPart}
-use Rattle.hx_rules.specs.declared.program.BackendRule.{BackendRule}
-use Rattle.hx_rules.specs.declared.program.BuiltRule.{BuiltRule}
 use Rattle.hx_rules.specs.declared.verdict.Verdict.{Verdict}
 use Rattle.hx_rules.specs.declared.verdict.Verdict.TheVariants as verdict
 use Rattle.hx_rules.specs.Formats.{format_text, text_in}
 use Rattle.hx_rules.specs.Locations.{redirect_verdict}
-use Rattle.hx_rules.specs.Programs.{Rules}
-use Rattle.hx_rules.specs.Rewrites.{edit_of}
+use Rattle.hx_rules.specs.Programs.{BackendRule, Rules}
+use Rattle.hx_rules.specs.Rewrites.{Edit, edit_of}
 use Rattle.hx_rules.specs.State.{in_state, State, TableView}
 
 -- ---- when a rule is taken
 
 -- Whether a rule is taken, where `holds` says which conditions hold: with `if` where its condition
 -- holds, with `unless` where it doesn't, and always without one.
-abbrev pub is_taken : (List (List TestTerm) → Bool) → Bool → Option (List (List TestTerm)) → Bool
+abbrev pub is_taken : (List (List Term) → Bool) → Bool → Option (List (List Term)) → Bool
 is_taken holds unless cond =
     option_map_or (λ given. if unless then not (holds given) else holds given) cond true
 
@@ -45,32 +41,44 @@ pub data Effect (S : Type 0) : Type 0 where
   Goes Stops : State S → Effect S
   Ends : Verdict → State S → Effect S
 
--- which list an action changes, by its position, and how, where `text` gives the texts of formats
-abbrev pub list_change : (List BuiltPart → List ℕ) → TableChange → ℕ × ListChange
-list_change text (change.Add table key) = (table, Addition (text key))
-list_change text (change.Remove table key) = (table, Removal (text key))
-list_change text (change.Set table key value) = (table, NewValue (text key) (text value))
-
--- What an action does in a state. A rewrite that is refused changes nothing, and ends the request
--- with an error in strict mode. A variable keeps its value where an expression has none.
-abbrev pub action_effect : {S : Type 0} → TableView S → Conn → BuiltAction → State S → Effect S
-action_effect view conn built.Allow state = Stops state
-action_effect view conn (built.Deny code) state = Ends (verdict.Deny code) state
-action_effect view conn (built.Rewrite rewrite) state =
-    let edit = edit_of (text_in view conn state) rewrite state.message in
+-- a rewrite that is refused changes nothing, and ends the request with an error in strict mode
+abbrev pub edit_effect : {S : Type 0} → Edit → State S → Effect S
+edit_effect edit state =
     if is_none edit.fault then Goes (record state { message = edit.head })
     else if state.strict then Ends verdict.Error state else Goes state
-action_effect view conn (built.SetVar name expr) state =
+
+-- a change of the list at a position
+abbrev pub change_effect : {S : Type 0} → TableView S → ℕ → ListChange → State S → Effect S
+change_effect view table change state =
+    Goes (record state { tables = view.after state.tables table change })
+
+-- What an action does in a state. Without a status a request is denied with 403. A variable keeps
+-- its value where an expression has none. A key is removed from a list of patterns as it is from a
+-- map. What isn't named here rewrites the head.
+abbrev pub action_effect : {S : Type 0} → TableView S → Conn → Action → State S → Effect S
+action_effect view conn action.Allow state = Stops state
+action_effect view conn (action.Deny status) state =
+    Ends (verdict.Deny (unwrap_or status 403)) state
+action_effect view conn (action.SetVar name expr) state =
     let value = in_state expr_value view conn state expr in
     Goes (record state { vars = option_map_or (with_var state.vars conn.id name) value state.vars })
-action_effect view conn (built.UnsetVar name) state =
+action_effect view conn (action.UnsetVar name) state =
     Goes (record state { vars = without_var state.vars conn.id name })
-action_effect view conn (built.Change asked) state =
-    let (table, new) = list_change (text_in view conn state) asked in
-    Goes (record state { tables = view.after state.tables table new })
-action_effect view conn (built.Redirect redirect) state =
-    Ends (redirect_verdict redirect (text_in view conn state redirect.format) state.message) state
-action_effect view conn (built.StrictMode on) state = Goes (record state { strict = on })
+action_effect view conn (action.AddAcl table key) state =
+    change_effect view table (Addition (text_in view conn state key)) state
+action_effect view conn (action.DelAcl table key) state =
+    change_effect view table (Removal (text_in view conn state key)) state
+action_effect view conn (action.DelMap table key) state =
+    change_effect view table (Removal (text_in view conn state key)) state
+action_effect view conn (action.SetMap table key value) state =
+    let change = NewValue (text_in view conn state key) (text_in view conn state value) in
+    change_effect view table change state
+action_effect view conn (action.Redirect kind format status drop_query) state =
+    let text = text_in view conn state format in
+    Ends (redirect_verdict kind text status drop_query state.message) state
+action_effect view conn (action.StrictMode on) state = Goes (record state { strict = on })
+action_effect view conn rewrite state =
+    edit_effect (edit_of (text_in view conn state) rewrite state.message) state
 
 -- ---- rules
 
@@ -80,8 +88,7 @@ then_rules rest (Goes state) = rest state
 then_rules rest effect = effect
 
 -- the rules of `http-request`, from a state: each is judged in the state that those before it leave
-abbrev pub rules_effect : {S : Type 0} → TableView S → Conn → List (List ℕ × AclTest)
-    → List BuiltRule → State S → Effect S
+abbrev pub rules_effect : {S : Type 0} → TableView S → Conn → Acls → List Rule → State S → Effect S
 rules_effect view conn acls [] state = Goes state
 rules_effect view conn acls (rule ∷ rules) state =
     if is_taken (in_state cond_holds view conn state acls) rule.unless rule.cond
@@ -89,14 +96,14 @@ rules_effect view conn acls (rule ∷ rules) state =
     else rules_effect view conn acls rules state
 
 -- the verdict of an action, if it redirects
-abbrev pub redirection : (List BuiltPart → List ℕ) → Parts → BuiltAction → Option Verdict
-redirection text head (built.Redirect redirect) =
-    Some (redirect_verdict redirect (text redirect.format) head)
+abbrev pub redirection : (List Part → List ℕ) → Parts → Action → Option Verdict
+redirection text head (action.Redirect kind format status drop_query) =
+    Some (redirect_verdict kind (text format) status drop_query head)
 redirection text head _ = None
 
 -- the verdict of the first redirect that is taken
-abbrev pub redirects_verdict : (List (List TestTerm) → Bool) → (List BuiltPart → List ℕ) → Parts
-    → List BuiltRule → Option Verdict
+abbrev pub redirects_verdict : (List (List Term) → Bool) → (List Part → List ℕ) → Parts
+    → List Rule → Option Verdict
 redirects_verdict holds text head rules =
     first_item (filter_map (λ rule. redirection text head rule.action)
     (filter (λ rule. is_taken holds rule.unless rule.cond) rules))
@@ -114,7 +121,7 @@ named_backend text fallback =
 
 -- The backend of the first rule of `use_backend` that is taken. Where its format makes no name, and
 -- where no rule is taken, it is that of `default_backend`.
-abbrev pub backend_of : (List (List TestTerm) → Bool) → (List BuiltPart → List ℕ) → List BackendRule
+abbrev pub backend_of : (List (List Term) → Bool) → (List Part → List ℕ) → List BackendRule
     → Option (List ℕ) → Option (List ℕ)
 backend_of holds text rules fallback =
     option_map_or (λ rule. named_backend (text rule.format) fallback)

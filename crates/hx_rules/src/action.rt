@@ -22,25 +22,27 @@ pub(crate) enum Rewrite {
 /// get a value, the last of the formats.
 #[derive(Drop)]
 pub(crate) enum TableChange {
-    Add(u32, BuiltFormat),
-    Remove(u32, BuiltFormat),
-    Set(u32, BuiltFormat, BuiltFormat),
+    AddAcl(u32, BuiltFormat),
+    DelAcl(u32, BuiltFormat),
+    DelMap(u32, BuiltFormat),
+    SetMap(u32, BuiltFormat, BuiltFormat),
 }
 
-/// An action that sends the client elsewhere, with a status, and with or without the query.
+/// An action that sends the client elsewhere, with the status that it names, if it names one, and
+/// with or without the query.
 #[derive(Drop)]
 pub(crate) struct BuiltRedirect {
     pub(crate) kind: RedirectKind,
     pub(crate) format: BuiltFormat,
-    pub(crate) code: u16,
+    pub(crate) status: Option<u16>,
     pub(crate) drop_query: bool,
 }
 
-/// What a rule does, ready to be done.
+/// What a rule does, ready to be done. `specs/ProgramView.antt` says which action it stands for.
 #[derive(Drop)]
 pub(crate) enum BuiltAction {
     Allow,
-    Deny(u16),
+    Deny(Option<u16>),
     Rewrite(Rewrite),
     SetVar(VarName, Plan),
     UnsetVar(VarName),

@@ -5,7 +5,8 @@ ghost use Rattle.hx_sample.specs.Changes.{ChangeCountsLarge};
 ghost use Rattle.hx_sample.specs.Vars.{with_var};
 ghost use Rattle.hx_rules.specs.Failures.{ActionAsksFor};
 ghost use Rattle.hx_rules.specs.State.{table_view};
-ghost use Rattle.hx_rules.specs.Tables.{ChangesOneOf, HasActionHeads, HasRewriteHeads};
+ghost use Rattle.hx_rules.specs.ProgramView.{action_of_built, action_of_rewrite};
+ghost use Rattle.hx_rules.specs.Tables.{ChangesOneOf, HasActionHeads};
 ghost use Rattle.hx_rules.specs.EffectView.{effect_of, rewrite_effect, continuation_after, continuation_refused};
 ghost use Rattle.hx_rules.specs.Verdicts.{action_effect};
 
@@ -65,17 +66,17 @@ fn rewrite_or_end<T: Tables, L: Ledger>(
     strict: bool,
     steps: &mut Steps<L>,
 ) -> Result<Continuation, NoMemory>
-    requires { HasRewriteHeads (T.heads tables.now) asked.now }
+    requires { HasActionHeads (T.heads (T.state tables.now)) (action_of_rewrite asked.now) }
     ensures ok { IfOk result (λ after. effect_of after (record {
       message = message.new;
       vars = vars.now;
-      tables = tables.now;
+      tables = T.state tables.now;
       strict = strict;
     })
         ≡ rewrite_effect (table_view T.heads T.lists T.after_change) conn.now asked.now (record {
           message = message.old;
           vars = vars.now;
-          tables = tables.now;
+          tables = T.state tables.now;
           strict = strict;
         })) }
     ensures kept { OnErr result (message.new ≡ message.old) }
@@ -94,10 +95,10 @@ fn value<T: Tables, L: Ledger>(
     tables: &T,
     steps: &mut Steps<L>,
 ) -> Result<Option<Value>, NoMemory>
-    requires { HasTableHeads (T.heads tables.now) plan.now.convs }
+    requires { HasTableHeads (T.heads (T.state tables.now)) plan.now.convs }
     ensures { IfOk result (λ value. value ≡ expr_value
         (record { message = message.now; conn = conn.now; vars = vars.now })
-        (T.heads tables.now) (T.lists tables.now) plan.now) }
+        (T.heads (T.state tables.now)) (T.lists (T.state tables.now)) plan.now) }
 {
     let world = World {
         message,
@@ -140,38 +141,43 @@ pub(crate) fn act<T: Tables, M: ReMaker, L: Ledger>(
     maker: &mut M,
     steps: &mut Steps<L>,
 ) -> Result<Continuation, TableFault>
-    requires heads { HasActionHeads (T.heads tables.old) action.now }
-    requires list { ChangesOneOf (length (T.lists tables.old)) action.now }
+    requires heads { HasActionHeads (T.heads (T.state tables.old)) (action_of_built action.now) }
+    requires list { ChangesOneOf (length (T.lists (T.state tables.old)))
+        (action_of_built action.now) }
     ensures ok { IfOk result (λ after. effect_of after (record {
       message = message.new;
       vars = vars.new;
-      tables = tables.new;
+      tables = T.state tables.new;
       strict = strict.new;
     })
-        ≡ action_effect (table_view T.heads T.lists T.after_change) conn.now action.now (record {
+        ≡ action_effect (table_view T.heads T.lists T.after_change) conn.now
+        (action_of_built action.now) (record {
           message = message.old;
           vars = vars.old;
-          tables = tables.old;
+          tables = T.state tables.old;
           strict = strict.old;
         })) }
     ensures message { OnErr result (message.new ≡ message.old) }
     ensures vars { OnErr result (vars.new ≡ vars.old) }
     ensures tables { OnErr result (tables.new ≡ tables.old) }
-    ensures heads { T.heads tables.new ≡ T.heads tables.old }
-    ensures lists { length (T.lists tables.new) ≡ length (T.lists tables.old) }
+    ensures heads { T.heads (T.state tables.new) ≡ T.heads (T.state tables.old) }
+    ensures lists { length (T.lists (T.state tables.new)) ≡ length (T.lists (T.state tables.old)) }
     ensures large { ChangeCountsLarge result
-        (ActionAsksFor (table_view T.heads T.lists T.after_change) conn.now action.now (record {
+        (ActionAsksFor (table_view T.heads T.lists T.after_change) conn.now
+        (action_of_built action.now) (record {
           message = message.old;
           vars = vars.old;
-          tables = tables.old;
+          tables = T.state tables.old;
           strict = strict.old;
         }))
-        (record { too_large = M.too_large maker.old; large = M.large maker.old })
-        (record { too_large = M.too_large maker.new; large = M.large maker.new }) }
+        (M.state maker.old) (M.state maker.new) }
 {
     match action {
         BuiltAction::Allow => Ok(Continuation::Stops),
-        BuiltAction::Deny(code) => Ok(Continuation::Ends(Verdict::Deny { code: *code })),
+        BuiltAction::Deny(status) => {
+            let code = status.unwrap_or(403);
+            Ok(Continuation::Ends(Verdict::Deny { code }))
+        }
         BuiltAction::Rewrite(asked) => {
             let after = rewrite_or_end(alloc, asked, message, conn, vars, tables, *strict, steps)?;
             Ok(after)

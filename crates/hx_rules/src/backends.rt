@@ -1,15 +1,17 @@
 ghost use Rattle.std.specs.Prelude.{◌≡◌, IfOk};
 ghost use Rattle.std.specs.List.{All, list_all};
+ghost use Rattle.std.specs.Option.{option_copied};
 ghost use Rattle.hx_acl.specs.Holds.{cond_holds, HasAclsHeads};
 ghost use Rattle.hx_fetch.specs.World.{context_of};
 ghost use Rattle.hx_rules.specs.Formats.{format_text};
+ghost use Rattle.hx_rules.specs.RedirectView.{redirect_in};
 ghost use Rattle.hx_rules.specs.Tables.{HasBackendHeads, HasRuleHeads};
 ghost use Rattle.hx_rules.specs.Verdicts.{backend_of, is_backend_byte, named_backend, redirects_verdict};
 
-use crate::action::BuiltAction;
+use crate::action::{BuiltAction, BuiltRedirect};
 use crate::formats::format_text;
 use crate::locations::redirect;
-use crate::program::{BackendRule, BuiltRule};
+use crate::program::{BuiltBackend, BuiltRule};
 use crate::taking::is_taken;
 use crate::verdict::Verdict;
 use hx_acl::AclSet;
@@ -20,6 +22,16 @@ use hx_text::{NoMemory, Octets};
 use std::alloc::Global;
 use std::sync::ledger::Ledger;
 
+/// The redirect that an action is, if it is one.
+fn redirect_in(action: &BuiltAction) -> Option<&BuiltRedirect>
+    ensures { option_copied result ≡ redirect_in action.now }
+{
+    match action {
+        BuiltAction::Redirect(asked) => Some(asked),
+        _ => None,
+    }
+}
+
 /// The verdict of the first redirect that is taken, if one is.
 pub(crate) fn redirected<'w, T: Tables, L: Ledger>(
     alloc: Global,
@@ -29,17 +41,19 @@ pub(crate) fn redirected<'w, T: Tables, L: Ledger>(
     tables: &'w T,
     steps: &mut Steps<L>,
 ) -> Result<Option<Verdict>, NoMemory>
-    requires rules { All (HasRuleHeads (T.heads tables.now)) rules.now }
-    requires acls { HasAclsHeads (T.heads tables.now) acls.now }
+    requires rules { All (HasRuleHeads (T.heads (T.state tables.now))) rules.now }
+    requires acls { HasAclsHeads (T.heads (T.state tables.now)) acls.now }
     ensures { IfOk result (λ verdict. verdict
         ≡ redirects_verdict
-        (cond_holds (context_of world.now) (T.heads tables.now) (T.lists tables.now) acls.now)
-        (format_text (context_of world.now) (T.heads tables.now) (T.lists tables.now))
+        (cond_holds (context_of world.now) (T.heads (T.state tables.now))
+        (T.lists (T.state tables.now)) acls.now)
+        (format_text (context_of world.now) (T.heads (T.state tables.now))
+        (T.lists (T.state tables.now)))
         world.now.message.now rules.now) }
 {
     let mut rest = rules;
     while let [rule, others @ ..] = rest {
-        if let BuiltAction::Redirect(asked) = &rule.action {
+        if let Some(asked) = redirect_in(&rule.action) {
             if is_taken(alloc, rule.unless, &rule.cond, acls, world, tables, steps)? {
                 return Ok(Some(redirect(alloc, asked, world, tables, steps)?));
             }
@@ -90,19 +104,21 @@ fn copied(alloc: Global, name: &Option<Octets>) -> Result<Option<Octets>, NoMemo
 /// The backend of the first rule that is taken, or else the other one.
 pub(crate) fn backend<'w, T: Tables, L: Ledger>(
     alloc: Global,
-    rules: &[BackendRule],
+    rules: &[BuiltBackend],
     fallback: &Option<Octets>,
     acls: &AclSet,
     world: &World<'w>,
     tables: &'w T,
     steps: &mut Steps<L>,
 ) -> Result<Option<Octets>, NoMemory>
-    requires rules { All (HasBackendHeads (T.heads tables.now)) rules.now }
-    requires acls { HasAclsHeads (T.heads tables.now) acls.now }
+    requires rules { All (HasBackendHeads (T.heads (T.state tables.now))) rules.now }
+    requires acls { HasAclsHeads (T.heads (T.state tables.now)) acls.now }
     ensures { IfOk result (λ backend. backend
         ≡ backend_of
-        (cond_holds (context_of world.now) (T.heads tables.now) (T.lists tables.now) acls.now)
-        (format_text (context_of world.now) (T.heads tables.now) (T.lists tables.now))
+        (cond_holds (context_of world.now) (T.heads (T.state tables.now))
+        (T.lists (T.state tables.now)) acls.now)
+        (format_text (context_of world.now) (T.heads (T.state tables.now))
+        (T.lists (T.state tables.now)))
         rules.now fallback.now) }
 {
     let mut rest = rules;

@@ -6,12 +6,13 @@ ghost use Rattle.hx_acl.specs.Typing.{is_cond_typed};
 ghost use Rattle.hx_expr.specs.Faults.{CompileCountsLarge, CompileNamesLarge};
 ghost use Rattle.hx_expr.specs.Types.{is_typed};
 ghost use Rattle.hx_rules.specs.ActionView.{are_expressions, is_change, is_rewrite};
-ghost use Rattle.hx_rules.specs.Building.{action_exprs, action_of, action_texts, are_typed, backend_rule_of, backend_texts, exprs_texts, format_exprs, format_of, part_exprs, part_of, rule_has_expressions, rule_of, rule_texts, when_of, when_texts};
+ghost use Rattle.hx_rules.specs.Building.{action_exprs, action_texts, are_typed, backend_rule, backend_texts, exprs_texts, format_exprs, part_exprs, rule_has_expressions, rule_texts, when_texts};
+ghost use Rattle.hx_rules.specs.ProgramView.{action_of_built};
 
 use crate::action::{BuiltAction, BuiltRedirect, Rewrite, TableChange};
-use crate::format::{BuiltFormat, BuiltPart};
+use crate::format::{BuiltFormat, BuiltPart, PartPlan};
 use crate::pattern::Pattern;
-use crate::program::{BackendRule, BuiltRule};
+use crate::program::{BuiltBackend, BuiltRule};
 use hx_acl::Condition;
 use hx_ast::{Action, Cond, Format, Items, Part, Rule};
 use hx_expr::{PlanFault, compile};
@@ -37,18 +38,23 @@ fn copied_name(alloc: Global, name: &VarName) -> Result<VarName, NoMemory>
 /// A part of a format, built.
 fn build_part<M: ReMaker>(alloc: Global, part: &Part, maker: &mut M) -> Result<BuiltPart, PlanFault>
     requires { list_all is_typed (part_exprs part.now) ≡ true }
-    ensures built { IfOk result (λ built. built ≡ part_of part.now) }
+    ensures built { IfOk result (λ built. built ≡ part.now) }
     ensures expressions { OnOk result (list_all has_expressions (part_exprs part.now) ≡ true) }
     ensures typed { ¬ (IsErrOf result PlanFault.BadType) }
     ensures bad { IsErrOf result PlanFault.BadPattern
         → list_all has_expressions (part_exprs part.now) ≡ false }
-    ensures counted { CompileCountsLarge result (M.too_large maker.old) (M.too_large maker.new) }
+    ensures counted { CompileCountsLarge result (M.state maker.old).too_large
+        (M.state maker.new).too_large }
     ensures large { CompileNamesLarge result (exprs_texts (part_exprs part.now))
-        (M.large maker.old) (M.large maker.new) }
+        (M.state maker.old).large (M.state maker.new).large }
 {
     match part {
-        Part::Text(bytes) => Ok(BuiltPart::Text(copied(alloc, bytes)?)),
-        Part::Value(expr) => Ok(BuiltPart::Value(compile(alloc, expr, maker)?)),
+        Part::Text(bytes) => Ok(BuiltPart {
+            plan: PartPlan::Text(copied(alloc, bytes)?),
+        }),
+        Part::Value(expr) => Ok(BuiltPart {
+            plan: PartPlan::Value(compile(alloc, expr, maker)?),
+        }),
     }
 }
 
@@ -59,15 +65,16 @@ fn build_format<M: ReMaker>(
     maker: &mut M,
 ) -> Result<BuiltFormat, PlanFault>
     requires { list_all is_typed (format_exprs format.now) ≡ true }
-    ensures built { IfOk result (λ built. built ≡ format_of format.now) }
+    ensures built { IfOk result (λ built. built ≡ format.now) }
     ensures expressions { OnOk result
         (list_all has_expressions (format_exprs format.now) ≡ true) }
     ensures typed { ¬ (IsErrOf result PlanFault.BadType) }
     ensures bad { IsErrOf result PlanFault.BadPattern
         → list_all has_expressions (format_exprs format.now) ≡ false }
-    ensures counted { CompileCountsLarge result (M.too_large maker.old) (M.too_large maker.new) }
+    ensures counted { CompileCountsLarge result (M.state maker.old).too_large
+        (M.state maker.new).too_large }
     ensures large { CompileNamesLarge result (exprs_texts (format_exprs format.now))
-        (M.large maker.old) (M.large maker.new) }
+        (M.state maker.old).large (M.state maker.new).large }
 {
     let mut built = Items::new(alloc);
     for part in format.as_slice() {
@@ -84,13 +91,14 @@ fn build_rewrite<M: ReMaker>(
 ) -> Result<BuiltAction, PlanFault>
     requires group { is_rewrite action.now ≡ true }
     requires typed { list_all is_typed (action_exprs action.now) ≡ true }
-    ensures built { IfOk result (λ built. built ≡ action_of action.now) }
+    ensures built { IfOk result (λ built. action_of_built built ≡ action.now) }
     ensures expressions { OnOk result (are_expressions action.now ≡ true) }
     ensures typed { ¬ (IsErrOf result PlanFault.BadType) }
     ensures bad { IsErrOf result PlanFault.BadPattern → are_expressions action.now ≡ false }
-    ensures counted { CompileCountsLarge result (M.too_large maker.old) (M.too_large maker.new) }
-    ensures large { CompileNamesLarge result (action_texts action.now) (M.large maker.old)
-        (M.large maker.new) }
+    ensures counted { CompileCountsLarge result (M.state maker.old).too_large
+        (M.state maker.new).too_large }
+    ensures large { CompileNamesLarge result (action_texts action.now) (M.state maker.old).large
+        (M.state maker.new).large }
 {
     match action {
         Action::SetHeader(name, format) => {
@@ -138,31 +146,32 @@ fn build_change<M: ReMaker>(
 ) -> Result<BuiltAction, PlanFault>
     requires group { is_change action.now ≡ true }
     requires typed { list_all is_typed (action_exprs action.now) ≡ true }
-    ensures built { IfOk result (λ built. built ≡ action_of action.now) }
+    ensures built { IfOk result (λ built. action_of_built built ≡ action.now) }
     ensures expressions { OnOk result (are_expressions action.now ≡ true) }
     ensures typed { ¬ (IsErrOf result PlanFault.BadType) }
     ensures bad { IsErrOf result PlanFault.BadPattern → are_expressions action.now ≡ false }
-    ensures counted { CompileCountsLarge result (M.too_large maker.old) (M.too_large maker.new) }
-    ensures large { CompileNamesLarge result (action_texts action.now) (M.large maker.old)
-        (M.large maker.new) }
+    ensures counted { CompileCountsLarge result (M.state maker.old).too_large
+        (M.state maker.new).too_large }
+    ensures large { CompileNamesLarge result (action_texts action.now) (M.state maker.old).large
+        (M.state maker.new).large }
 {
     match action {
         Action::AddAcl(table, key) => {
             let key = build_format(alloc, key, maker)?;
-            Ok(BuiltAction::Change(TableChange::Add(*table, key)))
+            Ok(BuiltAction::Change(TableChange::AddAcl(*table, key)))
         }
         Action::DelAcl(table, key) => {
             let key = build_format(alloc, key, maker)?;
-            Ok(BuiltAction::Change(TableChange::Remove(*table, key)))
+            Ok(BuiltAction::Change(TableChange::DelAcl(*table, key)))
         }
         Action::DelMap(table, key) => {
             let key = build_format(alloc, key, maker)?;
-            Ok(BuiltAction::Change(TableChange::Remove(*table, key)))
+            Ok(BuiltAction::Change(TableChange::DelMap(*table, key)))
         }
         Action::SetMap(table, key, value) => {
             let key = build_format(alloc, key, maker)?;
             let value = build_format(alloc, value, maker)?;
-            Ok(BuiltAction::Change(TableChange::Set(*table, key, value)))
+            Ok(BuiltAction::Change(TableChange::SetMap(*table, key, value)))
         }
         _ => unreachable!(),
     }
@@ -175,17 +184,18 @@ fn build_action<M: ReMaker>(
     maker: &mut M,
 ) -> Result<BuiltAction, PlanFault>
     requires { list_all is_typed (action_exprs action.now) ≡ true }
-    ensures built { IfOk result (λ built. built ≡ action_of action.now) }
+    ensures built { IfOk result (λ built. action_of_built built ≡ action.now) }
     ensures expressions { OnOk result (are_expressions action.now ≡ true) }
     ensures typed { ¬ (IsErrOf result PlanFault.BadType) }
     ensures bad { IsErrOf result PlanFault.BadPattern → are_expressions action.now ≡ false }
-    ensures counted { CompileCountsLarge result (M.too_large maker.old) (M.too_large maker.new) }
-    ensures large { CompileNamesLarge result (action_texts action.now) (M.large maker.old)
-        (M.large maker.new) }
+    ensures counted { CompileCountsLarge result (M.state maker.old).too_large
+        (M.state maker.new).too_large }
+    ensures large { CompileNamesLarge result (action_texts action.now) (M.state maker.old).large
+        (M.state maker.new).large }
 {
     match action {
         Action::Allow => Ok(BuiltAction::Allow),
-        Action::Deny(status) => Ok(BuiltAction::Deny(status.unwrap_or(403))),
+        Action::Deny(status) => Ok(BuiltAction::Deny(*status)),
         Action::SetHeader(_, _) | Action::AddHeader(_, _) => build_rewrite(alloc, action, maker),
         Action::DelHeader(_) => build_rewrite(alloc, action, maker),
         Action::ReplaceHeader(_, _, _) => build_rewrite(alloc, action, maker),
@@ -204,7 +214,7 @@ fn build_action<M: ReMaker>(
             Ok(BuiltAction::Redirect(BuiltRedirect {
                 kind: *kind,
                 format,
-                code: status.unwrap_or(302),
+                status: *status,
                 drop_query: *drop_query,
             }))
         }
@@ -219,15 +229,16 @@ fn build_when<M: ReMaker>(
     maker: &mut M,
 ) -> Result<Option<Condition>, PlanFault>
     requires { option_map_or is_cond_typed cond.now true ≡ true }
-    ensures built { IfOk result (λ built. built ≡ when_of cond.now) }
+    ensures built { IfOk result (λ built. built ≡ cond.now) }
     ensures expressions { OnOk result
         (option_map_or cond_has_expressions cond.now true ≡ true) }
     ensures typed { ¬ (IsErrOf result PlanFault.BadType) }
     ensures bad { IsErrOf result PlanFault.BadPattern
         → option_map_or cond_has_expressions cond.now true ≡ false }
-    ensures counted { CompileCountsLarge result (M.too_large maker.old) (M.too_large maker.new) }
-    ensures large { CompileNamesLarge result (when_texts cond.now) (M.large maker.old)
-        (M.large maker.new) }
+    ensures counted { CompileCountsLarge result (M.state maker.old).too_large
+        (M.state maker.new).too_large }
+    ensures large { CompileNamesLarge result (when_texts cond.now) (M.state maker.old).large
+        (M.state maker.new).large }
 {
     match cond {
         Some(cond) => Ok(Some(Condition::build(alloc, cond, maker)?)),
@@ -242,17 +253,19 @@ pub(crate) fn build_rule<M: ReMaker>(
     maker: &mut M,
 ) -> Result<BuiltRule, PlanFault>
     requires { are_typed (action_exprs rule.now.action) rule.now.cond ≡ true }
-    ensures built { IfOk result (λ built. built ≡ rule_of rule.now) }
+    ensures built { IfOk result (λ built. built ≡ rule.now) }
     ensures expressions { OnOk result (rule_has_expressions rule.now ≡ true) }
     ensures typed { ¬ (IsErrOf result PlanFault.BadType) }
     ensures bad { IsErrOf result PlanFault.BadPattern → rule_has_expressions rule.now ≡ false }
-    ensures counted { CompileCountsLarge result (M.too_large maker.old) (M.too_large maker.new) }
-    ensures large { CompileNamesLarge result (rule_texts rule.now) (M.large maker.old)
-        (M.large maker.new) }
+    ensures counted { CompileCountsLarge result (M.state maker.old).too_large
+        (M.state maker.new).too_large }
+    ensures large { CompileNamesLarge result (rule_texts rule.now) (M.state maker.old).large
+        (M.state maker.new).large }
 {
     let action = build_action(alloc, &rule.action, maker)?;
     let cond = build_when(alloc, &rule.cond, maker)?;
     Ok(BuiltRule {
+        line: rule.line,
         action,
         unless: rule.unless,
         cond,
@@ -266,23 +279,24 @@ pub(crate) fn build_backend<M: ReMaker>(
     unless: bool,
     cond: &Option<Cond>,
     maker: &mut M,
-) -> Result<BackendRule, PlanFault>
+) -> Result<BuiltBackend, PlanFault>
     requires format { list_all is_typed (format_exprs format.now) ≡ true }
     requires cond { option_map_or is_cond_typed cond.now true ≡ true }
-    ensures built { IfOk result (λ built. built ≡ backend_rule_of format.now unless cond.now) }
+    ensures built { IfOk result (λ built. built ≡ backend_rule format.now unless cond.now) }
     ensures expressions { OnOk result ((list_all has_expressions (format_exprs format.now)
         && option_map_or cond_has_expressions cond.now true) ≡ true) }
     ensures typed { ¬ (IsErrOf result PlanFault.BadType) }
     ensures bad { IsErrOf result PlanFault.BadPattern
         → (list_all has_expressions (format_exprs format.now)
         && option_map_or cond_has_expressions cond.now true) ≡ false }
-    ensures counted { CompileCountsLarge result (M.too_large maker.old) (M.too_large maker.new) }
+    ensures counted { CompileCountsLarge result (M.state maker.old).too_large
+        (M.state maker.new).too_large }
     ensures large { CompileNamesLarge result (backend_texts format.now cond.now)
-        (M.large maker.old) (M.large maker.new) }
+        (M.state maker.old).large (M.state maker.new).large }
 {
     let format = build_format(alloc, format, maker)?;
     let cond = build_when(alloc, cond, maker)?;
-    Ok(BackendRule {
+    Ok(BuiltBackend {
         format,
         unless,
         cond,

@@ -1,8 +1,8 @@
-ghost use Rattle.std.specs.Prelude.{◌≡◌, ◌<◌, length, OnOk, OnErr};
+ghost use Rattle.std.specs.Prelude.{◌≡◌, length, OnOk, OnErr};
 ghost use Rattle.hx_sample.specs.Changes.{ChangeAsksFor, ChangeCountsLarge};
 ghost use Rattle.hx_rules.specs.Formats.{format_text};
-ghost use Rattle.hx_rules.specs.Tables.{HasChangeHeads, list_of};
-ghost use Rattle.hx_rules.specs.Verdicts.{list_change};
+ghost use Rattle.hx_rules.specs.ProgramView.{action_of_change, list_change};
+ghost use Rattle.hx_rules.specs.Tables.{ChangesOneOf, HasActionHeads};
 
 use crate::action::TableChange;
 use crate::formats::text_of;
@@ -26,41 +26,41 @@ pub(crate) fn change_list<T: Tables, M: ReMaker, L: Ledger>(
     maker: &mut M,
     steps: &mut Steps<L>,
 ) -> Result<(), TableFault>
-    requires heads { HasChangeHeads (T.heads tables.old) asked.now }
-    requires list { list_of asked.now < length (T.lists tables.old) }
-    ensures ok { OnOk result (tables.new ≡ T.after_change tables.old
+    requires heads { HasActionHeads (T.heads (T.state tables.old)) (action_of_change asked.now) }
+    requires list { ChangesOneOf (length (T.lists (T.state tables.old)))
+        (action_of_change asked.now) }
+    ensures ok { OnOk result (T.state tables.new ≡ T.after_change (T.state tables.old)
         (list_change (format_text
         (record { message = message.now; conn = conn.now; vars = vars.now })
-        (T.heads tables.old) (T.lists tables.old)) asked.now).0
+        (T.heads (T.state tables.old)) (T.lists (T.state tables.old))) asked.now).0
         (list_change (format_text
         (record { message = message.now; conn = conn.now; vars = vars.now })
-        (T.heads tables.old) (T.lists tables.old)) asked.now).1) }
+        (T.heads (T.state tables.old)) (T.lists (T.state tables.old))) asked.now).1) }
     ensures kept { OnErr result (tables.new ≡ tables.old) }
-    ensures heads { T.heads tables.new ≡ T.heads tables.old }
-    ensures lists { length (T.lists tables.new) ≡ length (T.lists tables.old) }
+    ensures heads { T.heads (T.state tables.new) ≡ T.heads (T.state tables.old) }
+    ensures lists { length (T.lists (T.state tables.new)) ≡ length (T.lists (T.state tables.old)) }
     ensures large { ChangeCountsLarge result
-        (ChangeAsksFor (T.heads tables.old)
+        (ChangeAsksFor (T.heads (T.state tables.old)) (T.lists (T.state tables.old))
         (list_change (format_text
         (record { message = message.now; conn = conn.now; vars = vars.now })
-        (T.heads tables.old) (T.lists tables.old)) asked.now).0
+        (T.heads (T.state tables.old)) (T.lists (T.state tables.old))) asked.now).0
         (list_change (format_text
         (record { message = message.now; conn = conn.now; vars = vars.now })
-        (T.heads tables.old) (T.lists tables.old)) asked.now).1)
-        (record { too_large = M.too_large maker.old; large = M.large maker.old })
-        (record { too_large = M.too_large maker.new; large = M.large maker.new }) }
+        (T.heads (T.state tables.old)) (T.lists (T.state tables.old))) asked.now).1)
+        (M.state maker.old) (M.state maker.new) }
 {
     match asked {
-        TableChange::Add(table, key) => {
+        TableChange::AddAcl(table, key) => {
             let key = text_of(alloc, key, message, conn, vars, tables, steps)?;
             let key = key.as_slice();
             tables.change(*table, Change::Add { key }, maker)
         }
-        TableChange::Remove(table, key) => {
+        TableChange::DelAcl(table, key) | TableChange::DelMap(table, key) => {
             let key = text_of(alloc, key, message, conn, vars, tables, steps)?;
             let key = key.as_slice();
             tables.change(*table, Change::Del { key }, maker)
         }
-        TableChange::Set(table, key, value) => {
+        TableChange::SetMap(table, key, value) => {
             let key = text_of(alloc, key, message, conn, vars, tables, steps)?;
             let value = text_of(alloc, value, message, conn, vars, tables, steps)?;
             let change = Change::SetMap {

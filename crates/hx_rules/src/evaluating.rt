@@ -33,11 +33,12 @@ fn takes<T: Tables, L: Ledger>(
     tables: &T,
     steps: &mut Steps<L>,
 ) -> Result<bool, NoMemory>
-    requires heads { HasWhenHeads (T.heads tables.now) rule.now.cond }
-    requires acls { HasAclsHeads (T.heads tables.now) acls.now }
+    requires heads { HasWhenHeads (T.heads (T.state tables.now)) rule.now.cond }
+    requires acls { HasAclsHeads (T.heads (T.state tables.now)) acls.now }
     ensures { IfOk result (λ taken. taken ≡ is_taken (cond_holds
         (record { message = message.now; conn = conn.now; vars = vars.now })
-        (T.heads tables.now) (T.lists tables.now) acls.now) rule.now.unless rule.now.cond) }
+        (T.heads (T.state tables.now)) (T.lists (T.state tables.now)) acls.now) rule.now.unless
+        rule.now.cond) }
 {
     let world = World {
         message,
@@ -60,37 +61,36 @@ fn apply_rule<T: Tables, M: ReMaker, L: Ledger>(
     maker: &mut M,
     steps: &mut Steps<L>,
 ) -> Result<Continuation, TableFault>
-    requires acls { HasAclsHeads (T.heads tables.old) acls.now }
-    requires heads { HasRuleHeads (T.heads tables.old) rule.now }
-    requires list { ChangesOneOf (length (T.lists tables.old)) rule.now.action }
+    requires acls { HasAclsHeads (T.heads (T.state tables.old)) acls.now }
+    requires heads { HasRuleHeads (T.heads (T.state tables.old)) rule.now }
+    requires list { ChangesOneOf (length (T.lists (T.state tables.old))) rule.now.action }
     ensures ok { IfOk result (λ after. effect_of after (record {
       message = message.new;
       vars = vars.new;
-      tables = tables.new;
+      tables = T.state tables.new;
       strict = strict.new;
     })
         ≡ rule_effect (table_view T.heads T.lists T.after_change) conn.now acls.now
         rule.now (record {
           message = message.old;
           vars = vars.old;
-          tables = tables.old;
+          tables = T.state tables.old;
           strict = strict.old;
         })) }
     ensures message { OnErr result (message.new ≡ message.old) }
     ensures vars { OnErr result (vars.new ≡ vars.old) }
     ensures tables { OnErr result (tables.new ≡ tables.old) }
-    ensures heads { T.heads tables.new ≡ T.heads tables.old }
-    ensures lists { length (T.lists tables.new) ≡ length (T.lists tables.old) }
+    ensures heads { T.heads (T.state tables.new) ≡ T.heads (T.state tables.old) }
+    ensures lists { length (T.lists (T.state tables.new)) ≡ length (T.lists (T.state tables.old)) }
     ensures large { ChangeCountsLarge result
         (RuleAsksFor (table_view T.heads T.lists T.after_change) conn.now acls.now
         rule.now (record {
           message = message.old;
           vars = vars.old;
-          tables = tables.old;
+          tables = T.state tables.old;
           strict = strict.old;
         }))
-        (record { too_large = M.too_large maker.old; large = M.large maker.old })
-        (record { too_large = M.too_large maker.new; large = M.large maker.new }) }
+        (M.state maker.old) (M.state maker.new) }
 {
     if takes(alloc, acls, rule, message, conn, vars, tables, steps)? {
         let action = &rule.action;
@@ -112,22 +112,22 @@ fn apply_rules<T: Tables, M: ReMaker, L: Ledger>(
     maker: &mut M,
     steps: &mut Steps<L>,
 ) -> Result<Option<Verdict>, TableFault>
-    requires heads { HasHeads (T.heads tables.old) program.now }
-    requires lists { HasLists (length (T.lists tables.old)) program.now }
+    requires heads { HasHeads (T.heads (T.state tables.old)) program.now }
+    requires lists { HasLists (length (T.lists (T.state tables.old))) program.now }
     ensures ok { IfOk result (λ given.
         IsEvaluation (table_view T.heads T.lists T.after_change) conn.now program.now given
-        message.new vars.new tables.new
+        message.new vars.new (T.state tables.new)
         (evaluation (table_view T.heads T.lists T.after_change) conn.now program.now
-        (start message.old vars.old tables.old))) }
+        (start message.old vars.old (T.state tables.old)))) }
     ensures stands { StandsAt (table_view T.heads T.lists T.after_change) conn.now program.now
-        (start message.old vars.old tables.old) message.new vars.new tables.new }
-    ensures heads { T.heads tables.new ≡ T.heads tables.old }
-    ensures lists { length (T.lists tables.new) ≡ length (T.lists tables.old) }
+        (start message.old vars.old (T.state tables.old)) message.new vars.new
+        (T.state tables.new) }
+    ensures heads { T.heads (T.state tables.new) ≡ T.heads (T.state tables.old) }
+    ensures lists { length (T.lists (T.state tables.new)) ≡ length (T.lists (T.state tables.old)) }
     ensures large { ChangeCountsLarge result
         (RulesAskFor (table_view T.heads T.lists T.after_change) conn.now program.now
-        (start message.old vars.old tables.old))
-        (record { too_large = M.too_large maker.old; large = M.large maker.old })
-        (record { too_large = M.too_large maker.new; large = M.large maker.new }) }
+        (start message.old vars.old (T.state tables.old)))
+        (M.state maker.old) (M.state maker.new) }
 {
     let mut strict = true;
     let acls = &program.acls;
@@ -164,10 +164,10 @@ fn later_verdict<T: Tables, L: Ledger>(
     tables: &T,
     steps: &mut Steps<L>,
 ) -> Result<Verdict, NoMemory>
-    requires { HasHeads (T.heads tables.now) program.now }
+    requires { HasHeads (T.heads (T.state tables.now)) program.now }
     ensures { IfOk result (λ verdict. verdict ≡ verdict_at
         (record { message = message.now; conn = conn.now; vars = vars.now })
-        (T.heads tables.now) (T.lists tables.now) program.now) }
+        (T.heads (T.state tables.now)) (T.lists (T.state tables.now)) program.now) }
 {
     let world = World {
         message,
@@ -212,29 +212,29 @@ pub fn evaluate<T: Tables, M: ReMaker, L: Ledger>(
     maker: &mut M,
     steps: &mut Steps<L>,
 ) -> Result<Verdict, TableFault>
-    requires heads { HasHeads (T.heads tables.old) program.now }
-    requires lists { HasLists (length (T.lists tables.old)) program.now }
+    requires heads { HasHeads (T.heads (T.state tables.old)) program.now }
+    requires lists { HasLists (length (T.lists (T.state tables.old))) program.now }
     ensures verdict { IfOk result (λ verdict. verdict
         ≡ (evaluation (table_view T.heads T.lists T.after_change) conn.now program.now
-        (start message.old vars.old tables.old)).verdict) }
+        (start message.old vars.old (T.state tables.old))).verdict) }
     ensures message { OnOk result (message.new
         ≡ (evaluation (table_view T.heads T.lists T.after_change) conn.now program.now
-        (start message.old vars.old tables.old)).state.message) }
+        (start message.old vars.old (T.state tables.old))).state.message) }
     ensures vars { OnOk result (vars.new
         ≡ (evaluation (table_view T.heads T.lists T.after_change) conn.now program.now
-        (start message.old vars.old tables.old)).state.vars) }
-    ensures tables { OnOk result (tables.new
+        (start message.old vars.old (T.state tables.old))).state.vars) }
+    ensures tables { OnOk result (T.state tables.new
         ≡ (evaluation (table_view T.heads T.lists T.after_change) conn.now program.now
-        (start message.old vars.old tables.old)).state.tables) }
+        (start message.old vars.old (T.state tables.old))).state.tables) }
     ensures stands { OnErr result (StandsAt (table_view T.heads T.lists T.after_change) conn.now
-        program.now (start message.old vars.old tables.old) message.new vars.new tables.new) }
-    ensures heads { T.heads tables.new ≡ T.heads tables.old }
-    ensures lists { length (T.lists tables.new) ≡ length (T.lists tables.old) }
+        program.now (start message.old vars.old (T.state tables.old)) message.new vars.new
+        (T.state tables.new)) }
+    ensures heads { T.heads (T.state tables.new) ≡ T.heads (T.state tables.old) }
+    ensures lists { length (T.lists (T.state tables.new)) ≡ length (T.lists (T.state tables.old)) }
     ensures large { ChangeCountsLarge result
         (RulesAskFor (table_view T.heads T.lists T.after_change) conn.now program.now
-        (start message.old vars.old tables.old))
-        (record { too_large = M.too_large maker.old; large = M.large maker.old })
-        (record { too_large = M.too_large maker.new; large = M.large maker.new }) }
+        (start message.old vars.old (T.state tables.old)))
+        (M.state maker.old) (M.state maker.new) }
 {
     let given = apply_rules(alloc, program, message, conn, vars, tables, maker, steps)?;
     if let Some(verdict) = given {

@@ -4,7 +4,7 @@ ghost use Rattle.hx_sample.specs.Seen.{occurrence_value};
 ghost use Rattle.hx_rules.specs.Formats.{format_text, part_text, string_of};
 ghost use Rattle.hx_rules.specs.Tables.{HasFormatHeads, HasPartHeads};
 
-use crate::format::{BuiltFormat, BuiltPart};
+use crate::format::{BuiltFormat, BuiltPart, PartPlan};
 use hx_expr::eval;
 use hx_fetch::{Conn, World};
 use hx_http::Message;
@@ -36,14 +36,15 @@ fn push_part<'w, T: Tables, L: Ledger>(
     tables: &'w T,
     steps: &mut Steps<L>,
 ) -> Result<(), NoMemory>
-    requires { HasPartHeads (T.heads tables.now) part.now }
+    requires { HasPartHeads (T.heads (T.state tables.now)) part.now }
     ensures { OnOk result (text.new
-        ≡ text.old ++ part_text (context_of world.now) (T.heads tables.now) (T.lists tables.now)
+        ≡ text.old ++ part_text (context_of world.now) (T.heads (T.state tables.now))
+        (T.lists (T.state tables.now))
         part.now) }
 {
-    match part {
-        BuiltPart::Text(bytes) => text.push_all(bytes.as_slice()),
-        BuiltPart::Value(plan) => {
+    match &part.plan {
+        PartPlan::Text(bytes) => text.push_all(bytes.as_slice()),
+        PartPlan::Value(plan) => {
             let value = eval(alloc, plan, world, tables, steps)?;
             push_value(alloc, text, value)
         }
@@ -58,9 +59,10 @@ pub(crate) fn format_text<'w, T: Tables, L: Ledger>(
     tables: &'w T,
     steps: &mut Steps<L>,
 ) -> Result<Octets, NoMemory>
-    requires { HasFormatHeads (T.heads tables.now) format.now }
+    requires { HasFormatHeads (T.heads (T.state tables.now)) format.now }
     ensures { IfOk result (λ text. text
-        ≡ format_text (context_of world.now) (T.heads tables.now) (T.lists tables.now)
+        ≡ format_text (context_of world.now) (T.heads (T.state tables.now))
+        (T.lists (T.state tables.now))
         format.now) }
 {
     let mut text = Octets::from_vec(Vec::new(alloc));
@@ -80,10 +82,10 @@ pub(crate) fn text_of<T: Tables, L: Ledger>(
     tables: &T,
     steps: &mut Steps<L>,
 ) -> Result<Octets, NoMemory>
-    requires { HasFormatHeads (T.heads tables.now) format.now }
+    requires { HasFormatHeads (T.heads (T.state tables.now)) format.now }
     ensures { IfOk result (λ text. text ≡ format_text
         (record { message = message.now; conn = conn.now; vars = vars.now })
-        (T.heads tables.now) (T.lists tables.now) format.now) }
+        (T.heads (T.state tables.now)) (T.lists (T.state tables.now)) format.now) }
 {
     let world = World {
         message,

@@ -86,10 +86,12 @@ pub(crate) fn redirect<'w, T: Tables, L: Ledger>(
     tables: &'w T,
     steps: &mut Steps<L>,
 ) -> Result<Verdict, NoMemory>
-    requires { HasFormatHeads (T.heads tables.now) redirect.now.format }
+    requires { HasFormatHeads (T.heads (T.state tables.now)) redirect.now.format }
     ensures { IfOk result (λ verdict. verdict
-        ≡ redirect_verdict redirect.now (format_text (context_of world.now)
-        (T.heads tables.now) (T.lists tables.now) redirect.now.format) world.now.message.now) }
+        ≡ redirect_verdict redirect.now.kind (format_text (context_of world.now)
+        (T.heads (T.state tables.now)) (T.lists (T.state tables.now)) redirect.now.format)
+        redirect.now.status
+        redirect.now.drop_query world.now.message.now) }
 {
     let text = format_text(alloc, &redirect.format, world, tables, steps)?;
     let location = location(
@@ -103,7 +105,7 @@ pub(crate) fn redirect<'w, T: Tables, L: Ledger>(
         return Ok(Verdict::Error);
     }
     Ok(Verdict::Redirect {
-        code: redirect.code,
+        code: redirect.status.unwrap_or(302),
         location,
     })
 }
@@ -118,14 +120,16 @@ pub(crate) fn redirect_of<T: Tables, L: Ledger>(
     tables: &T,
     steps: &mut Steps<L>,
 ) -> Result<Verdict, NoMemory>
-    requires { HasFormatHeads (T.heads tables.now) asked.now.format }
+    requires { HasFormatHeads (T.heads (T.state tables.now)) asked.now.format }
     ensures { IfOk result (λ verdict. verdict
-        ≡ redirect_verdict asked.now (format_text (record {
+        ≡ redirect_verdict asked.now.kind (format_text (record {
           message = message.now;
           conn = conn.now;
           vars = vars.now;
         })
-        (T.heads tables.now) (T.lists tables.now) asked.now.format) message.now) }
+        (T.heads (T.state tables.now)) (T.lists (T.state tables.now)) asked.now.format)
+        asked.now.status
+        asked.now.drop_query message.now) }
 {
     let world = World {
         message,

@@ -43,10 +43,10 @@ impl Pattern {
         ensures typed { ¬ (IsErrOf result PlanFault.BadType) }
         ensures bad { IsErrOf result PlanFault.BadPattern
             → is_some (key_expression false text.now) ≡ false }
-        ensures counted { CompileCountsLarge result (M.too_large maker.old)
-            (M.too_large maker.new) }
+        ensures counted { CompileCountsLarge result (M.state maker.old).too_large
+            (M.state maker.new).too_large }
         ensures large { CompileNamesLarge result (record { text = text.now; ci = false } ∷ [])
-            (M.large maker.old) (M.large maker.new) }
+            (M.state maker.old).large (M.state maker.new).large }
     {
         let regex = match made_regex(alloc, text, false, maker) {
             Ok(regex) => regex,

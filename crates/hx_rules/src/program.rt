@@ -15,20 +15,50 @@ use hx_text::Octets;
 use std::alloc::Global;
 use std::marker::Model;
 
-/// A rule: what it does, and when it is taken.
+/// A rule: the number of its line, what it does, and when it is taken. Contracts see it as the rule
+/// that it was built from.
 #[derive(Drop)]
 pub(crate) struct BuiltRule {
+    pub(crate) line: u64,
     pub(crate) action: BuiltAction,
     pub(crate) unless: bool,
     pub(crate) cond: Option<Condition>,
 }
 
-/// A rule of `use_backend`: what makes the backend's name, and when it is taken.
+impl Model for BuiltRule {
+    ghost use Rattle.hx_ast.specs.declared.statement.Rule.{Rule};
+
+    ghost Value = { Rule };
+
+    ghost use Rattle.hx_rules.specs.ProgramView.{action_of_built};
+
+    ghost view = { λ rule. record {
+      line = rule.line;
+      action = action_of_built rule.action;
+      unless = rule.unless;
+      cond = rule.cond;
+    } };
+}
+
+/// A rule of `use_backend`: what makes the backend's name, and when it is taken. Contracts see it
+/// as what it was built from.
 #[derive(Drop)]
-pub(crate) struct BackendRule {
+pub(crate) struct BuiltBackend {
     pub(crate) format: BuiltFormat,
     pub(crate) unless: bool,
     pub(crate) cond: Option<Condition>,
+}
+
+impl Model for BuiltBackend {
+    ghost use Rattle.hx_rules.specs.Programs.{BackendRule};
+
+    ghost Value = { BackendRule };
+
+    ghost view = { λ rule. record {
+      format = rule.format;
+      unless = rule.unless;
+      cond = rule.cond;
+    } };
 }
 
 /// The rules of a frontend, ready to be evaluated (HAProxy configuration manual 2.4, section 4.2).
@@ -40,7 +70,7 @@ pub struct Program {
     pub(crate) acls: AclSet,
     pub(crate) rules: Items<BuiltRule>,
     pub(crate) redirects: Items<BuiltRule>,
-    pub(crate) backends: Items<BackendRule>,
+    pub(crate) backends: Items<BuiltBackend>,
     pub(crate) fallback: Option<Octets>,
 }
 
@@ -101,10 +131,10 @@ impl Program {
         ensures expressions { OnOk result (statement_has_expressions statement.now ≡ true) }
         ensures bad_pattern { IsErrOf result PlanFault.BadPattern →
             statement_has_expressions statement.now ≡ false }
-        ensures counted { CompileCountsLarge result (M.too_large maker.old)
-            (M.too_large maker.new) }
+        ensures counted { CompileCountsLarge result (M.state maker.old).too_large
+            (M.state maker.new).too_large }
         ensures large { CompileNamesLarge result (statement_texts statement.now)
-            (M.large maker.old) (M.large maker.new) }
+            (M.state maker.old).large (M.state maker.new).large }
     {
         if !is_statement_typed(statement) {
             return Err(PlanFault::BadType);
@@ -125,10 +155,10 @@ impl Program {
         ensures expressions { OnOk result (statement_has_expressions statement.now ≡ true) }
         ensures bad { IsErrOf result PlanFault.BadPattern →
             statement_has_expressions statement.now ≡ false }
-        ensures counted { CompileCountsLarge result (M.too_large maker.old)
-            (M.too_large maker.new) }
+        ensures counted { CompileCountsLarge result (M.state maker.old).too_large
+            (M.state maker.new).too_large }
         ensures large { CompileNamesLarge result (statement_texts statement.now)
-            (M.large maker.old) (M.large maker.new) }
+            (M.state maker.old).large (M.state maker.new).large }
     {
         let alloc = self.alloc;
         // No memory holds as many rules as a `u64` can't count.

@@ -1,8 +1,9 @@
 ghost use Rattle.std.specs.Prelude.{◌≡◌, IfErr, OnOk, OnErr, None};
 ghost use Rattle.hx_http.specs.Edits.{add_header_fault, set_header_fault, with_header, with_only_header, MayFail};
 ghost use Rattle.hx_rules.specs.Formats.{format_text};
+ghost use Rattle.hx_rules.specs.ProgramView.{action_of_rewrite};
 ghost use Rattle.hx_rules.specs.Rewrites.{edit_of, named_fault};
-ghost use Rattle.hx_rules.specs.Tables.{HasRewriteHeads};
+ghost use Rattle.hx_rules.specs.Tables.{HasActionHeads};
 
 use crate::action::Rewrite;
 use crate::formats::text_of;
@@ -56,16 +57,22 @@ pub(crate) fn rewrite<T: Tables, L: Ledger>(
     tables: &T,
     steps: &mut Steps<L>,
 ) -> Result<(), EditFault>
-    requires { HasRewriteHeads (T.heads tables.now) rewrite.now }
+    requires { HasActionHeads (T.heads (T.state tables.now)) (action_of_rewrite rewrite.now) }
     ensures ok { OnOk result (message.new ≡ (edit_of
         (format_text (record { message = message.old; conn = conn.now; vars = vars.now })
-        (T.heads tables.now) (T.lists tables.now)) rewrite.now message.old).head) }
+        (T.heads (T.state tables.now)) (T.lists (T.state tables.now)))
+        (action_of_rewrite rewrite.now)
+        message.old).head) }
     ensures none { OnOk result ((edit_of
         (format_text (record { message = message.old; conn = conn.now; vars = vars.now })
-        (T.heads tables.now) (T.lists tables.now)) rewrite.now message.old).fault ≡ None) }
+        (T.heads (T.state tables.now)) (T.lists (T.state tables.now)))
+        (action_of_rewrite rewrite.now)
+        message.old).fault ≡ None) }
     ensures refused { IfErr result (MayFail (edit_of
         (format_text (record { message = message.old; conn = conn.now; vars = vars.now })
-        (T.heads tables.now) (T.lists tables.now)) rewrite.now message.old).fault) }
+        (T.heads (T.state tables.now)) (T.lists (T.state tables.now)))
+        (action_of_rewrite rewrite.now)
+        message.old).fault) }
     ensures kept { OnErr result (message.new ≡ message.old) }
 {
     match rewrite {

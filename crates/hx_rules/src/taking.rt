@@ -22,10 +22,11 @@ pub(crate) fn is_taken<'w, T: Tables, L: Ledger>(
     tables: &'w T,
     steps: &mut Steps<L>,
 ) -> Result<bool, NoMemory>
-    requires heads { HasWhenHeads (T.heads tables.now) cond.now }
-    requires acls { HasAclsHeads (T.heads tables.now) acls.now }
+    requires heads { HasWhenHeads (T.heads (T.state tables.now)) cond.now }
+    requires acls { HasAclsHeads (T.heads (T.state tables.now)) acls.now }
     ensures { IfOk result (λ taken. taken
-        ≡ is_taken (cond_holds (context_of world.now) (T.heads tables.now) (T.lists tables.now)
+        ≡ is_taken (cond_holds (context_of world.now) (T.heads (T.state tables.now))
+        (T.lists (T.state tables.now))
         acls.now) unless cond.now) }
 {
     match cond {

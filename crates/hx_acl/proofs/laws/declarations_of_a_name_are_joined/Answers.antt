@@ -1,6 +1,5 @@
-use Rattle.hx_acl.specs.Tests.{test_of}
 use Rattle.hx_acl.proofs.HoldsLemmas.{declared_more}
 use Rattle.hx_acl.proofs.laws.declarations_of_a_name_are_joined.Goals as goal
 
 pub returns : goal.returns
-returns c = λ context heads lists acls. declared_more context heads lists acls c.args.name.now (test_of c.args.decl.now)
+returns c = λ context heads lists acls. declared_more context heads lists acls c.args.name.now c.args.decl.now

@@ -8,8 +8,8 @@ use Rattle.hx_acl.proofs.matching.finds_entry.Given as goal
 -- the heads that are left take the value, and find an entry exactly where all do
 abbrev pub invariant-loop-head : goal.invariant-loop-head
 invariant-loop-head g l =
-    let heads = g.T.Tables.heads l.tables in
-    let finds = finds_entry heads (g.T.Tables.lists l.tables) in
+    let heads = g.T.Tables.heads (g.T.Tables.state l.tables) in
+    let finds = finds_entry heads (g.T.Tables.lists (g.T.Tables.state l.tables)) in
     record {
       heads : All (TakesHead heads (value_of l.sample)) (drop l.head-index l.heads);
       found : finds (drop l.head-index l.heads) (value_of l.sample) ≡ finds l.heads (value_of l.sample);

@@ -2,7 +2,7 @@ use Rattle.std.proofs.Common.{◌≡◌, ◌∙◌, ◌+◌, ◌∷◌, length, 
 use Rattle.std.proofs.lemmas.List.Elements.{All-head, All-rest, All-same}
 use Rattle.std.proofs.lemmas.Result.{err_from_is_err_and}
 use Rattle.hx_acl.specs.Holds.{HasAclsHeads}
-use Rattle.hx_rules.specs.declared.program.BuiltRule.{BuiltRule}
+use Rattle.hx_ast.specs.declared.statement.Rule.{Rule}
 use Rattle.hx_rules.specs.State.{table_view}
 use Rattle.hx_rules.specs.Tables.{ChangesOneOf, HasRuleHeads}
 use Rattle.hx_rules.specs.Verdicts.{start}
@@ -13,16 +13,16 @@ use Rattle.hx_rules.proofs.evaluating.apply_rules.Goals as goal
 
 pub loop-rest-init : goal.loop-rest-init
 loop-rest-init g c =
-    let heads = g.T.Tables.heads c.args.tables.now in
-    let count = length (g.T.Tables.lists c.args.tables.now) in
+    let heads = g.T.Tables.heads (g.T.Tables.state c.args.tables.now) in
+    let count = length (g.T.Tables.lists (g.T.Tables.state c.args.tables.now)) in
     let all : c.as_slice-rest.result.now ≡ c.args.program.now.rules = c.as_slice-rest.ensures ∙ ap (λ p. p.rules) c.program.view_is in
     record {
       acls = ap (λ p. p.acls) c.program.view_is;
-      comes = comes_first (table_view g.T.Tables.heads g.T.Tables.lists g.T.Tables.after_change) c.args.conn.now c.args.program.now (start c.args.message.now c.args.vars.now c.args.tables.now) c.as_slice-rest.result.now all;
+      comes = comes_first (table_view g.T.Tables.heads g.T.Tables.lists g.T.Tables.after_change) c.args.conn.now c.args.program.now (start c.args.message.now c.args.vars.now (g.T.Tables.state c.args.tables.now)) c.as_slice-rest.result.now all;
       heads = refl;
       lists = refl;
       rest_heads = All-same (HasRuleHeads heads) c.as_slice-rest.result.now c.args.program.now.rules all c.requires.heads.rules;
-      rest_lists = All-same (λ (rule : BuiltRule). ChangesOneOf count rule.action) c.as_slice-rest.result.now c.args.program.now.rules all c.requires.lists;
+      rest_lists = All-same (λ (rule : Rule). ChangesOneOf count rule.action) c.as_slice-rest.result.now c.args.program.now.rules all c.requires.lists;
       too_large = refl;
       large = refl;
     }
@@ -32,25 +32,25 @@ loop-rest-init g c =
 pub apply_rule-requires-clause-acls : goal.apply_rule-requires-clause-acls
 apply_rule-requires-clause-acls g c =
     let i = c.loop-rest.invariant in
-    same_both HasAclsHeads (g.T.Tables.heads c.args.tables.now) (g.T.Tables.heads c.loop-rest.tables) c.args.program.now.acls c.program.inside.acls i.heads i.acls c.requires.heads.acls
+    same_both HasAclsHeads (g.T.Tables.heads (g.T.Tables.state c.args.tables.now)) (g.T.Tables.heads (g.T.Tables.state c.loop-rest.tables)) c.args.program.now.acls c.program.inside.acls i.heads i.acls c.requires.heads.acls
 
 pub apply_rule-requires-clause-heads : goal.apply_rule-requires-clause-heads
 apply_rule-requires-clause-heads g c =
     let i = c.loop-rest.invariant in
     let list = first_and_others c.loop-rest.rest.now c.rule-item.result c.in-len1-up.len_at_least c.rule-item.is in
-    let heads = g.T.Tables.heads c.args.tables.now in
+    let heads = g.T.Tables.heads (g.T.Tables.state c.args.tables.now) in
     let all = All-same (HasRuleHeads heads) (c.rule-item.result ∷ other_rules c.loop-rest.rest.now) c.loop-rest.rest.now (sym list) i.rest_heads in
-    same_both HasRuleHeads heads (g.T.Tables.heads c.loop-rest.tables) c.rule-item.result c.rule-item.result i.heads refl
+    same_both HasRuleHeads heads (g.T.Tables.heads (g.T.Tables.state c.loop-rest.tables)) c.rule-item.result c.rule-item.result i.heads refl
     (All-head (HasRuleHeads heads) c.rule-item.result (other_rules c.loop-rest.rest.now) all)
 
 pub apply_rule-requires-clause-list : goal.apply_rule-requires-clause-list
 apply_rule-requires-clause-list g c =
     let i = c.loop-rest.invariant in
     let list = first_and_others c.loop-rest.rest.now c.rule-item.result c.in-len1-up.len_at_least c.rule-item.is in
-    let count = length (g.T.Tables.lists c.args.tables.now) in
-    let all = All-same (λ (rule : BuiltRule). ChangesOneOf count rule.action) (c.rule-item.result ∷ other_rules c.loop-rest.rest.now) c.loop-rest.rest.now (sym list) i.rest_lists in
-    same_both ChangesOneOf count (length (g.T.Tables.lists c.loop-rest.tables)) c.rule-item.result.action c.rule-item.result.action i.lists refl
-    (All-head (λ (rule : BuiltRule). ChangesOneOf count rule.action) c.rule-item.result (other_rules c.loop-rest.rest.now) all)
+    let count = length (g.T.Tables.lists (g.T.Tables.state c.args.tables.now)) in
+    let all = All-same (λ (rule : Rule). ChangesOneOf count rule.action) (c.rule-item.result ∷ other_rules c.loop-rest.rest.now) c.loop-rest.rest.now (sym list) i.rest_lists in
+    same_both ChangesOneOf count (length (g.T.Tables.lists (g.T.Tables.state c.loop-rest.tables))) c.rule-item.result.action c.rule-item.result.action i.lists refl
+    (All-head (λ (rule : Rule). ChangesOneOf count rule.action) c.rule-item.result (other_rules c.loop-rest.rest.now) all)
 
 -- ---- a rule fails
 
@@ -59,7 +59,8 @@ returns-in_err-apply_rule-clause-stands g c =
     let i = c.loop-rest.invariant in
     let list = first_and_others c.loop-rest.rest.now c.rule-item.result c.in-len1-up.len_at_least c.rule-item.is in
     let at = comes_to c.rule-item.result (other_rules c.loop-rest.rest.now) i.comes list in
-    stands_at at c.in_err-apply_rule.ensures.message c.in_err-apply_rule.ensures.vars c.in_err-apply_rule.ensures.tables
+    stands_at at c.in_err-apply_rule.ensures.message c.in_err-apply_rule.ensures.vars
+    (ap (λ tables. g.T.Tables.state tables) c.in_err-apply_rule.ensures.tables)
 
 pub returns-in_err-apply_rule-clause-large : goal.returns-in_err-apply_rule-clause-large
 returns-in_err-apply_rule-clause-large g c =
@@ -89,7 +90,7 @@ returns-in-Stops-clause-ok g c =
     evaluated_stopped c.program.inside.acls (record {
       message = c.apply_rule.new.message;
       vars = c.apply_rule.new.vars;
-      tables = c.apply_rule.new.tables;
+      tables = g.T.Tables.state c.apply_rule.new.tables;
       strict = c.apply_rule.new.strict;
     }) _ at i.acls c.in-Stops.is c.in_ok-apply_rule.ensures.ok
 
@@ -101,7 +102,7 @@ returns-in-Stops-clause-stands g c =
     stands_stopped c.program.inside.acls (record {
       message = c.apply_rule.new.message;
       vars = c.apply_rule.new.vars;
-      tables = c.apply_rule.new.tables;
+      tables = g.T.Tables.state c.apply_rule.new.tables;
       strict = c.apply_rule.new.strict;
     }) _ at i.acls c.in-Stops.is c.in_ok-apply_rule.ensures.ok
 
@@ -130,7 +131,7 @@ returns-in-Ends-clause-ok g c =
     evaluated_ended c.program.inside.acls (record {
       message = c.apply_rule.new.message;
       vars = c.apply_rule.new.vars;
-      tables = c.apply_rule.new.tables;
+      tables = g.T.Tables.state c.apply_rule.new.tables;
       strict = c.apply_rule.new.strict;
     }) _ c.in-Ends.verdict at i.acls c.in-Ends.is c.in_ok-apply_rule.ensures.ok
 
@@ -142,7 +143,7 @@ returns-in-Ends-clause-stands g c =
     stands_ended c.program.inside.acls (record {
       message = c.apply_rule.new.message;
       vars = c.apply_rule.new.vars;
-      tables = c.apply_rule.new.tables;
+      tables = g.T.Tables.state c.apply_rule.new.tables;
       strict = c.apply_rule.new.strict;
     }) _ c.in-Ends.verdict at i.acls c.in-Ends.is c.in_ok-apply_rule.ensures.ok
 
@@ -175,20 +176,20 @@ loop-rest-preserved g c =
     let i = c.loop-rest.invariant in
     let list = first_and_others c.loop-rest.rest.now c.rule-item.result c.in-len1-up.len_at_least c.rule-item.is in
     let at = comes_to c.rule-item.result (other_rules c.loop-rest.rest.now) i.comes list in
-    let heads = g.T.Tables.heads c.args.tables.now in
-    let count = length (g.T.Tables.lists c.args.tables.now) in
+    let heads = g.T.Tables.heads (g.T.Tables.state c.args.tables.now) in
+    let count = length (g.T.Tables.lists (g.T.Tables.state c.args.tables.now)) in
     record {
       acls = i.acls;
       comes = comes_further c.program.inside.acls (record {
         message = c.apply_rule.new.message;
         vars = c.apply_rule.new.vars;
-        tables = c.apply_rule.new.tables;
+        tables = g.T.Tables.state c.apply_rule.new.tables;
         strict = c.apply_rule.new.strict;
       }) _ at i.acls c.in-Goes.is c.in_ok-apply_rule.ensures.ok;
       heads = c.in_ok-apply_rule.ensures.heads ∙ i.heads;
       lists = c.in_ok-apply_rule.ensures.lists ∙ i.lists;
       rest_heads = All-rest (HasRuleHeads heads) c.rule-item.result (other_rules c.loop-rest.rest.now) c.loop-rest.rest.now list i.rest_heads;
-      rest_lists = All-rest (λ (rule : BuiltRule). ChangesOneOf count rule.action) c.rule-item.result (other_rules c.loop-rest.rest.now) c.loop-rest.rest.now list i.rest_lists;
+      rest_lists = All-rest (λ (rule : Rule). ChangesOneOf count rule.action) c.rule-item.result (other_rules c.loop-rest.rest.now) c.loop-rest.rest.now list i.rest_lists;
       too_large = c.in_ok-apply_rule.ensures.large.0 ∙ i.too_large;
       large = c.in_ok-apply_rule.ensures.large.1 ∙ i.large;
     }

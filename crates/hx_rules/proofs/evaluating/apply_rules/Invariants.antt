@@ -10,18 +10,18 @@ use Rattle.hx_rules.proofs.evaluating.apply_rules.Given as goal
 abbrev pub invariant-loop-rest : goal.invariant-loop-rest
 invariant-loop-rest g l = record {
   acls : l.acls ≡ l.program.acls;
-  comes : Comes (table_view g.T.Tables.heads g.T.Tables.lists g.T.Tables.after_change) l.conn l.program (start l.fn.message l.fn.vars l.fn.tables) (record {
+  comes : Comes (table_view g.T.Tables.heads g.T.Tables.lists g.T.Tables.after_change) l.conn l.program (start l.fn.message l.fn.vars (g.T.Tables.state l.fn.tables)) (record {
     message = l.message;
     vars = l.vars;
-    tables = l.tables;
+    tables = g.T.Tables.state l.tables;
     strict = l.strict;
   }) l.rest;
-  heads : g.T.Tables.heads l.tables ≡ g.T.Tables.heads l.fn.tables;
-  lists : length (g.T.Tables.lists l.tables) ≡ length (g.T.Tables.lists l.fn.tables);
-  rest_heads : All (HasRuleHeads (g.T.Tables.heads l.fn.tables)) l.rest;
-  rest_lists : All (λ rule. ChangesOneOf (length (g.T.Tables.lists l.fn.tables)) rule.action) l.rest;
-  too_large : g.M.ReMaker.too_large l.maker ≡ g.M.ReMaker.too_large l.fn.maker;
-  large : g.M.ReMaker.large l.maker ≡ g.M.ReMaker.large l.fn.maker;
+  heads : g.T.Tables.heads (g.T.Tables.state l.tables) ≡ g.T.Tables.heads (g.T.Tables.state l.fn.tables);
+  lists : length (g.T.Tables.lists (g.T.Tables.state l.tables)) ≡ length (g.T.Tables.lists (g.T.Tables.state l.fn.tables));
+  rest_heads : All (HasRuleHeads (g.T.Tables.heads (g.T.Tables.state l.fn.tables))) l.rest;
+  rest_lists : All (λ rule. ChangesOneOf (length (g.T.Tables.lists (g.T.Tables.state l.fn.tables))) rule.action) l.rest;
+  too_large : (g.M.ReMaker.state l.maker).too_large ≡ (g.M.ReMaker.state l.fn.maker).too_large;
+  large : (g.M.ReMaker.state l.maker).large ≡ (g.M.ReMaker.state l.fn.maker).large;
 }
 
 abbrev pub decreases-loop-rest : goal.decreases-loop-rest

@@ -7,8 +7,8 @@ use Rattle.hx_acl.proofs.test.Test.matches.Given as goal
 -- an occurrence that is left matches exactly where one of all does
 abbrev pub invariant-loop-occurrence : goal.invariant-loop-occurrence
 invariant-loop-occurrence g l =
-    let heads = g.T.Tables.heads l.tables in
-    let lists = g.T.Tables.lists l.tables in
+    let heads = g.T.Tables.heads (g.T.Tables.state l.tables) in
+    let lists = g.T.Tables.lists (g.T.Tables.state l.tables) in
     list_any (occurrence_matches l.self.by (finds_entry heads lists l.self.heads)) l.values ≡ test_matches (context_of l.world) heads lists l.self
 
 abbrev pub decreases-loop-occurrence : goal.decreases-loop-occurrence
