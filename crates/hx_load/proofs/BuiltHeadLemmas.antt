@@ -1,13 +1,12 @@
--- What a statement names, its built form has: heads as those see them who look values up, and lists.
+-- What a statement names, a program with it has: heads as those see them who look up, and lists.
 use Rattle.std.proofs.Common.{◌≡◌, ℕ, List, [], ◌∷◌, ◌++◌, map, Option, None, Some, option_map, arith, sym, subst}
 use Rattle.std.proofs.lemmas.List.{length-map}
 use Rattle.std.specs.Prelude.{IfSome, slice_get}
 use Rattle.std.specs.List.{All}
-use Rattle.std.proofs.lemmas.List.Elements.{All-append, All-cons, All-head, All-map, All-nil, All-tail, All-weaker}
+use Rattle.std.proofs.lemmas.List.Elements.{All-append, All-cons, All-head, All-nil, All-tail, All-weaker}
 use Rattle.std.proofs.lemmas.Option.{slice_get-map}
-use Rattle.hx_acl.specs.Holds.{HasAclHeads, HasCondHeads, acl_of_use, term_of, terms_of}
-use Rattle.hx_acl.specs.Tests.{AclTest, HasTestHeads, test_of}
-use Rattle.hx_acl.specs.declared.term.TestTerm.{TestTerm}
+use Rattle.hx_acl.specs.Holds.{HasAclHeads, HasCondHeads}
+use Rattle.hx_acl.specs.Tests.{HasTestHeads}
 use Rattle.hx_ast.specs.declared.AclUse.{AclUse}
 use Rattle.hx_ast.specs.declared.AclUse.TheVariants.{Named, Own}
 use Rattle.hx_ast.specs.declared.Action.{Action}
@@ -23,10 +22,9 @@ use Rattle.hx_ast.specs.declared.Statement.TheVariants as statement
 use Rattle.hx_ast.specs.declared.Term.{Term}
 use Rattle.hx_expr.specs.Values.{HasTableHead, HasTableHeads}
 use Rattle.hx_expr.specs.Values.{IsHeadBy as IsTableBy}
-use Rattle.hx_rules.specs.Building.{action_of, backend_rule_of, format_of, part_of, rule_of, with_statement}
+use Rattle.hx_rules.specs.Building.{backend_rule, with_statement}
 use Rattle.hx_rules.specs.Programs.{Rules}
 use Rattle.hx_rules.specs.Tables.{ChangesOneOf, HasActionHeads, HasBackendHeads, HasFormatHeads, HasHeads, HasLists, HasPartHeads, HasRuleHeads, HasWhenHeads}
-use Rattle.hx_rules.specs.declared.program.BuiltRule.{BuiltRule}
 use Rattle.hx_sample.specs.Tables.{TableHead}
 use Rattle.hx_spell.specs.Heads.{ActionNames, CondNames, ConjNames, DeclNames, FormatNames, IsHeadBy, NamesHead, PartNames, RuleNames, StatementNames, UseNames}
 use Rattle.hx_spell.specs.declared.HeadSpec.{HeadSpec}
@@ -64,7 +62,7 @@ heads_of_maps heads (c ∷ convs) names = (
 -- ---- ACLs and conditions
 
 heads_of_decl : (heads : List HeadSpec) (decl : Decl) → DeclNames heads decl
-    → HasTestHeads (map table_head heads) (test_of decl)
+    → HasTestHeads (map table_head heads) decl
 heads_of_decl heads decl names = record {
   maps = heads_of_maps heads decl.expr.convs names.maps;
   patterns = All-weaker (IsHeadBy heads decl.by)
@@ -73,52 +71,45 @@ heads_of_decl heads decl names = record {
 }
 
 heads_of_use : (heads : List HeadSpec) (acl : AclUse) → UseNames heads acl
-    → HasAclHeads (map table_head heads) (acl_of_use acl)
+    → HasAclHeads (map table_head heads) acl
 heads_of_use heads (Named name) names = tt
 heads_of_use heads (Own decl) names = heads_of_decl heads decl names
 
-abbrev pub HasTermHeads : List TableHead → TestTerm → Type 0
+abbrev pub HasTermHeads : List TableHead → Term → Type 0
 HasTermHeads heads term = HasAclHeads heads term.acl
 
 heads_of_conj : (heads : List HeadSpec) (conj : List Term) → ConjNames heads conj
-    → All (HasTermHeads (map table_head heads)) (map term_of conj)
+    → All (HasTermHeads (map table_head heads)) conj
 heads_of_conj heads conj names =
-    All-map (HasTermHeads (map table_head heads)) term_of conj
-    (All-weaker (λ (term : Term). UseNames heads term.acl)
-    (λ (term : Term). HasTermHeads (map table_head heads) (term_of term))
-    (λ term n. heads_of_use heads term.acl n) conj names)
+    All-weaker (λ (term : Term). UseNames heads term.acl) (HasTermHeads (map table_head heads))
+    (λ term n. heads_of_use heads term.acl n) conj names
 
 heads_of_cond : (heads : List HeadSpec) (cond : List (List Term)) → CondNames heads cond
-    → HasCondHeads (map table_head heads) (terms_of cond)
+    → HasCondHeads (map table_head heads) cond
 heads_of_cond heads cond names =
-    All-map (All (HasTermHeads (map table_head heads))) (map term_of) cond
-    (All-weaker (ConjNames heads)
-    (λ (conj : List Term). All (HasTermHeads (map table_head heads)) (map term_of conj))
-    (heads_of_conj heads) cond names)
+    All-weaker (ConjNames heads) (All (HasTermHeads (map table_head heads))) (heads_of_conj heads)
+    cond names
 
 heads_of_when : (heads : List HeadSpec) (cond : Option (List (List Term)))
-    → IfSome cond (CondNames heads)
-    → HasWhenHeads (map table_head heads) (option_map terms_of cond)
+    → IfSome cond (CondNames heads) → HasWhenHeads (map table_head heads) cond
 heads_of_when heads None names = tt
 heads_of_when heads (Some cond) names = heads_of_cond heads cond names
 
 -- ---- formats and actions
 
 heads_of_part : (heads : List HeadSpec) (p : Part) → PartNames heads p
-    → HasPartHeads (map table_head heads) (part_of p)
+    → HasPartHeads (map table_head heads) p
 heads_of_part heads (part.Text bytes) names = tt
 heads_of_part heads (part.Value expr) names = heads_of_maps heads expr.convs names
 
 heads_of_format : (heads : List HeadSpec) (format : List Part) → FormatNames heads format
-    → HasFormatHeads (map table_head heads) (format_of format)
+    → HasFormatHeads (map table_head heads) format
 heads_of_format heads format names =
-    All-map (HasPartHeads (map table_head heads)) part_of format
-    (All-weaker (PartNames heads)
-    (λ (p : Part). HasPartHeads (map table_head heads) (part_of p)) (heads_of_part heads) format
-    names)
+    All-weaker (PartNames heads) (HasPartHeads (map table_head heads)) (heads_of_part heads) format
+    names
 
 heads_of_action : (heads : List HeadSpec) (count : ℕ) (does : Action)
-    → ActionNames heads count does → HasActionHeads (map table_head heads) (action_of does)
+    → ActionNames heads count does → HasActionHeads (map table_head heads) does
 heads_of_action heads count action.Allow names = tt
 heads_of_action heads count (action.Deny status) names = tt
 heads_of_action heads count (action.SetHeader name format) names =
@@ -147,7 +138,7 @@ heads_of_action heads count (action.Redirect kind format status drops) names =
 heads_of_action heads count (action.StrictMode on) names = tt
 
 lists_of_action : (heads : List HeadSpec) (count : ℕ) (does : Action)
-    → ActionNames heads count does → ChangesOneOf count (action_of does)
+    → ActionNames heads count does → ChangesOneOf count does
 lists_of_action heads count (action.AddAcl table key) names = names.0
 lists_of_action heads count (action.DelAcl table key) names = names.0
 lists_of_action heads count (action.DelMap table key) names = names.0
@@ -157,13 +148,13 @@ lists_of_action heads count _ names = tt
 -- ---- statements
 
 heads_of_rule : (heads : List HeadSpec) (count : ℕ) (rule : Rule) → RuleNames heads count rule
-    → HasRuleHeads (map table_head heads) (rule_of rule)
+    → HasRuleHeads (map table_head heads) rule
 heads_of_rule heads count rule names = record {
   action = heads_of_action heads count rule.action names.action;
   cond = heads_of_when heads rule.cond names.cond;
 }
 
-abbrev pub HasDeclaredHeads : List TableHead → List ℕ × AclTest → Type 0
+abbrev pub HasDeclaredHeads : List TableHead → List ℕ × Decl → Type 0
 HasDeclaredHeads heads declared = HasTestHeads heads declared.1
 
 -- a property of each item of a list is one of a list with one item more
@@ -177,7 +168,7 @@ pub statement_heads : (heads : List HeadSpec) (count : ℕ) (said : Statement) (
     → HasHeads (map table_head heads) (with_statement said program)
 statement_heads heads count statement.Plain program names has = has
 statement_heads heads count (statement.Acl line name decl) program names has = record {
-  acls = all_more (HasDeclaredHeads (map table_head heads)) program.acls (name, test_of decl)
+  acls = all_more (HasDeclaredHeads (map table_head heads)) program.acls (name, decl)
       has.acls (heads_of_decl heads decl names);
   rules = has.rules;
   redirects = has.redirects;
@@ -185,7 +176,7 @@ statement_heads heads count (statement.Acl line name decl) program names has = r
 }
 statement_heads heads count (statement.Rule rule) program names has = record {
   acls = has.acls;
-  rules = all_more (HasRuleHeads (map table_head heads)) program.rules (rule_of rule) has.rules
+  rules = all_more (HasRuleHeads (map table_head heads)) program.rules rule has.rules
       (heads_of_rule heads count rule names);
   redirects = has.redirects;
   backends = has.backends;
@@ -193,7 +184,7 @@ statement_heads heads count (statement.Rule rule) program names has = record {
 statement_heads heads count (statement.Redirect rule) program names has = record {
   acls = has.acls;
   rules = has.rules;
-  redirects = all_more (HasRuleHeads (map table_head heads)) program.redirects (rule_of rule)
+  redirects = all_more (HasRuleHeads (map table_head heads)) program.redirects rule
       has.redirects (heads_of_rule heads count rule names);
   backends = has.backends;
 }
@@ -202,7 +193,7 @@ statement_heads heads count (statement.Backend line format unless cond) program 
   rules = has.rules;
   redirects = has.redirects;
   backends = all_more (HasBackendHeads (map table_head heads)) program.backends
-      (backend_rule_of format unless cond) has.backends
+      (backend_rule format unless cond) has.backends
       (record {
         format = heads_of_format heads format names.0;
         cond = heads_of_when heads cond names.1;
@@ -215,7 +206,7 @@ statement_heads heads count (statement.Fallback line name) program names has = r
   backends = has.backends;
 }
 
-abbrev pub ChangesListOf : ℕ → BuiltRule → Type 0
+abbrev pub ChangesListOf : ℕ → Rule → Type 0
 ChangesListOf count rule = ChangesOneOf count rule.action
 
 -- and none but the lists that the statement changes
@@ -223,7 +214,7 @@ pub statement_lists : (heads : List HeadSpec) (count : ℕ) (said : Statement) (
     → StatementNames heads count said → HasLists count program
     → HasLists count (with_statement said program)
 statement_lists heads count (statement.Rule rule) program names has =
-    all_more (ChangesListOf count) program.rules (rule_of rule) has
+    all_more (ChangesListOf count) program.rules rule has
     (lists_of_action heads count rule.action names.action)
 statement_lists heads count statement.Plain program names has = has
 statement_lists heads count (statement.Acl line name decl) program names has = has

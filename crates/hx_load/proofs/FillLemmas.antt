@@ -40,14 +40,14 @@ added spec old r (Some given) after now is =
     (given, refl, more.0, more.1)
 
 -- pairs without a fault are added
-adds : (spec : TableSpec) (old : References) (r : ℕ) (pairs : Option (List Pair)) (after : References → Filled) (given : List Pair)
+pub adds : (spec : TableSpec) (old : References) (r : ℕ) (pairs : Option (List Pair)) (after : References → Filled) (given : List Pair)
     → pairs ≡ Some given → addition_fault old r None given ≡ None → after_pairs spec old r pairs after ≡ after (after_addition old r None given)
 adds spec old r pairs after given is none =
     ap (λ (o : Option (List Pair)). after_pairs spec old r o after) is
     ∙ ap (λ (f : Option RefFault). after_fault spec.line f (after (after_addition old r None given))) none
 
 -- pairs with a fault are refused
-refuses : (spec : TableSpec) (old : References) (r : ℕ) (pairs : Option (List Pair)) (after : References → Filled) (given : List Pair) (fault : RefFault)
+pub refuses : (spec : TableSpec) (old : References) (r : ℕ) (pairs : Option (List Pair)) (after : References → Filled) (given : List Pair) (fault : RefFault)
     → pairs ≡ Some given → addition_fault old r None given ≡ Some fault
     → after_pairs spec old r pairs after ≡ Refused (record { line = spec.line; code = entry_code fault })
 refuses spec old r pairs after given fault is found =
@@ -68,17 +68,8 @@ same_whole (Whole refs) other = refs
 same_whole (Refused refusal) other = other
 same_whole (Missing name) other = other
 
--- references that the function fills are filled
-pub are_filled : (files : NamedBytes) (r : ℕ) (specs : List TableSpec) (old now : References) → filled_from files r specs old ≡ Whole now
-    → AreFilled files r specs old now
-are_filled files r [] old now is = sym (ap (λ (f : Filled). same_whole f old) is)
-are_filled files r (spec ∷ specs) old now is =
-    let (given, given_is, none, more) =
-    added spec old r (pairs_of_spec files spec) (λ filled. filled_from files (r + 1) specs filled) now is in
-    (given, given_is, none, are_filled files (r + 1) specs (after_addition old r None given) now more)
-
 -- where the first part is filled, the whole list is filled as the rest is
-filled_after : (files : NamedBytes) (r n : ℕ) (before left : List TableSpec) (old now : References) → filled_from files r before old ≡ Whole now
+pub filled_after : (files : NamedBytes) (r n : ℕ) (before left : List TableSpec) (old now : References) → filled_from files r before old ≡ Whole now
     → n ≡ r + length before → filled_from files r (before ++ left) old ≡ filled_from files n left now
 filled_after files r n [] left old now is count =
     let same : old ≡ now = ap (λ (f : Filled). same_whole f old) is in

@@ -4,26 +4,22 @@ use Rattle.std.specs.Prelude.{IfSome, slice_get}
 use Rattle.std.specs.List.{All}
 use Rattle.std.proofs.lemmas.List.Elements.{All-weaker}
 use Rattle.hx_acl.specs.Holds.{HasAclHeads, HasAclsHeads}
-use Rattle.hx_acl.specs.Tests.{AclTest, HasTestHeads}
-use Rattle.hx_acl.specs.declared.term.TermAcl.{TermAcl}
-use Rattle.hx_acl.specs.declared.term.TermAcl.TheVariants as term_acl
-use Rattle.hx_acl.specs.declared.term.TestTerm.{TestTerm}
+use Rattle.hx_acl.specs.Tests.{HasTestHeads}
+use Rattle.hx_ast.specs.declared.AclUse.{AclUse}
+use Rattle.hx_ast.specs.declared.AclUse.TheVariants.{Named, Own}
+use Rattle.hx_ast.specs.declared.Action.{Action}
+use Rattle.hx_ast.specs.declared.Action.TheVariants as action
 use Rattle.hx_ast.specs.declared.Conv.{Conv}
 use Rattle.hx_ast.specs.declared.Conv.TheVariants as conv
+use Rattle.hx_ast.specs.declared.Decl.{Decl}
+use Rattle.hx_ast.specs.declared.Part.{Part}
+use Rattle.hx_ast.specs.declared.Part.TheVariants as part
+use Rattle.hx_ast.specs.declared.Rule.{Rule}
+use Rattle.hx_ast.specs.declared.Term.{Term}
 use Rattle.hx_expr.specs.Values.{HasTableHead, HasTableHeads}
 use Rattle.hx_expr.specs.Values.{IsHeadBy as IsTableBy}
-use Rattle.hx_rules.specs.Programs.{Rules}
-use Rattle.hx_rules.specs.Tables.{ChangesOneOf, HasActionHeads, HasBackendHeads, HasChangeHeads, HasFormatHeads, HasHeads, HasLists, HasPartHeads, HasRewriteHeads, HasRuleHeads, HasWhenHeads}
-use Rattle.hx_rules.specs.declared.action.BuiltAction.{BuiltAction}
-use Rattle.hx_rules.specs.declared.action.BuiltAction.TheVariants as built
-use Rattle.hx_rules.specs.declared.action.Rewrite.{Rewrite}
-use Rattle.hx_rules.specs.declared.action.Rewrite.TheVariants as rewrite
-use Rattle.hx_rules.specs.declared.action.TableChange.{TableChange}
-use Rattle.hx_rules.specs.declared.action.TableChange.TheVariants as change
-use Rattle.hx_rules.specs.declared.format.BuiltPart.{BuiltPart}
-use Rattle.hx_rules.specs.declared.format.BuiltPart.TheVariants as part
-use Rattle.hx_rules.specs.declared.program.BackendRule.{BackendRule}
-use Rattle.hx_rules.specs.declared.program.BuiltRule.{BuiltRule}
+use Rattle.hx_rules.specs.Programs.{BackendRule, Rules}
+use Rattle.hx_rules.specs.Tables.{ChangesOneOf, HasActionHeads, HasBackendHeads, HasFormatHeads, HasHeads, HasLists, HasPartHeads, HasRuleHeads, HasWhenHeads}
 use Rattle.hx_sample.specs.Tables.{TableHead}
 use Rattle.hx_text.specs.declared.By.{By}
 use Rattle.hx_load.proofs.BuiltHeadLemmas.{ChangesListOf, HasDeclaredHeads, HasTermHeads}
@@ -57,33 +53,33 @@ later_maps heads others (c ∷ convs) (is, are) =
 
 -- ---- ACLs and conditions
 
-later_test : (heads others : List TableHead) (test : AclTest) → HasTestHeads heads test
-    → HasTestHeads (heads ++ others) test
-later_test heads others test has = record {
-  maps = later_maps heads others test.expr.convs has.maps;
-  patterns = All-weaker (λ (h : ℕ). IsTableBy heads h test.by)
-      (λ (h : ℕ). IsTableBy (heads ++ others) h test.by) (later_by heads others test.by) test.heads
+later_decl : (heads others : List TableHead) (decl : Decl) → HasTestHeads heads decl
+    → HasTestHeads (heads ++ others) decl
+later_decl heads others decl has = record {
+  maps = later_maps heads others decl.expr.convs has.maps;
+  patterns = All-weaker (λ (h : ℕ). IsTableBy heads h decl.by)
+      (λ (h : ℕ). IsTableBy (heads ++ others) h decl.by) (later_by heads others decl.by) decl.heads
       has.patterns;
 }
 
-later_acls : (heads others : List TableHead) (acls : List (List ℕ × AclTest))
+later_acls : (heads others : List TableHead) (acls : List (List ℕ × Decl))
     → HasAclsHeads heads acls → HasAclsHeads (heads ++ others) acls
 later_acls heads others =
     All-weaker (HasDeclaredHeads heads) (HasDeclaredHeads (heads ++ others))
-    (λ declared has. later_test heads others declared.1 has)
+    (λ declared has. later_decl heads others declared.1 has)
 
-later_acl : (heads others : List TableHead) (acl : TermAcl) → HasAclHeads heads acl
+later_acl : (heads others : List TableHead) (acl : AclUse) → HasAclHeads heads acl
     → HasAclHeads (heads ++ others) acl
-later_acl heads others (term_acl.Named name) has = tt
-later_acl heads others (term_acl.Own test) has = later_test heads others test has
+later_acl heads others (Named name) has = tt
+later_acl heads others (Own decl) has = later_decl heads others decl has
 
-later_conj : (heads others : List TableHead) (conj : List TestTerm)
+later_conj : (heads others : List TableHead) (conj : List Term)
     → All (HasTermHeads heads) conj → All (HasTermHeads (heads ++ others)) conj
 later_conj heads others =
     All-weaker (HasTermHeads heads) (HasTermHeads (heads ++ others))
     (λ term has. later_acl heads others term.acl has)
 
-later_when : (heads others : List TableHead) (cond : Option (List (List TestTerm)))
+later_when : (heads others : List TableHead) (cond : Option (List (List Term)))
     → HasWhenHeads heads cond → HasWhenHeads (heads ++ others) cond
 later_when heads others None has = tt
 later_when heads others (Some cond) has =
@@ -92,58 +88,50 @@ later_when heads others (Some cond) has =
 
 -- ---- formats and actions
 
-later_part : (heads others : List TableHead) (p : BuiltPart) → HasPartHeads heads p
+later_part : (heads others : List TableHead) (p : Part) → HasPartHeads heads p
     → HasPartHeads (heads ++ others) p
 later_part heads others (part.Text bytes) has = tt
 later_part heads others (part.Value expr) has = later_maps heads others expr.convs has
 
-later_format : (heads others : List TableHead) (format : List BuiltPart)
+later_format : (heads others : List TableHead) (format : List Part)
     → HasFormatHeads heads format → HasFormatHeads (heads ++ others) format
 later_format heads others =
     All-weaker (HasPartHeads heads) (HasPartHeads (heads ++ others)) (later_part heads others)
 
-later_rewrite : (heads others : List TableHead) (does : Rewrite) → HasRewriteHeads heads does
-    → HasRewriteHeads (heads ++ others) does
-later_rewrite heads others (rewrite.SetHeader name format) has =
-    later_format heads others format has
-later_rewrite heads others (rewrite.AddHeader name format) has =
-    later_format heads others format has
-later_rewrite heads others (rewrite.DelHeader name) has = tt
-later_rewrite heads others (rewrite.ReplaceHeader name pattern format) has =
-    later_format heads others format has
-later_rewrite heads others (rewrite.ReplaceValue name pattern format) has =
-    later_format heads others format has
-later_rewrite heads others (rewrite.SetMethod format) has = later_format heads others format has
-later_rewrite heads others (rewrite.SetUri format) has = later_format heads others format has
-later_rewrite heads others (rewrite.SetPath format) has = later_format heads others format has
-later_rewrite heads others (rewrite.SetQuery format) has = later_format heads others format has
-
-later_change : (heads others : List TableHead) (does : TableChange) → HasChangeHeads heads does
-    → HasChangeHeads (heads ++ others) does
-later_change heads others (change.Add table key) has = later_format heads others key has
-later_change heads others (change.Remove table key) has = later_format heads others key has
-later_change heads others (change.Set table key value) (of_key, of_value) =
-    (later_format heads others key of_key, later_format heads others value of_value)
-
-later_action : (heads others : List TableHead) (does : BuiltAction) → HasActionHeads heads does
+later_action : (heads others : List TableHead) (does : Action) → HasActionHeads heads does
     → HasActionHeads (heads ++ others) does
-later_action heads others (built.Rewrite does) has = later_rewrite heads others does has
-later_action heads others (built.SetVar name expr) has = later_maps heads others expr.convs has
-later_action heads others (built.Change does) has = later_change heads others does has
-later_action heads others (built.Redirect redirect) has =
-    later_format heads others redirect.format has
+later_action heads others (action.SetHeader name format) has =
+    later_format heads others format has
+later_action heads others (action.AddHeader name format) has =
+    later_format heads others format has
+later_action heads others (action.ReplaceHeader name pattern format) has =
+    later_format heads others format has
+later_action heads others (action.ReplaceValue name pattern format) has =
+    later_format heads others format has
+later_action heads others (action.SetMethod format) has = later_format heads others format has
+later_action heads others (action.SetUri format) has = later_format heads others format has
+later_action heads others (action.SetPath format) has = later_format heads others format has
+later_action heads others (action.SetQuery format) has = later_format heads others format has
+later_action heads others (action.SetVar name expr) has = later_maps heads others expr.convs has
+later_action heads others (action.AddAcl table key) has = later_format heads others key has
+later_action heads others (action.DelAcl table key) has = later_format heads others key has
+later_action heads others (action.DelMap table key) has = later_format heads others key has
+later_action heads others (action.SetMap table key value) (of_key, of_value) =
+    (later_format heads others key of_key, later_format heads others value of_value)
+later_action heads others (action.Redirect kind format status drop_query) has =
+    later_format heads others format has
 later_action heads others _ has = tt
 
 -- ---- programs
 
-later_rule : (heads others : List TableHead) (rule : BuiltRule) → HasRuleHeads heads rule
+later_rule : (heads others : List TableHead) (rule : Rule) → HasRuleHeads heads rule
     → HasRuleHeads (heads ++ others) rule
 later_rule heads others rule has = record {
   action = later_action heads others rule.action has.action;
   cond = later_when heads others rule.cond has.cond;
 }
 
-later_rules : (heads others : List TableHead) (rules : List BuiltRule)
+later_rules : (heads others : List TableHead) (rules : List Rule)
     → All (HasRuleHeads heads) rules → All (HasRuleHeads (heads ++ others)) rules
 later_rules heads others =
     All-weaker (HasRuleHeads heads) (HasRuleHeads (heads ++ others)) (later_rule heads others)
@@ -165,9 +153,13 @@ later_heads heads others program has = record {
       (later_backend heads others) program.backends has.backends;
 }
 
-later_list : (fewer more : ℕ) (does : BuiltAction) → fewer ≤ more → ChangesOneOf fewer does
+later_list : (fewer more : ℕ) (does : Action) → fewer ≤ more → ChangesOneOf fewer does
     → ChangesOneOf more does
-later_list fewer more (built.Change does) at_least within = omega (arith, at_least, within)
+later_list fewer more (action.AddAcl table key) at_least within = omega (arith, at_least, within)
+later_list fewer more (action.DelAcl table key) at_least within = omega (arith, at_least, within)
+later_list fewer more (action.DelMap table key) at_least within = omega (arith, at_least, within)
+later_list fewer more (action.SetMap table key value) at_least within =
+    omega (arith, at_least, within)
 later_list fewer more _ at_least within = tt
 
 pub later_lists : (fewer more : ℕ) (program : Rules) → fewer ≤ more → HasLists fewer program

@@ -1,6 +1,8 @@
 pub mod BuiltHeadLemmas
 pub mod DeclareLemmas
 pub mod FillLemmas
+pub mod FilledLemmas
+pub mod FirstLemmas
 pub mod FreeNumberLemmas
 pub mod JudgedLemmas
 pub mod LaterHeadLemmas

@@ -5,7 +5,7 @@ use Rattle.std.specs.List.{list_all}
 use Rattle.hx_ast.specs.declared.Statement.{Statement}
 use Rattle.hx_base.specs.Pairs.{NamedBytes}
 use Rattle.hx_outside.specs.Makers.{ExpressionText}
-use Rattle.hx_refs.specs.References.{References}
+use Rattle.hx_refs.specs.References.{References, RefsState}
 use Rattle.hx_refs.specs.declared.Limits.{Limits}
 use Rattle.hx_rules.specs.Programs.{Rules}
 use Rattle.hx_rules.specs.Tables.{HasHeads, HasLists}
@@ -14,66 +14,49 @@ use Rattle.hx_spell.specs.Known.{Known, Reading, ReferenceForm, nothing_known}
 use Rattle.hx_spell.specs.TableSpecs.{ReferenceSpecs, reference_specs, table_specs, table_specs_from}
 use Rattle.hx_spell.specs.declared.TableSpec.{TableSpec}
 use Rattle.hx_words.specs.Variable.{Env}
-use Rattle.hx_load.specs.Configuration.{GiveStatements, LinesGive, Refusal, lines_of, statements_from}
+use Rattle.hx_load.specs.Configuration.{GiveStatements, IsFirstRefused, LinesGive, Refusal, lines_of, statements_from}
 use Rattle.hx_load.specs.Filling.{FillAsksLast, FillReadsLast, FillsHeld}
 use Rattle.hx_load.specs.LineReading.{IsReadAs}
 use Rattle.hx_load.specs.LoadResult.{LoadJudgesLast, LoadReadsLast, LoadsHeld}
-use Rattle.hx_load.specs.Loads.{GivesReferences, Judges, LineReads, Loads, declared, filled_of, first_unknown, loaded, loading_filled, loading_named, loading_numbered, loading_of}
+use Rattle.hx_load.specs.Loads.{GivesProgram, GivesReferences, Judges, LineReads, Loading, Loads, declared, first_unknown, loaded, loading_filled, loading_named, loading_numbered, loading_of}
 use Rattle.hx_load.specs.Loads as loading
-use Rattle.hx_load.specs.References.{Filled, FillingAsksFor, FillingReads, HasFiles, declared_references, filled_from, id_taken, repeated_after, unknown_table}
+use Rattle.hx_load.specs.References.{Filled, FillingAsksFor, FillingReads, HasFiles, HaveDistinctNumbers, declared_references, filled_from, id_taken, repeated_after, unknown_table}
 use Rattle.hx_load.specs.References as filled
 use Rattle.hx_load.specs.declared.load_fault.LoadFault.{LoadFault}
 use Rattle.hx_load.specs.declared.load_fault.LoadFault.TheVariants as load
-use Rattle.hx_load.proofs.FillLemmas.{are_filled}
+use Rattle.hx_load.proofs.FilledLemmas.{FillAs, fill_as, fill_is}
+use Rattle.hx_load.proofs.FirstLemmas.{all_known, is_repeated, is_unknown, none_repeated, none_unknown, repeated_is, unknown_is}
 use Rattle.hx_load.proofs.NumberLemmas.{given_distinct}
-use Rattle.hx_load.proofs.LoadingLemmas.{lines_give}
+use Rattle.hx_load.proofs.LoadingLemmas.{first_refused_is, given_are, lines_give}
 
 -- ---- the relation
 
-named_or : (file : Option (List ℕ)) (named : Bool) (line : ℕ) (unknown : Option ℕ)
-    → cond (is_some file && not named) (Some line) unknown ≡ None
-    → ((is_none file || named) ≡ true) × (unknown ≡ None)
-named_or None named line unknown is = (refl, is)
-named_or (Some file) true line unknown is = (refl, is)
-named_or (Some file) false line unknown is = absurd (cc is)
-
--- where none is unknown, each file is named
-none_unknown : (specs : List TableSpec) → first_unknown specs ≡ None
-    → list_all (λ spec. is_none spec.file || spec.named) specs ≡ true
-none_unknown [] is = refl
-none_unknown (spec ∷ specs) is =
-    let (first, others) = named_or spec.file spec.named spec.line (first_unknown specs) is in
-    rw (first, none_unknown specs others) refl
-
 entries_load : (env : Env) (limits : Limits) (files : NamedBytes) (config : List ℕ) (read : Reading (List Statement)) (f : Filled)
-    → GivesReferences env config read → filled_of limits files read.known ≡ f
+    → GivesReferences env config read → FillAs files 0 (table_specs read.known) (declared limits read.known) f
     → Loads env limits files config (loading_filled read.value f)
-entries_load env limits files config read (filled.Whole references) lines is =
-    (read, lines, are_filled files 0 (table_specs read.known) (declared limits read.known) references is, refl)
-entries_load env limits files config read (filled.Refused refusal) lines is =
-    inr (inr (inr (record { read = read; lines = lines; refused = is })))
-entries_load env limits files config read (filled.Missing name) lines is = (read, lines, is)
+entries_load env limits files config read (filled.Whole references) lines f = (read, lines, f, refl)
+entries_load env limits files config read (filled.Refused refusal) lines f =
+    inr (inr (inr (record { read = read; lines = lines; refused = f })))
+entries_load env limits files config read (filled.Missing name) lines f = record { read = read; lines = lines; missing = f }
 
 names_load : (env : Env) (limits : Limits) (files : NamedBytes) (config : List ℕ) (read : Reading (List Statement)) (unknown : Option ℕ)
-    → GiveStatements env 1 (lines_of config) nothing_known read → repeated_after [] (table_specs read.known) ≡ None
+    → GiveStatements env 1 (lines_of config) nothing_known read → HaveDistinctNumbers (table_specs read.known)
     → first_unknown (table_specs read.known) ≡ unknown → Loads env limits files config (loading_named limits files read unknown)
 names_load env limits files config read (Some line) given once is =
-    inr (inr (inl (record { read = read; given = given; once = once; line = is; code = refl })))
+    inr (inr (inl (record { read = read; given = given; once = once; unknown = is_unknown (table_specs read.known) line is; code = refl })))
 names_load env limits files config read None given once is =
-    entries_load env limits files config read (filled_of limits files read.known)
-    (record {
-      given = given;
-      once = given_distinct [] (table_specs read.known) once;
-      named = none_unknown (table_specs read.known) is;
-    }) refl
+    entries_load env limits files config read (filled_from files 0 (table_specs read.known) (declared limits read.known))
+    (record { given = given; once = once; named = none_unknown (table_specs read.known) is })
+    (fill_as files 0 (table_specs read.known) (declared limits read.known))
 
 numbers_load : (env : Env) (limits : Limits) (files : NamedBytes) (config : List ℕ) (read : Reading (List Statement)) (repeated : Option ℕ)
     → GiveStatements env 1 (lines_of config) nothing_known read → repeated_after [] (table_specs read.known) ≡ repeated
     → Loads env limits files config (loading_numbered limits files read repeated)
 numbers_load env limits files config read (Some line) given is =
-    inr (inl (record { read = read; given = given; line = is; code = refl }))
+    inr (inl (record { read = read; given = given; twice = is_repeated (table_specs read.known) line is; code = refl }))
 numbers_load env limits files config read None given is =
-    names_load env limits files config read (first_unknown (table_specs read.known)) given is refl
+    names_load env limits files config read (first_unknown (table_specs read.known)) given
+    (given_distinct [] (table_specs read.known) is) refl
 
 lines_load : (env : Env) (limits : Limits) (files : NamedBytes) (config : List ℕ) (said : Result (Reading (List Statement)) Refusal)
     → LinesGive env 1 (lines_of config) nothing_known said → Loads env limits files config (loading_of limits files said)
@@ -87,6 +70,80 @@ pub loads : (env : Env) (limits : Limits) (files : NamedBytes) (config : List �
 unfolding loaded
 loads env limits files config =
     lines_load env limits files config (statements_from env 1 (lines_of config) nothing_known) (lines_give env 1 (lines_of config) nothing_known)
+
+-- ---- nothing else does it load as
+
+-- the lines give statements, and this comes of the numbers that they give
+of_numbers : (env : Env) (limits : Limits) (files : NamedBytes) (config : List ℕ) (read : Reading (List Statement)) (repeated : Option ℕ)
+    → GiveStatements env 1 (lines_of config) nothing_known read → repeated_after [] (table_specs read.known) ≡ repeated
+    → loaded env limits files config ≡ loading_numbered limits files read repeated
+unfolding loaded
+of_numbers env limits files config read repeated given is =
+    ap (loading_of limits files) (given_are env 1 (lines_of config) nothing_known read given)
+    ∙ ap (loading_numbered limits files read) is
+
+-- no number is given twice, and this comes of the files that rules change
+of_names : (env : Env) (limits : Limits) (files : NamedBytes) (config : List ℕ) (read : Reading (List Statement)) (unknown : Option ℕ)
+    → GiveStatements env 1 (lines_of config) nothing_known read → HaveDistinctNumbers (table_specs read.known)
+    → first_unknown (table_specs read.known) ≡ unknown → loaded env limits files config ≡ loading_named limits files read unknown
+of_names env limits files config read unknown given once is =
+    of_numbers env limits files config read None given (none_repeated (table_specs read.known) once)
+    ∙ ap (loading_named limits files read) is
+
+-- each of these is known, and this comes of filling the references
+of_filling : (env : Env) (limits : Limits) (files : NamedBytes) (config : List ℕ) (read : Reading (List Statement)) (f : Filled)
+    → GivesReferences env config read → FillAs files 0 (table_specs read.known) (declared limits read.known) f
+    → loaded env limits files config ≡ loading_filled read.value f
+of_filling env limits files config read f lines is =
+    of_names env limits files config read None lines.given lines.once (all_known (table_specs read.known) lines.named)
+    ∙ ap (loading_filled read.value) (fill_is files 0 (table_specs read.known) (declared limits read.known) f is)
+
+of_first_refused : (env : Env) (limits : Limits) (files : NamedBytes) (config : List ℕ) (refusal : Refusal)
+    → IsFirstRefused env 1 (lines_of config) nothing_known refusal → loaded env limits files config ≡ loading.Refused refusal
+unfolding loaded
+of_first_refused env limits files config refusal f =
+    ap (loading_of limits files) (first_refused_is env 1 (lines_of config) nothing_known refusal f)
+
+-- a refusal with a code of its own
+coded : (line : ℕ) (refusal : Refusal) (code : ℕ) → line ≡ refusal.line → refusal.code ≡ code
+    → loading.Refused (record { line = line; code = code }) ≡ loading.Refused refusal
+coded line refusal code same is =
+    ap (λ (l : ℕ). loading.Refused (record { line = l; code = code })) same
+    ∙ ap (λ (c : ℕ). loading.Refused (record { line = refusal.line; code = c })) (sym is)
+
+of_refused : (env : Env) (limits : Limits) (files : NamedBytes) (config : List ℕ) (refusal : Refusal)
+    → Loads env limits files config (loading.Refused refusal) → loaded env limits files config ≡ loading.Refused refusal
+of_refused env limits files config refusal (inl f) = of_first_refused env limits files config refusal f
+of_refused env limits files config refusal (inr (inl f)) =
+    of_numbers env limits files config f.read (Some refusal.line) f.given
+    (repeated_is (table_specs f.read.known) refusal.line f.twice)
+    ∙ coded refusal.line refusal id_taken refl f.code
+of_refused env limits files config refusal (inr (inr (inl f))) =
+    of_names env limits files config f.read (Some refusal.line) f.given f.once
+    (unknown_is (table_specs f.read.known) refusal.line f.unknown)
+    ∙ coded refusal.line refusal unknown_table refl f.code
+of_refused env limits files config refusal (inr (inr (inr f))) =
+    of_filling env limits files config f.read (filled.Refused refusal) f.lines f.refused
+
+-- a configuration loads as nothing but what the function says
+pub loads_only : (env : Env) (limits : Limits) (files : NamedBytes) (config : List ℕ) (l : Loading)
+    → Loads env limits files config l → l ≡ loaded env limits files config
+loads_only env limits files config (loading.Accepted program references) (read, lines, whole, is) =
+    ap (λ (p : Rules). loading.Accepted p references) is
+    ∙ sym (of_filling env limits files config read (filled.Whole references) lines whole)
+loads_only env limits files config (loading.Refused refusal) is = sym (of_refused env limits files config refusal is)
+loads_only env limits files config (loading.Missing name) f =
+    sym (of_filling env limits files config f.read (filled.Missing name) f.lines f.missing)
+
+-- so it gives one program at most
+pub loads_one : (env : Env) (limits : Limits) (files : NamedBytes) (config : List ℕ) (program other : Rules) (references others : References)
+    → GivesProgram env limits files config program references → GivesProgram env limits files config other others
+    → (program ≡ other) × (references ≡ others)
+loads_one env limits files config program other references others given again =
+    let same : loading.Accepted program references ≡ loading.Accepted other others =
+    loads_only env limits files config (loading.Accepted program references) given
+    ∙ sym (loads_only env limits files config (loading.Accepted other others) again) in
+    (cc same, cc same)
 
 -- ---- what `load` answers
 
@@ -207,13 +264,14 @@ fill_fault held env limits config known program specs refs after load.NoMemory d
 
 -- they are
 pub fill_whole : (held : Option NamedBytes) (env : Env) (limits : Limits) (config : List ℕ) (known : Known) (program : Rules) (specs : ReferenceSpecs)
-    (refs after : References) → Declares env limits config known program specs refs → FillsHeld held specs.specs refs after (Ok tt)
+    (refs : References) (after : RefsState) → Declares env limits config known program specs refs
+    → FillsHeld held specs.specs refs after.content (Ok tt)
     → LoadsHeld held env limits config (Ok (program, after))
 fill_whole held env limits config known program specs refs after d f = record {
   files = f.files;
   of_files = f.of_files;
-  is = filled_loaded env limits f.files config known program specs refs (filled.Whole after) d f.is
-      ∙ ap (λ (p : Rules). loading.Accepted p after) (sym d.brings.lines.is);
+  is = filled_loaded env limits f.files config known program specs refs (filled.Whole after.content) d f.is
+      ∙ ap (λ (p : Rules). loading.Accepted p after.content) (sym d.brings.lines.is);
 }
 
 -- ---- files and texts

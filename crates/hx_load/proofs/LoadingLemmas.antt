@@ -10,7 +10,7 @@ use Rattle.hx_spell.proofs.LineLemmas.{line_law}
 use Rattle.hx_words.specs.Variable.{Env}
 use Rattle.hx_words.specs.Words.{words_of}
 use Rattle.hx_words.specs.declared.WordFault.{WordFault}
-use Rattle.hx_load.specs.Configuration.{GiveStatements, GivesStatement, IsRefused, LinesGive, Refusal, SpellsStatement, bad_pattern, bad_type, before_statements, is_statement_readable, judged_or_code, line_statement, statement_judged, statement_of_words, statements_from, then_statements}
+use Rattle.hx_load.specs.Configuration.{GiveStatements, GivesStatement, IsFirstRefused, IsRefused, LinesGive, Refusal, SpellsStatement, bad_pattern, bad_type, before_statements, is_statement_readable, judged_or_code, line_statement, statement_judged, statement_of_words, statements_from, then_statements}
 
 -- ---- what a line says, from the function to the relation
 
@@ -214,3 +214,28 @@ after_lines env first (line ∷ lines) left before read (one, others, is, given,
     ∙ after_one one.value others.value (statements_from env (first + 1 + length lines) left others.known)
     ∙ ap (λ (n : ℕ). after_statements (one.value ∷ others.value) (statements_from env n left others.known)) number
     ∙ sym (ap (λ (r : Reading (List Statement)). after_statements r.value (statements_from env (first + length (line ∷ lines)) left r.known)) is)
+
+-- lines that give statements are read as these
+pub given_are : (env : Env) (first : ℕ) (lines : List (List ℕ)) (before : Known)
+    (read : Reading (List Statement)) → GiveStatements env first lines before read
+    → statements_from env first lines before ≡ Ok read
+given_are env first [] before read is = ap Ok (sym is)
+given_are env first (line ∷ lines) before read (one, others, is, given, gives) =
+    ap (λ (r : Result (Reading Statement) ℕ). then_statements r first (λ known. statements_from env (first + 1) lines known))
+    (given_is env first line before one given)
+    ∙ ap (before_statements one.value) (given_are env (first + 1) lines one.known others gives)
+    ∙ ap Ok (sym is)
+
+-- lines are refused at the first that is refused
+pub first_refused_is : (env : Env) (first : ℕ) (lines : List (List ℕ)) (before : Known)
+    (refusal : Refusal) → IsFirstRefused env first lines before refusal
+    → statements_from env first lines before ≡ Err refusal
+first_refused_is env first lines before refusal f =
+    let left : List (List ℕ) = f.line ∷ f.lines_after in
+    let here : statements_from env refusal.line left f.read.known ≡ Err refusal =
+    ap (λ (r : Result (Reading Statement) ℕ). then_statements r refusal.line (λ known. statements_from env (refusal.line + 1) f.lines_after known))
+    (refused_is env refusal.line f.line f.read.known refusal.code f.refused) in
+    ap (λ (ls : List (List ℕ)). statements_from env first ls before) f.lines_are
+    ∙ after_lines env first f.lines_before left before f.read f.accepted
+    ∙ ap (λ (n : ℕ). after_statements f.read.value (statements_from env n left f.read.known)) (sym f.number)
+    ∙ ap (after_statements f.read.value) here

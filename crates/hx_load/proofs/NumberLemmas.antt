@@ -9,7 +9,7 @@ use Rattle.std.proofs.lemmas.Bool.{cases_Bool, cases_lt, eqb-false, eq-eqb, ne_e
 use Rattle.std.proofs.lemmas.List.Elements.{All-cons, All-head, All-nil, All-same, All-tail, recursion_from_All}
 use Rattle.hx_spell.specs.declared.TableSpec.{TableSpec}
 use Rattle.hx_load.specs.Declaring.{AreDistinct}
-use Rattle.hx_load.specs.References.{free_numbers, given_numbers, is_among, numbers_by, numbers_of, repeated_after}
+use Rattle.hx_load.specs.References.{HaveDistinctNumbers, free_numbers, given_numbers, is_among, numbers_by, numbers_of, repeated_after}
 use Rattle.hx_load.proofs.FreeNumberLemmas.{free_count, free_is_distinct, free_is_not_given, free_range, free_range_has, free_range_splits}
 
 -- the set has the numbers that are given before the rest, none of them twice
@@ -28,7 +28,7 @@ unnumbered_count (spec ∷ specs) =
     option_map_or (λ n. unnumbered_count specs) spec.given (unnumbered_count specs + 1)
 
 -- by cases on a number that may be given
-given_or_not : (given : Option ℕ) → ((n : ℕ) × (given ≡ Some n)) ⊎ (given ≡ None)
+pub given_or_not : (given : Option ℕ) → ((n : ℕ) × (given ≡ Some n)) ⊎ (given ≡ None)
 given_or_not (Some n) = inl (n, refl)
 given_or_not None = inr refl
 
@@ -200,7 +200,7 @@ differ_all n (m ∷ numbers) all = (ne_eqb n m all.0, differ_all n numbers all.1
 
 -- and so the numbers that are given are distinct
 pub given_distinct : (seen : List ℕ) (specs : List TableSpec) → repeated_after seen specs ≡ None
-    → IsDistinct (λ n m. n == m) (given_numbers specs)
+    → HaveDistinctNumbers specs
 unfolding IsDistinct
 given_distinct seen [] once = tt
 given_distinct seen (spec ∷ specs) once = elim (given_or_not spec.given) [

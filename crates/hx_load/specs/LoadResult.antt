@@ -2,7 +2,7 @@
 use Rattle.std.specs.Prelude.{◌≡◌, ℕ, List, Option, IsSomeAnd, Result, Ok, Err, ⊤}
 use Rattle.hx_base.specs.Pairs.{NamedBytes}
 use Rattle.hx_outside.specs.Makers.{ExpressionText}
-use Rattle.hx_refs.specs.References.{References}
+use Rattle.hx_refs.specs.References.{RefsState}
 use Rattle.hx_refs.specs.declared.Limits.{Limits}
 use Rattle.hx_rules.specs.Programs.{Rules}
 use Rattle.hx_words.specs.Variable.{Env}
@@ -13,8 +13,8 @@ use Rattle.hx_load.specs.declared.load_fault.LoadFault.{LoadFault}
 use Rattle.hx_load.specs.declared.load_fault.LoadFault.TheVariants as load
 
 -- a configuration is loaded as it should be, under these files
-abbrev pub LoadsAs : Result (Rules × References) LoadFault → Loading → Type 0
-LoadsAs (Ok given) expected = expected ≡ loading.Accepted given.0 given.1
+abbrev pub LoadsAs : Result (Rules × RefsState) LoadFault → Loading → Type 0
+LoadsAs (Ok given) expected = expected ≡ loading.Accepted given.0 given.1.content
 LoadsAs (Err (load.Refused l code)) expected =
     expected ≡ loading.Refused (record { line = l; code = code })
 LoadsAs (Err load.Failed) expected = ⊤
@@ -24,7 +24,7 @@ LoadsAs (Err load.NoMemory) expected = ⊤
 -- the same under some files, which are those that are held, where that is known
 pub record LoadsHeld (held : Option NamedBytes) (env : Env) (limits : Limits)
     (config : List ℕ)
-    (result : Result (Rules × References) LoadFault) : Type 0 where
+    (result : Result (Rules × RefsState) LoadFault) : Type 0 where
   pub files : NamedBytes
   pub of_files : HasFiles held files
   pub is : LoadsAs result (loaded env limits files config)

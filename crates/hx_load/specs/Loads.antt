@@ -1,8 +1,8 @@
 -- What a configuration loads as: a program, the refusal of its first fault, or nothing where a file
 -- is missing. First all lines are judged, then the numbers that they give, then the files that
 -- their rules change, and then files and inline patterns in the order of their first appearance.
-use Rattle.std.specs.Prelude.{◌≡◌, fold, ℕ, ◌+◌, ◌==◌, ◌⊎◌, ◌&&◌, ◌||◌, not, true, is_none, List, [], ◌∷◌, ◌++◌, length, Contains, Option, None, Some, is_some, Result, Ok, Err, if◌then◌else◌}
-use Rattle.std.specs.List.{IsDistinct, list_all}
+use Rattle.std.specs.Prelude.{◌≡◌, fold, ℕ, ◌+◌, ◌==◌, ◌⊎◌, ◌&&◌, ◌||◌, not, Bool, true, false, is_none, List, [], ◌∷◌, ◌++◌, length, Contains, Option, None, Some, is_some, Result, Ok, Err, if◌then◌else◌}
+use Rattle.std.specs.List.{list_all}
 use Rattle.hx_ast.specs.declared.AclUse.{AclUse}
 use Rattle.hx_ast.specs.declared.AclUse.TheVariants.{Named, Own}
 use Rattle.hx_ast.specs.declared.Decl.{Decl}
@@ -21,7 +21,7 @@ use Rattle.hx_spell.specs.declared.TableSpec.{TableSpec}
 use Rattle.hx_text.specs.declared.By.TheVariants as method
 use Rattle.hx_words.specs.Variable.{Env}
 use Rattle.hx_load.specs.Configuration.{GiveStatements, IsFirstRefused, Refusal, SpellsStatement, lines_of, statements_from}
-use Rattle.hx_load.specs.References.{Filled, Whole, Refused as FillRefused, Missing as FillMissing, AreFilled, FillingAsksFor, FillingReads, declared_references, filled_from, given_numbers, id_taken, repeated_after, unknown_table}
+use Rattle.hx_load.specs.References.{Filled, Whole, Refused as FillRefused, Missing as FillMissing, AreFilled, FillingAsksFor, FillingReads, HaveDistinctNumbers, IsFirstMissing, IsFirstRepeated, IsFirstUnfilled, declared_references, filled_from, id_taken, repeated_after, unknown_table}
 
 -- ---- programs
 
@@ -77,23 +77,34 @@ loaded env limits files config =
 
 -- ---- the relation
 
+-- no rule changes the file of a reference, or a `-f` or a map names it
+abbrev pub is_known : TableSpec → Bool
+is_known spec = is_none spec.file || spec.named
+
+-- The first reference with a file that a rule changes and that no `-f` and no map names, and the
+-- line that brings it.
+pub record IsFirstUnknown (specs : List TableSpec) (line : ℕ) : Type 0 where
+  pub before : List TableSpec
+  pub spec : TableSpec
+  pub after : List TableSpec
+  pub specs_are : specs ≡ before ++ spec ∷ after
+  pub known : list_all is_known before ≡ true
+  pub unknown : is_known spec ≡ false
+  pub line_is : line ≡ spec.line
+
 -- all lines give statements, no number is given twice, and each file that a rule changes is named
 -- by a `-f` or a map
 pub record GivesReferences (env : Env) (config : List ℕ) (read : Reading (List Statement))
     : Type 0 where
   pub given : GiveStatements env 1 (lines_of config) nothing_known read
-  pub once : IsDistinct (λ n m. n == m) (given_numbers (table_specs read.known))
-  pub named : list_all (λ spec. is_none spec.file || spec.named) (table_specs read.known) ≡ true
-
--- the references with their entries, or why they don't have all
-abbrev pub filled_of : Limits → NamedBytes → Known → Filled
-filled_of limits files known = filled_from files 0 (table_specs known) (declared limits known)
+  pub once : HaveDistinctNumbers (table_specs read.known)
+  pub named : list_all is_known (table_specs read.known) ≡ true
 
 -- a number is given twice, for the first time on this line
 pub record GivesTwice (env : Env) (config : List ℕ) (refusal : Refusal) : Type 0 where
   pub read : Reading (List Statement)
   pub given : GiveStatements env 1 (lines_of config) nothing_known read
-  pub line : repeated_after [] (table_specs read.known) ≡ Some refusal.line
+  pub twice : IsFirstRepeated (table_specs read.known) refusal.line
   pub code : refusal.code ≡ id_taken
 
 -- no number is given twice, and a rule changes a file that is named nowhere else, for the first
@@ -101,8 +112,8 @@ pub record GivesTwice (env : Env) (config : List ℕ) (refusal : Refusal) : Type
 pub record ChangesUnknown (env : Env) (config : List ℕ) (refusal : Refusal) : Type 0 where
   pub read : Reading (List Statement)
   pub given : GiveStatements env 1 (lines_of config) nothing_known read
-  pub once : repeated_after [] (table_specs read.known) ≡ None
-  pub line : first_unknown (table_specs read.known) ≡ Some refusal.line
+  pub once : HaveDistinctNumbers (table_specs read.known)
+  pub unknown : IsFirstUnknown (table_specs read.known) refusal.line
   pub code : refusal.code ≡ unknown_table
 
 -- an entry is refused
@@ -110,7 +121,15 @@ pub record HasEntryFault (env : Env) (limits : Limits) (files : NamedBytes) (con
     (refusal : Refusal) : Type 0 where
   pub read : Reading (List Statement)
   pub lines : GivesReferences env config read
-  pub refused : filled_of limits files read.known ≡ FillRefused refusal
+  pub refused : IsFirstUnfilled files 0 (table_specs read.known) (declared limits read.known)
+      refusal
+
+-- a file is missing
+pub record LacksFile (env : Env) (limits : Limits) (files : NamedBytes) (config : List ℕ)
+    (name : List ℕ) : Type 0 where
+  pub read : Reading (List Statement)
+  pub lines : GivesReferences env config read
+  pub missing : IsFirstMissing files 0 (table_specs read.known) (declared limits read.known) name
 
 -- A configuration is accepted: its lines give statements, which make the program, and the
 -- references that these bring have all their entries.
@@ -122,7 +141,7 @@ GivesProgram env limits files config program references =
 
 -- What a configuration loads as. It is refused at the first line with a fault; else where a number
 -- is given twice; else where a rule changes a file that is named nowhere else; else at the first
--- entry with a fault.
+-- entry with a fault, or says nothing where a file is missing before that.
 abbrev pub Loads : Env → Limits → NamedBytes → List ℕ → Loading → Type 0
 Loads env limits files config (Accepted program references) =
     GivesProgram env limits files config program references
@@ -130,9 +149,7 @@ Loads env limits files config (Refused refusal) =
     IsFirstRefused env 1 (lines_of config) nothing_known refusal
     ⊎ (GivesTwice env config refusal ⊎ (ChangesUnknown env config refusal
     ⊎ HasEntryFault env limits files config refusal))
-Loads env limits files config (Missing name) =
-    (read : Reading (List Statement)) × GivesReferences env config read
-    × (filled_of limits files read.known ≡ FillMissing name)
+Loads env limits files config (Missing name) = LacksFile env limits files config name
 
 -- ---- texts that are read as regular expressions
 

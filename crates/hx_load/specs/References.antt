@@ -1,8 +1,8 @@
 -- The references of a configuration: their numbers, and the entries of their files and inline
 -- patterns (HAProxy configuration manual 2.4, sections 7.1 and 7.3.1, `map`; management guide 2.4,
 -- section 9.3).
-use Rattle.std.specs.Prelude.{◌≡◌, fold, ℕ, ◌+◌, ◌⊎◌, not, List, [], ◌∷◌, length, map, Option, None, Some, IfSome, option_map, unwrap_or, slice_get, drop, filter, filter_map, if◌then◌else◌}
-use Rattle.std.specs.List.{range_with_len}
+use Rattle.std.specs.Prelude.{◌≡◌, fold, ℕ, ◌+◌, ◌⊎◌, not, ◌==◌, true, List, [], ◌∷◌, ◌++◌, length, map, Option, None, Some, IfSome, option_map, unwrap_or, slice_get, drop, filter, filter_map, if◌then◌else◌}
+use Rattle.std.specs.List.{IsDistinct, range_with_len}
 use Rattle.std.specs.Option.{option_map_or}
 use Rattle.hx_base.specs.Pairs.{NamedBytes, value_at}
 use Rattle.hx_outside.specs.Makers.{ExpressionText}
@@ -41,6 +41,23 @@ repeated_after numbers (spec ∷ specs) =
 -- the numbers that are given
 abbrev pub given_numbers : List TableSpec → List ℕ
 given_numbers specs = filter_map (λ spec. spec.given) specs
+
+-- no number is given twice
+abbrev pub HaveDistinctNumbers : List TableSpec → Type 0
+HaveDistinctNumbers specs = IsDistinct (λ n m. n == m) (given_numbers specs)
+
+-- The first reference whose number is given again, and the line that brings it: those before it
+-- have distinct numbers, and its own is one of these.
+pub record IsFirstRepeated (specs : List TableSpec) (line : ℕ) : Type 0 where
+  pub before : List TableSpec
+  pub spec : TableSpec
+  pub after : List TableSpec
+  pub specs_are : specs ≡ before ++ spec ∷ after
+  pub distinct : HaveDistinctNumbers before
+  pub number : ℕ
+  pub given : spec.given ≡ Some number
+  pub again : is_among (given_numbers before) number ≡ true
+  pub line_is : line ≡ spec.line
 
 -- the least numbers that aren't given: as many as there may be references without one
 abbrev pub free_numbers : List TableSpec → List ℕ
@@ -148,6 +165,36 @@ AreFilled files r (spec ∷ specs) refs filled =
     (pairs : List Pair) × (pairs_of_spec files spec ≡ Some pairs)
     × (addition_fault refs r None pairs ≡ None)
     × AreFilled files (r + 1) specs (after_addition refs r None pairs) filled
+
+-- The first reference from a position on with an entry that is refused: those before it have all
+-- their entries, and the first fault of its own is that of the refusal, on the line that brings it.
+pub record IsFirstUnfilled (files : NamedBytes) (r : ℕ) (specs : List TableSpec)
+    (refs : References) (refusal : Refusal) : Type 0 where
+  pub before : List TableSpec
+  pub spec : TableSpec
+  pub after : List TableSpec
+  pub specs_are : specs ≡ before ++ spec ∷ after
+  pub filled : References
+  pub accepted : AreFilled files r before refs filled
+  pub pairs : List Pair
+  pub pairs_are : pairs_of_spec files spec ≡ Some pairs
+  pub fault : RefFault
+  pub refused : addition_fault filled (r + length before) None pairs ≡ Some fault
+  pub line : refusal.line ≡ spec.line
+  pub code : refusal.code ≡ entry_code fault
+
+-- the first reference from a position on whose file is missing: those before it have all their
+-- entries
+pub record IsFirstMissing (files : NamedBytes) (r : ℕ) (specs : List TableSpec)
+    (refs : References) (name : List ℕ) : Type 0 where
+  pub before : List TableSpec
+  pub spec : TableSpec
+  pub after : List TableSpec
+  pub specs_are : specs ≡ before ++ spec ∷ after
+  pub filled : References
+  pub accepted : AreFilled files r before refs filled
+  pub file : spec.file ≡ Some name
+  pub missing : value_at files name ≡ None
 
 -- an entry that is added to one of the references from a position on, with no fault before it, is
 -- read as this regular expression

@@ -45,24 +45,26 @@ pub(crate) fn fill<F: Files, M: ReMaker>(
     maker: &mut M,
 ) -> Result<(), LoadFault>
     requires specs { AreSpecs specs.now }
-    requires count { length refs.old.references ≡ length specs.now.specs }
-    ensures filled { FillsHeld (F.held files.old) specs.now.specs refs.old refs.new result }
+    requires count { length refs.old.content.references ≡ length specs.now.specs }
+    ensures filled { FillsHeld (F.held files.old) specs.now.specs refs.old.content refs.new.content
+        result }
     ensures failed { IsErrOf result LoadFault.Failed
         → Rose (F.faults files.old) (F.faults files.new)
-        × FillReadsLast (F.held files.old) specs.now.specs refs.old (F.last files.new) }
+        × FillReadsLast (F.held files.old) specs.now.specs refs.old.content (F.last files.new) }
     ensures too_large { IsErrOf result LoadFault.TooLarge
-        → Rose (M.too_large maker.old) (M.too_large maker.new)
-        × FillAsksLast (F.held files.old) specs.now.specs refs.old (M.large maker.new) }
+        → Rose (M.state maker.old).too_large (M.state maker.new).too_large
+        × FillAsksLast (F.held files.old) specs.now.specs refs.old.content
+        (M.state maker.new).large }
     ensures uncounted { ¬ (IsErrOf result LoadFault.TooLarge)
-        → (M.too_large maker.new ≡ M.too_large maker.old)
-        × (M.large maker.new ≡ M.large maker.old) }
+        → ((M.state maker.new).too_large ≡ (M.state maker.old).too_large)
+        × ((M.state maker.new).large ≡ (M.state maker.old).large) }
     ensures held { F.held files.new ≡ F.held files.old }
     ensures named { (F.last files.new ≡ F.last files.old)
-        ⊎ FillReadsLast (F.held files.old) specs.now.specs refs.old (F.last files.new) }
+        ⊎ FillReadsLast (F.held files.old) specs.now.specs refs.old.content (F.last files.new) }
     ensures later { F.faults files.old ≤ F.faults files.new }
-    ensures heads { OnOk result (refs.new.heads ≡ refs.old.heads) }
+    ensures heads { OnOk result (refs.new.content.heads ≡ refs.old.content.heads) }
     ensures references { OnOk result
-        (length refs.new.references ≡ length refs.old.references) }
+        (length refs.new.content.references ≡ length refs.old.content.references) }
 {
     let mut rest = specs.as_slice();
     let mut r = 0u32;
@@ -83,19 +85,20 @@ fn fill_one<F: Files, M: ReMaker>(
     refs: &mut Refs,
     maker: &mut M,
 ) -> Result<(), LoadFault>
-    requires { r < length refs.old.references }
-    ensures filled { OnOk result (FillsOne (F.held files.old) spec.now r refs.old refs.new) }
+    requires { r < length refs.old.content.references }
+    ensures filled { OnOk result (FillsOne (F.held files.old) spec.now r refs.old.content
+        refs.new.content) }
     ensures refused { (line code : ℕ) → result ≡ Err (LoadFault.Refused line code)
-        → RefusesOne (F.held files.old) spec.now r refs.old line code }
+        → RefusesOne (F.held files.old) spec.now r refs.old.content line code }
     ensures failed { IsErrOf result LoadFault.Failed
         → Rose (F.faults files.old) (F.faults files.new) × IsFileOf spec.now (F.last files.new) }
     ensures named { ¬ (IsErrOf result LoadFault.Failed) → F.last files.new ≡ F.last files.old }
     ensures too_large { IsErrOf result LoadFault.TooLarge
-        → Rose (M.too_large maker.old) (M.too_large maker.new)
-        × AsksOne (F.held files.old) spec.now r refs.old (M.large maker.new) }
+        → Rose (M.state maker.old).too_large (M.state maker.new).too_large
+        × AsksOne (F.held files.old) spec.now r refs.old.content (M.state maker.new).large }
     ensures uncounted { ¬ (IsErrOf result LoadFault.TooLarge)
-        → (M.too_large maker.new ≡ M.too_large maker.old)
-        × (M.large maker.new ≡ M.large maker.old) }
+        → ((M.state maker.new).too_large ≡ (M.state maker.old).too_large)
+        × ((M.state maker.new).large ≡ (M.state maker.old).large) }
     ensures held { F.held files.new ≡ F.held files.old }
     ensures later { F.faults files.old ≤ F.faults files.new }
 {

@@ -44,11 +44,11 @@ pub(crate) fn read_lines<M: ReMaker>(
         → statements_from (pairs_of env.now) 1 (lines_of config.now) nothing_known
         ≡ Err (record { line = line; code = code }) }
     ensures too_large { IsErrOf result LoadFault.TooLarge
-        → Rose (M.too_large maker.old) (M.too_large maker.new)
-        × IsSomeAnd (M.large maker.new) (LineReads (pairs_of env.now) config.now) }
+        → Rose (M.state maker.old).too_large (M.state maker.new).too_large
+        × IsSomeAnd (M.state maker.new).large (LineReads (pairs_of env.now) config.now) }
     ensures uncounted { ¬ (IsErrOf result LoadFault.TooLarge)
-        → (M.too_large maker.new ≡ M.too_large maker.old)
-        × (M.large maker.new ≡ M.large maker.old) }
+        → ((M.state maker.new).too_large ≡ (M.state maker.old).too_large)
+        × ((M.state maker.new).large ≡ (M.state maker.old).large) }
     ensures never { ¬ (IsErrOf result LoadFault.Failed) }
 {
     let Ok(mut speller) = Speller::new(alloc) else {
@@ -99,8 +99,7 @@ fn read_line<M: ReMaker>(
         speller.new program.old program.new) }
     ensures names { OnOk result (KeepsNames speller.old speller.new program.old program.new) }
     ensures read { LineReadAs (pairs_of env.now) number line.now speller.old
-        (record { too_large = M.too_large maker.old; large = M.large maker.old })
-        (record { too_large = M.too_large maker.new; large = M.large maker.new }) result }
+        (M.state maker.old) (M.state maker.new) result }
 {
     let words = split(alloc, env, line)?;
     let statement = speller.line(number, &words)?;

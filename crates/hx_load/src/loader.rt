@@ -40,18 +40,18 @@ pub fn load<F: Files, M: ReMaker>(
         → Rose (F.faults files.old) (F.faults files.new)
         × LoadReadsLast (F.held files.old) (pairs_of env.now) limits config.now (F.last files.new) }
     ensures too_large { IsErrOf result LoadFault.TooLarge
-        → Rose (M.too_large maker.old) (M.too_large maker.new)
+        → Rose (M.state maker.old).too_large (M.state maker.new).too_large
         × LoadJudgesLast (F.held files.old) (pairs_of env.now) limits config.now
-        (M.large maker.new) }
+        (M.state maker.new).large }
     ensures uncounted { ¬ (IsErrOf result LoadFault.TooLarge)
-        → (M.too_large maker.new ≡ M.too_large maker.old)
-        × (M.large maker.new ≡ M.large maker.old) }
+        → ((M.state maker.new).too_large ≡ (M.state maker.old).too_large)
+        × ((M.state maker.new).large ≡ (M.state maker.old).large) }
     ensures held { F.held files.new ≡ F.held files.old }
     ensures named { (F.last files.new ≡ F.last files.old)
         ⊎ LoadReadsLast (F.held files.old) (pairs_of env.now) limits config.now (F.last files.new) }
     ensures later { F.faults files.old ≤ F.faults files.new }
-    ensures heads { IfOk result (λ loaded. HasHeads loaded.1.heads loaded.0) }
-    ensures lists { IfOk result (λ loaded. HasLists (length loaded.1.references) loaded.0) }
+    ensures heads { IfOk result (λ loaded. HasHeads loaded.1.content.heads loaded.0) }
+    ensures lists { IfOk result (λ loaded. HasLists (length loaded.1.content.references) loaded.0) }
 {
     let LinesRead { speller, program } = read_lines(alloc, env, config, maker)?;
     let specs = speller.tables();

@@ -26,8 +26,7 @@ pub(crate) fn push_statement<M: ReMaker>(
     requires { IsStatement statement.now }
     ensures judged { JudgedAs (is_statement_typed statement.now)
         (is_statement_readable statement.now) (StatementReads statement.now)
-        (record { too_large = M.too_large maker.old; large = M.large maker.old })
-        (record { too_large = M.too_large maker.new; large = M.large maker.new }) result }
+        (M.state maker.old) (M.state maker.new) result }
     ensures ok { OnOk result (program.new ≡ with_statement statement.now program.old) }
 {
     program.push(statement, maker)?;
@@ -43,8 +42,7 @@ fn judge_statement<M: ReMaker>(
     requires { IsStatement statement.now }
     ensures { JudgedAs true (statement_has_patterns statement.now)
         (IsStatementPattern statement.now)
-        (record { too_large = M.too_large maker.old; large = M.large maker.old })
-        (record { too_large = M.too_large maker.new; large = M.large maker.new }) result }
+        (M.state maker.old) (M.state maker.new) result }
 {
     match statement {
         Statement::Plain | Statement::Fallback { .. } => Ok(()),
@@ -61,8 +59,7 @@ fn judge_when<M: ReMaker>(
 ) -> Result<(), LineFault>
     requires { IfSome cond.now IsCond }
     ensures { JudgedAs true (when_has_patterns cond.now) (IsWhenPattern cond.now)
-        (record { too_large = M.too_large maker.old; large = M.large maker.old })
-        (record { too_large = M.too_large maker.new; large = M.large maker.new }) result }
+        (M.state maker.old) (M.state maker.new) result }
 {
     match cond {
         Some(cond) => judge_cond(alloc, cond, maker),
@@ -74,8 +71,7 @@ fn judge_when<M: ReMaker>(
 fn judge_cond<M: ReMaker>(alloc: Global, cond: &Cond, maker: &mut M) -> Result<(), LineFault>
     requires { IsCond cond.now }
     ensures { JudgedAs true (cond_passes has_patterns cond.now) (IsCondPattern cond.now)
-        (record { too_large = M.too_large maker.old; large = M.large maker.old })
-        (record { too_large = M.too_large maker.new; large = M.large maker.new }) result }
+        (M.state maker.old) (M.state maker.new) result }
 {
     for conj in cond.as_slice() {
         judge_conj(alloc, conj.as_slice(), maker)?;
@@ -87,8 +83,7 @@ fn judge_conj<M: ReMaker>(alloc: Global, conj: &[Term], maker: &mut M) -> Result
     requires { All (λ term. IsAclUse term.acl) conj.now }
     ensures { JudgedAs true
         (list_all (λ term. use_passes has_patterns term.acl) conj.now) (IsConjPattern conj.now)
-        (record { too_large = M.too_large maker.old; large = M.large maker.old })
-        (record { too_large = M.too_large maker.new; large = M.large maker.new }) result }
+        (M.state maker.old) (M.state maker.new) result }
 {
     for term in conj {
         judge_use(alloc, &term.acl, maker)?;
@@ -99,8 +94,7 @@ fn judge_conj<M: ReMaker>(alloc: Global, conj: &[Term], maker: &mut M) -> Result
 fn judge_use<M: ReMaker>(alloc: Global, acl: &AclUse, maker: &mut M) -> Result<(), LineFault>
     requires { IsAclUse acl.now }
     ensures { JudgedAs true (use_passes has_patterns acl.now) (IsUsePattern acl.now)
-        (record { too_large = M.too_large maker.old; large = M.large maker.old })
-        (record { too_large = M.too_large maker.new; large = M.large maker.new }) result }
+        (M.state maker.old) (M.state maker.new) result }
 {
     match acl {
         AclUse::Named(_) => Ok(()),
@@ -112,8 +106,7 @@ fn judge_use<M: ReMaker>(alloc: Global, acl: &AclUse, maker: &mut M) -> Result<(
 fn judge_patterns<M: ReMaker>(alloc: Global, decl: &Decl, maker: &mut M) -> Result<(), LineFault>
     requires { takes_patterns decl.now.by ≡ false → decl.now.words ≡ [] }
     ensures { JudgedAs true (has_patterns decl.now) (IsPatternText decl.now)
-        (record { too_large = M.too_large maker.old; large = M.large maker.old })
-        (record { too_large = M.too_large maker.new; large = M.large maker.new }) result }
+        (M.state maker.old) (M.state maker.new) result }
 {
     for word in decl.words.as_slice() {
         judge_pattern(alloc, decl, word.as_slice(), maker)?;
@@ -130,8 +123,7 @@ fn judge_pattern<M: ReMaker>(
     requires { takes_patterns decl.now.by ≡ true }
     ensures { JudgedAs true (is_none (text_fault decl.now.by decl.now.ci word.now))
         (IsTextOfWord decl.now word.now)
-        (record { too_large = M.too_large maker.old; large = M.large maker.old })
-        (record { too_large = M.too_large maker.new; large = M.large maker.new }) result }
+        (M.state maker.old) (M.state maker.new) result }
 {
     parse(alloc, decl.by, decl.ci, word, maker)?;
     Ok(())

@@ -88,10 +88,10 @@ pub(crate) fn known_tables(specs: &[TableSpec]) -> Result<(), LoadFault>
 pub(crate) fn declare(alloc: Global, specs: &TableSpecs, limits: Limits) -> Result<Refs, LoadFault>
     requires { AreSpecs specs.now }
     ensures once { IfOk result (λ refs. repeated_after [] specs.now.specs ≡ None) }
-    ensures ok { IfOk result (λ refs. refs
+    ensures ok { IfOk result (λ refs. refs.content
         ≡ declared_references limits specs.now.specs specs.now.heads) }
-    ensures heads { IfOk result (λ refs. refs.heads ≡ map table_head specs.now.heads) }
-    ensures count { IfOk result (λ refs. length refs.references ≡ length specs.now.specs) }
+    ensures heads { IfOk result (λ refs. refs.content.heads ≡ map table_head specs.now.heads) }
+    ensures count { IfOk result (λ refs. length refs.content.references ≡ length specs.now.specs) }
     ensures refused { (line code : ℕ) → result ≡ Err (LoadFault.Refused line code)
         → (repeated_after [] specs.now.specs ≡ Some line) × (code ≡ id_taken) }
     ensures no_file { ¬ (IsErrOf result LoadFault.Failed) }
@@ -173,9 +173,10 @@ fn first_free(given: &BTreeSet<u32>, from: u32) -> u32
 ///
 /// Each is one of the references, to which nothing was added.
 fn declare_heads(refs: &mut Refs, heads: &[HeadSpec]) -> Result<(), NoMemory>
-    requires heads { All (IsHeadOf (length refs.old.references)) heads.now }
-    requires none { (r : ℕ) → r < length refs.old.references → HasHadNone refs.old r }
-    ensures ok { OnOk result (refs.new ≡ with_heads heads.now refs.old) }
+    requires heads { All (IsHeadOf (length refs.old.content.references)) heads.now }
+    requires none { (r : ℕ) → r < length refs.old.content.references
+        → HasHadNone refs.old.content r }
+    ensures ok { OnOk result (refs.new.content ≡ with_heads heads.now refs.old.content) }
 {
     let mut rest = heads;
     while let [head, others @ ..] = rest {
@@ -187,8 +188,9 @@ fn declare_heads(refs: &mut Refs, heads: &[HeadSpec]) -> Result<(), NoMemory>
 
 /// Appends the references of these numbers, without entries.
 fn declare_tables(refs: &mut Refs, numbers: &[u32], specs: &[TableSpec]) -> Result<(), NoMemory>
-    requires { HasRoomForAll numbers.now specs.now refs.old }
-    ensures ok { OnOk result (refs.new ≡ with_tables numbers.now specs.now refs.old) }
+    requires { HasRoomForAll numbers.now specs.now refs.old.content }
+    ensures ok { OnOk result
+        (refs.new.content ≡ with_tables numbers.now specs.now refs.old.content) }
 {
     let mut left = numbers;
     let mut rest = specs;
@@ -205,8 +207,8 @@ fn declare_tables(refs: &mut Refs, numbers: &[u32], specs: &[TableSpec]) -> Resu
 
 /// Appends the reference of this number, without entries.
 fn declare_table(refs: &mut Refs, number: u32, spec: &TableSpec) -> Result<(), NoMemory>
-    requires { HasRoomFor number spec.now refs.old }
-    ensures ok { OnOk result (refs.new ≡ with_table number spec.now refs.old) }
+    requires { HasRoomFor number spec.now refs.old.content }
+    ensures ok { OnOk result (refs.new.content ≡ with_table number spec.now refs.old.content) }
 {
     let r = refs.add_ref(number, file_of(spec), spec.two_column, spec.acl)?;
     add_outputs(refs, r, spec)
@@ -226,9 +228,9 @@ fn file_of(spec: &TableSpec) -> Option<&[u8]>
 ///
 /// There are more than `r` references, and nothing was added to this one.
 fn add_outputs(refs: &mut Refs, r: u32, spec: &TableSpec) -> Result<(), NoMemory>
-    requires r { r < length refs.old.references }
-    requires none { HasHadNone refs.old r }
-    ensures ok { OnOk result (refs.new ≡ with_outputs r spec.now refs.old) }
+    requires r { r < length refs.old.content.references }
+    requires none { HasHadNone refs.old.content r }
+    ensures ok { OnOk result (refs.new.content ≡ with_outputs r spec.now refs.old.content) }
 {
     if spec.out_int {
         refs.add_out(r, Out::Int)?;

@@ -11,8 +11,8 @@ returns-in_err-fill_one-clause-filled g c =
     let p = err_from_is_err_and c.from_residual.result c.from_residual.ensures.1 in
     let i = c.loop-rest.invariant in
     let list = first_and_others c.loop-rest.rest.now c.spec-item.result c.in-len1-up.len_at_least c.spec-item.is in
-    rw (p.1, p.2) (fault_filled (g.F.Files.held c.args.files.now) c.args.specs.now.specs c.args.refs.now c.loop-rest.r c.loop-rest.rest.now c.spec-item.result
-    (other_specs c.loop-rest.rest.now) c.loop-rest.refs c.fill_one.new.refs c.in_err-fill_one.field-0.0 i.filling list c.requires.specs.files
+    rw (p.1, p.2) (fault_filled (g.F.Files.held c.args.files.now) c.args.specs.now.specs c.args.refs.now.content c.loop-rest.r c.loop-rest.rest.now c.spec-item.result
+    (other_specs c.loop-rest.rest.now) c.loop-rest.refs.content c.fill_one.new.refs.content c.in_err-fill_one.field-0.0 i.filling list c.requires.specs.files
     (λ line code is. rw i.held at (c.in_err-fill_one.ensures.refused line code (ap Err is))))
 
 pub returns-in_err-fill_one-clause-failed : goal.returns-in_err-fill_one-clause-failed
@@ -23,8 +23,8 @@ returns-in_err-fill_one-clause-failed g c = λ is.
     let same : c.in_err-fill_one.field-0.0 ≡ fault.Failed = cc (p.1, p.2, is) in
     let (rose, named) = c.in_err-fill_one.ensures.failed (ap Err same) in (
       omega (arith, rose, i.later),
-      one_unread (g.F.Files.held c.args.files.now) c.args.specs.now.specs c.args.refs.now c.loop-rest.r c.loop-rest.rest.now c.spec-item.result
-          (other_specs c.loop-rest.rest.now) c.loop-rest.refs (g.F.Files.last c.fill_one.new.files) i.filling list named,
+      one_unread (g.F.Files.held c.args.files.now) c.args.specs.now.specs c.args.refs.now.content c.loop-rest.r c.loop-rest.rest.now c.spec-item.result
+          (other_specs c.loop-rest.rest.now) c.loop-rest.refs.content (g.F.Files.last c.fill_one.new.files) i.filling list named,
     )
 
 pub returns-in_err-fill_one-clause-too_large : goal.returns-in_err-fill_one-clause-too_large
@@ -35,16 +35,16 @@ returns-in_err-fill_one-clause-too_large g c = λ is.
     let same : c.in_err-fill_one.field-0.0 ≡ fault.TooLarge = cc (p.1, p.2, is) in
     let (rose, asked) = c.in_err-fill_one.ensures.too_large (ap Err same) in (
       (rw i.too_large at rose),
-      one_asked (g.F.Files.held c.args.files.now) c.args.specs.now.specs c.args.refs.now c.loop-rest.r c.loop-rest.rest.now c.spec-item.result
-          (other_specs c.loop-rest.rest.now) c.loop-rest.refs (g.M.ReMaker.large c.fill_one.new.maker) i.filling list c.requires.specs.files (rw i.held at asked),
+      one_asked (g.F.Files.held c.args.files.now) c.args.specs.now.specs c.args.refs.now.content c.loop-rest.r c.loop-rest.rest.now c.spec-item.result
+          (other_specs c.loop-rest.rest.now) c.loop-rest.refs.content (g.M.ReMaker.state c.fill_one.new.maker).large i.filling list c.requires.specs.files (rw i.held at asked),
     )
 
 pub returns-in_err-fill_one-clause-named : goal.returns-in_err-fill_one-clause-named
 returns-in_err-fill_one-clause-named g c =
     let i = c.loop-rest.invariant in
     let list = first_and_others c.loop-rest.rest.now c.spec-item.result c.in-len1-up.len_at_least c.spec-item.is in
-    fault_named (g.F.Files.held c.args.files.now) c.args.specs.now.specs c.args.refs.now c.loop-rest.r c.loop-rest.rest.now c.spec-item.result
-    (other_specs c.loop-rest.rest.now) c.loop-rest.refs c.in_err-fill_one.field-0.0 (g.F.Files.last c.args.files.now) (g.F.Files.last c.fill_one.new.files)
+    fault_named (g.F.Files.held c.args.files.now) c.args.specs.now.specs c.args.refs.now.content c.loop-rest.r c.loop-rest.rest.now c.spec-item.result
+    (other_specs c.loop-rest.rest.now) c.loop-rest.refs.content c.in_err-fill_one.field-0.0 (g.F.Files.last c.args.files.now) (g.F.Files.last c.fill_one.new.files)
     i.filling list
     (λ is. (c.in_err-fill_one.ensures.failed (ap Err is)).1)
     (λ never. c.in_err-fill_one.ensures.named (λ is. never (cc (is))) ∙ i.last)
@@ -56,11 +56,11 @@ loop-rest-preserved g c =
     let i = c.loop-rest.invariant in
     let list = first_and_others c.loop-rest.rest.now c.spec-item.result c.in-len1-up.len_at_least c.spec-item.is in
     let one = rw i.held at c.in_ok-fill_one.ensures.filled in
-    let kept = one_keeps (g.F.Files.held c.args.files.now) c.spec-item.result c.loop-rest.r c.loop-rest.refs c.fill_one.new.refs one in
+    let kept = one_keeps (g.F.Files.held c.args.files.now) c.spec-item.result c.loop-rest.r c.loop-rest.refs.content c.fill_one.new.refs.content one in
     let size : length c.loop-rest.rest.now ≡ length (other_specs c.loop-rest.rest.now) + 1 = ap length list ∙ omega arith in
     record {
-      filling = one_more (g.F.Files.held c.args.files.now) c.args.specs.now.specs c.args.refs.now c.loop-rest.r c.loop-rest.rest.now c.spec-item.result
-          (other_specs c.loop-rest.rest.now) c.loop-rest.refs c.fill_one.new.refs i.filling list c.requires.specs.files one;
+      filling = one_more (g.F.Files.held c.args.files.now) c.args.specs.now.specs c.args.refs.now.content c.loop-rest.r c.loop-rest.rest.now c.spec-item.result
+          (other_specs c.loop-rest.rest.now) c.loop-rest.refs.content c.fill_one.new.refs.content i.filling list c.requires.specs.files one;
       place = omega (arith, size, i.place);
       count = kept.0 ∙ i.count;
       heads = kept.1 ∙ i.heads;

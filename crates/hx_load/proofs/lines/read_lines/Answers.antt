@@ -52,7 +52,7 @@ returns-in-Err-TooLarge-clause-too_large g c = λ is.
       large_on_line (pairs_of c.args.env.now) c.args.config.now l.number l.speller
           l.program (lines_left (option_copied l.rest))
           c.first_line.result.0.now (lines_left (option_copied c.first_line.result.1))
-          (g.M.ReMaker.large c.read_line.new.maker) l.invariant.has left reads,
+          (g.M.ReMaker.state c.read_line.new.maker).large l.invariant.has left reads,
     )
 
 pub returns-in-Err-NoMemory-clause-uncounted : goal.returns-in-Err-NoMemory-clause-uncounted

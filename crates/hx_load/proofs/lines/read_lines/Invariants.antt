@@ -11,8 +11,8 @@ invariant-lines g l = record {
       (lines_left (option_copied l.rest));
   counted : l.number + size_left (option_copied l.rest) ≤ length l.config + 1;
   names : NamesOnly l.speller.heads (length l.speller.references) l.program;
-  too_large : g.M.ReMaker.too_large l.maker ≡ g.M.ReMaker.too_large l.fn.maker;
-  large : g.M.ReMaker.large l.maker ≡ g.M.ReMaker.large l.fn.maker;
+  too_large : (g.M.ReMaker.state l.maker).too_large ≡ (g.M.ReMaker.state l.fn.maker).too_large;
+  large : (g.M.ReMaker.state l.maker).large ≡ (g.M.ReMaker.state l.fn.maker).large;
 }
 
 abbrev pub decreases-lines : goal.decreases-lines

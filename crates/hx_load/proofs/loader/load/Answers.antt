@@ -28,7 +28,7 @@ returns-in_err-speller-clause-too_large g c =
     let p = err_from_is_err_and c.from_residual.result c.from_residual.ensures.1 in
     let same : c.in_err-speller.field-0.0 ≡ fault.TooLarge = cc (p.1, p.2, is) in
     let (rose, asks) = c.in_err-speller.ensures.too_large (ap Err same) in
-    (rose, line_asks (g.F.Files.held c.args.files.now) (pairs_of c.args.env.now) c.args.limits c.args.config.now (g.M.ReMaker.large c.read_lines.new.maker) asks)
+    (rose, line_asks (g.F.Files.held c.args.files.now) (pairs_of c.args.env.now) c.args.limits c.args.config.now (g.M.ReMaker.state c.read_lines.new.maker).large asks)
 
 pub returns-in_err-speller-clause-uncounted : goal.returns-in_err-speller-clause-uncounted
 returns-in_err-speller-clause-uncounted g c =
@@ -98,7 +98,7 @@ pub returns-in_err-fill-clause-loads : goal.returns-in_err-fill-clause-loads
 returns-in_err-fill-clause-loads g c =
     let p = err_from_is_err_and c.from_residual-in_err-fill.result c.from_residual-in_err-fill.ensures.1 in
     rw (p.1, p.2) (fill_fault (g.F.Files.held c.args.files.now) (pairs_of c.args.env.now) c.args.limits c.args.config.now
-    c.in_ok-speller.field-0.speller c.in_ok-speller.field-0.program c.tables-specs.result c.in_ok-refs.refs c.fill.new.refs c.in_err-fill.field-0.0
+    c.in_ok-speller.field-0.speller c.in_ok-speller.field-0.program c.tables-specs.result c.in_ok-refs.refs.content c.fill.new.refs.content c.in_err-fill.field-0.0
     (record {
       brings = record { lines = c.in_ok-speller.ensures.accepted; specs_are = c.tables-specs.ensures.specs };
       once = c.in_ok-refs.ensures.once;
@@ -114,7 +114,7 @@ returns-in_err-fill-clause-failed g c =
     let (rose, reads) = c.in_err-fill.ensures.failed (ap Err same) in (
       rose,
       fill_reads (g.F.Files.held c.args.files.now) (pairs_of c.args.env.now) c.args.limits c.args.config.now
-          c.in_ok-speller.field-0.speller c.in_ok-speller.field-0.program c.tables-specs.result c.in_ok-refs.refs (g.F.Files.last c.fill.new.files)
+          c.in_ok-speller.field-0.speller c.in_ok-speller.field-0.program c.tables-specs.result c.in_ok-refs.refs.content (g.F.Files.last c.fill.new.files)
           (record {
             brings = record { lines = c.in_ok-speller.ensures.accepted; specs_are = c.tables-specs.ensures.specs };
             once = c.in_ok-refs.ensures.once;
@@ -132,7 +132,7 @@ returns-in_err-fill-clause-too_large g c =
     let (rose, asks) = c.in_err-fill.ensures.too_large (ap Err same) in (
       rw count at rose,
       fill_asks (g.F.Files.held c.args.files.now) (pairs_of c.args.env.now) c.args.limits c.args.config.now
-          c.in_ok-speller.field-0.speller c.in_ok-speller.field-0.program c.tables-specs.result c.in_ok-refs.refs (g.M.ReMaker.large c.fill.new.maker)
+          c.in_ok-speller.field-0.speller c.in_ok-speller.field-0.program c.tables-specs.result c.in_ok-refs.refs.content (g.M.ReMaker.state c.fill.new.maker).large
           (record {
             brings = record { lines = c.in_ok-speller.ensures.accepted; specs_are = c.tables-specs.ensures.specs };
             once = c.in_ok-refs.ensures.once;
@@ -156,7 +156,7 @@ returns-in_err-fill-clause-named g c =
     elim c.in_err-fill.ensures.named [
       | inl same ↦ inl same
       | inr reads ↦ inr (fill_reads (g.F.Files.held c.args.files.now) (pairs_of c.args.env.now) c.args.limits c.args.config.now
-          c.in_ok-speller.field-0.speller c.in_ok-speller.field-0.program c.tables-specs.result c.in_ok-refs.refs (g.F.Files.last c.fill.new.files)
+          c.in_ok-speller.field-0.speller c.in_ok-speller.field-0.program c.tables-specs.result c.in_ok-refs.refs.content (g.F.Files.last c.fill.new.files)
           (record {
             brings = record { lines = c.in_ok-speller.ensures.accepted; specs_are = c.tables-specs.ensures.specs };
             once = c.in_ok-refs.ensures.once;
@@ -170,7 +170,7 @@ returns-in_err-fill-clause-named g c =
 pub returns-clause-loads : goal.returns-clause-loads
 returns-clause-loads g c =
     fill_whole (g.F.Files.held c.args.files.now) (pairs_of c.args.env.now) c.args.limits c.args.config.now
-    c.in_ok-speller.field-0.speller c.in_ok-speller.field-0.program c.tables-specs.result c.in_ok-refs.refs c.fill.new.refs
+    c.in_ok-speller.field-0.speller c.in_ok-speller.field-0.program c.tables-specs.result c.in_ok-refs.refs.content c.fill.new.refs
     (record {
       brings = record { lines = c.in_ok-speller.ensures.accepted; specs_are = c.tables-specs.ensures.specs };
       once = c.in_ok-refs.ensures.once;
@@ -190,7 +190,7 @@ returns-clause-named g c =
     elim c.in_ok-fill.ensures.named [
       | inl same ↦ inl same
       | inr reads ↦ inr (fill_reads (g.F.Files.held c.args.files.now) (pairs_of c.args.env.now) c.args.limits c.args.config.now
-          c.in_ok-speller.field-0.speller c.in_ok-speller.field-0.program c.tables-specs.result c.in_ok-refs.refs (g.F.Files.last c.fill.new.files)
+          c.in_ok-speller.field-0.speller c.in_ok-speller.field-0.program c.tables-specs.result c.in_ok-refs.refs.content (g.F.Files.last c.fill.new.files)
           (record {
             brings = record { lines = c.in_ok-speller.ensures.accepted; specs_are = c.tables-specs.ensures.specs };
             once = c.in_ok-refs.ensures.once;
@@ -201,13 +201,13 @@ returns-clause-named g c =
 
 pub returns-clause-heads : goal.returns-clause-heads
 returns-clause-heads g c =
-    has_heads (map table_head c.in_ok-speller.field-0.speller.heads) c.in_ok-speller.field-0.program c.fill.new.refs
+    has_heads (map table_head c.in_ok-speller.field-0.speller.heads) c.in_ok-speller.field-0.program c.fill.new.refs.content
     c.in_ok-speller.ensures.names.of_heads
     (c.in_ok-fill.ensures.heads ∙ c.in_ok-refs.ensures.heads
     ∙ ap (λ (s : ReferenceSpecs). map table_head s.heads) c.tables-specs.ensures.specs)
 
 pub returns-clause-lists : goal.returns-clause-lists
 returns-clause-lists g c =
-    has_lists c.in_ok-speller.field-0.speller c.in_ok-speller.field-0.program c.tables-specs.result c.fill.new.refs
+    has_lists c.in_ok-speller.field-0.speller c.in_ok-speller.field-0.program c.tables-specs.result c.fill.new.refs.content
     c.in_ok-speller.ensures.names.of_lists c.tables-specs.ensures.specs
     (c.in_ok-fill.ensures.references ∙ c.in_ok-refs.ensures.count)

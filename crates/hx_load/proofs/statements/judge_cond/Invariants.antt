@@ -8,6 +8,6 @@ abbrev pub invariant-loop-conj : goal.invariant-loop-conj
 invariant-loop-conj g l = record {
   patterns : cond_passes has_patterns (drop l.conj-index l.cond) ≡ cond_passes has_patterns l.cond;
   allowed : IsCond (drop l.conj-index l.cond);
-  count : g.M.ReMaker.too_large l.maker ≡ g.M.ReMaker.too_large l.fn.maker;
-  last : g.M.ReMaker.large l.maker ≡ g.M.ReMaker.large l.fn.maker;
+  count : (g.M.ReMaker.state l.maker).too_large ≡ (g.M.ReMaker.state l.fn.maker).too_large;
+  last : (g.M.ReMaker.state l.maker).large ≡ (g.M.ReMaker.state l.fn.maker).large;
 }

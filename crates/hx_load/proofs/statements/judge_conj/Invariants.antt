@@ -12,6 +12,6 @@ invariant-loop-term g l = record {
   patterns : list_all (λ term. use_passes has_patterns term.acl) (drop l.term-index l.conj)
       ≡ list_all (λ term. use_passes has_patterns term.acl) l.conj;
   allowed : All (λ term. IsAclUse term.acl) (drop l.term-index l.conj);
-  count : g.M.ReMaker.too_large l.maker ≡ g.M.ReMaker.too_large l.fn.maker;
-  last : g.M.ReMaker.large l.maker ≡ g.M.ReMaker.large l.fn.maker;
+  count : (g.M.ReMaker.state l.maker).too_large ≡ (g.M.ReMaker.state l.fn.maker).too_large;
+  last : (g.M.ReMaker.state l.maker).large ≡ (g.M.ReMaker.state l.fn.maker).large;
 }

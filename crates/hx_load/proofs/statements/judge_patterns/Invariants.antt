@@ -10,6 +10,6 @@ abbrev pub invariant-loop-word : goal.invariant-loop-word
 invariant-loop-word g l = record {
   patterns : list_all (λ word. is_none (text_fault l.decl.by l.decl.ci word)) (drop l.word-index l.decl.words)
       ≡ has_patterns l.decl;
-  count : g.M.ReMaker.too_large l.maker ≡ g.M.ReMaker.too_large l.fn.maker;
-  last : g.M.ReMaker.large l.maker ≡ g.M.ReMaker.large l.fn.maker;
+  count : (g.M.ReMaker.state l.maker).too_large ≡ (g.M.ReMaker.state l.fn.maker).too_large;
+  last : (g.M.ReMaker.state l.maker).large ≡ (g.M.ReMaker.state l.fn.maker).large;
 }

@@ -7,9 +7,9 @@ use Rattle.hx_load.proofs.tables.declare_heads.Given as goal
 
 abbrev pub invariant-loop-rest : goal.invariant-loop-rest
 invariant-loop-rest l = record {
-  heads : All (IsHeadOf (length l.refs.references)) l.rest;
-  none : (r : ℕ) → r < length l.refs.references → HasHadNone l.refs r;
-  declared : with_heads l.rest l.refs ≡ with_heads l.heads l.fn.refs;
+  heads : All (IsHeadOf (length l.refs.content.references)) l.rest;
+  none : (r : ℕ) → r < length l.refs.content.references → HasHadNone l.refs.content r;
+  declared : with_heads l.rest l.refs.content ≡ with_heads l.heads l.fn.refs.content;
 }
 
 abbrev pub decreases-loop-rest : goal.decreases-loop-rest

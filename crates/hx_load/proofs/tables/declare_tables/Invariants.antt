@@ -5,8 +5,8 @@ use Rattle.hx_load.proofs.tables.declare_tables.Given as goal
 
 abbrev pub invariant-loop-rest : goal.invariant-loop-rest
 invariant-loop-rest l = record {
-  room : HasRoomForAll l.left l.rest l.refs;
-  declared : with_tables l.left l.rest l.refs ≡ with_tables l.numbers l.specs l.fn.refs;
+  room : HasRoomForAll l.left l.rest l.refs.content;
+  declared : with_tables l.left l.rest l.refs.content ≡ with_tables l.numbers l.specs l.fn.refs.content;
 }
 
 abbrev pub decreases-loop-rest : goal.decreases-loop-rest
