@@ -1,20 +1,26 @@
 -- What the parts of a step do.
 use Rattle.std.specs.Prelude.{◌≡◌, List, ℕ, None, Some, Result, Ok, Err}
 use Rattle.hx_record.specs.declared.Event.{Event}
+use Rattle.hx_refs.specs.declared.Slots.{Slots}
 use Rattle.hx_core.specs.Steps.{answer_of, refusal_of, world_after}
 use Rattle.hx_core.specs.World.{World}
 use Rattle.hx_core.specs.declared.fault.StepFault.{StepFault}
 use Rattle.hx_core.specs.declared.fault.StepFault.TheVariants.{UnknownConn, ConnOpen, TooLarge, NoMemory}
 
+-- a world, and the slots of memory in which its references are kept
+pub record WorldState : Type 0 where
+  pub world : World
+  pub slots : Slots
+
 -- The world goes on, and the event is answered. One that may not stand where it stands changes
 -- nothing. Where memory runs out, or an expression is too large, it may stand there.
-abbrev pub DoesStep : (before after : World) → Event → Result (List ℕ) StepFault → Type 0
+abbrev pub DoesStep : (before after : WorldState) → Event → Result (List ℕ) StepFault → Type 0
 DoesStep before after event (Ok text) =
-    (refusal_of before event ≡ None) × (after ≡ world_after before event)
-    × (text ≡ answer_of before event)
+    (refusal_of before.world event ≡ None) × (after.world ≡ world_after before.world event)
+    × (text ≡ answer_of before.world event)
 DoesStep before after event (Err UnknownConn) =
-    (refusal_of before event ≡ Some UnknownConn) × (after ≡ before)
+    (refusal_of before.world event ≡ Some UnknownConn) × (after ≡ before)
 DoesStep before after event (Err ConnOpen) =
-    (refusal_of before event ≡ Some ConnOpen) × (after ≡ before)
-DoesStep before after event (Err TooLarge) = refusal_of before event ≡ None
-DoesStep before after event (Err NoMemory) = refusal_of before event ≡ None
+    (refusal_of before.world event ≡ Some ConnOpen) × (after ≡ before)
+DoesStep before after event (Err TooLarge) = refusal_of before.world event ≡ None
+DoesStep before after event (Err NoMemory) = refusal_of before.world event ≡ None

@@ -1,5 +1,5 @@
 -- One event of a record: whether it may stand where it stands, its answer, and the world after it.
-use Rattle.std.specs.Prelude.{◌≡◌, ⊤, ℕ, ◌+◌, ◌-◌, ◌^◌, min, Bool, List, [], ◌++◌, codes, Option, None, Some, Result, Err, if◌then◌else◌}
+use Rattle.std.specs.Prelude.{◌≡◌, ⊤, ℕ, ◌+◌, ◌-◌, ◌^◌, min, Bool, true, false, List, [], ◌++◌, codes, Option, None, Some, Result, Err, if◌then◌else◌}
 use Rattle.std.specs.FinMap as map
 use Rattle.std.specs.Fmt.{decimal}
 use Rattle.std.specs.Option.{option_map_or}
@@ -7,8 +7,7 @@ use Rattle.hx_cli.specs.Payloads.{line_effect, LineAsksFor}
 use Rattle.hx_fetch.specs.declared.Conn.{Conn as Connection}
 use Rattle.hx_http.specs.Head.{Head, head_of, many, message, none}
 use Rattle.hx_http.specs.Parts.{Parts}
-use Rattle.hx_outside.specs.Count.{Rose}
-use Rattle.hx_outside.specs.Makers.{ExpressionText, LastIsAsked, MakerState}
+use Rattle.hx_outside.specs.Makers.{CountsLarge, ExpressionText, MakerState}
 use Rattle.hx_record.specs.declared.Event.{Event}
 use Rattle.hx_record.specs.declared.Event.TheVariants.{Conn, Req, Close, Cli}
 use Rattle.hx_refs.specs.References.{References}
@@ -106,6 +105,13 @@ EventAsksFor world (Close id) text = ⊥
 EventAsksFor world (Cli session line) text =
     LineAsksFor session line world.payloads world.refs text
 
+-- the event opens a connection, or closes one
+abbrev pub OpensOrCloses : Event → Type 0
+OpensOrCloses (Conn id src src_port dst dst_port) = ⊤
+OpensOrCloses (Req id bytes) = ⊥
+OpensOrCloses (Close id) = ⊤
+OpensOrCloses (Cli session text) = ⊥
+
 -- ---- faults
 
 -- the fault tells that the event may not stand where it stands
@@ -114,12 +120,8 @@ IsRefusal UnknownConn = ⊤
 IsRefusal ConnOpen = ⊤
 IsRefusal _ = ⊥
 
--- What a maker of regular expressions knows before and after a step. With `TooLarge` its count of
--- texts that were too large rose, and the last of them is one that was asked for. With any other
--- answer both stay.
+-- what a maker of regular expressions knows before and after a step that asks for such texts
 abbrev pub StepCountsLarge : {T : Type 0} → Result T StepFault → (ExpressionText → Type 0)
     → MakerState → MakerState → Type 0
-StepCountsLarge (Err TooLarge) Asked before now =
-    Rose before.too_large now.too_large × LastIsAsked Asked now
-StepCountsLarge _ Asked before now =
-    (now.too_large ≡ before.too_large) × (now.large ≡ before.large)
+StepCountsLarge (Err TooLarge) Asked before now = CountsLarge true Asked before now
+StepCountsLarge _ Asked before now = CountsLarge false Asked before now

@@ -6,6 +6,7 @@ use Rattle.hx_cli.specs.Payloads.{OpenPayloads}
 use Rattle.hx_fetch.specs.declared.Conn.{Conn}
 use Rattle.hx_refs.specs.References.{References, searched_lists}
 use Rattle.hx_refs.specs.TableChanges.{after_table_change}
+use Rattle.hx_refs.specs.declared.Slots.{Slots}
 use Rattle.hx_rules.specs.Programs.{Rules}
 use Rattle.hx_rules.specs.State.{TableView}
 use Rattle.hx_rules.specs.Tables.{HasHeads, HasLists}
@@ -44,11 +45,13 @@ pub record FitRules (refs : References) (rules : Rules) : Type 0 where
   pub heads : HasHeads refs.heads rules
   pub lists : HasLists (length (searched_lists refs)) rules
 
--- an engine: its world, and the fault with which it stopped, if it did
+-- an engine: its world, the slots of memory in which its references are kept, and the fault with
+-- which it stopped, if it did
 pub record EngineParts : Type 0 where
   pub world : World
+  pub slots : Slots
   pub stopped : Option StepFault
 
 -- an engine that goes on in a world
-abbrev pub running : World → EngineParts
-running world = record { world = world; stopped = None }
+abbrev pub running : World → Slots → EngineParts
+running world slots = record { world = world; slots = slots; stopped = None }

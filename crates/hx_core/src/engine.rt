@@ -1,5 +1,6 @@
 ghost use Rattle.std.specs.Prelude.{◌≡◌, [], None, Some, IfErr, IfOk, IfSome, OnOk};
-ghost use Rattle.hx_core.specs.Steps.{answer_of, EventAsksFor, IsRefusal, refusal_of, StepCountsLarge, world_after};
+ghost use Rattle.hx_refs.specs.References.{after_tidying};
+ghost use Rattle.hx_core.specs.Steps.{answer_of, EventAsksFor, IsRefusal, OpensOrCloses, refusal_of, StepCountsLarge, world_after};
 ghost use Rattle.hx_core.specs.World.{first_world, FitRules, running};
 
 use crate::answer::Answer;
@@ -14,8 +15,8 @@ use std::marker::Model;
 use std::mem;
 
 /// A configuration under way: its rules and references, the connections that are open, the
-/// variables, and the sessions of the management socket. Contracts see its world, and the fault
-/// with which it stopped, if it did.
+/// variables, and the sessions of the management socket. Contracts see its world, the slots of
+/// memory in which its references are kept, and the fault with which it stopped, if it did.
 #[derive(Drop)]
 pub struct Engine {
     alloc: Global,
@@ -27,14 +28,25 @@ pub struct Engine {
 
 impl Model for Engine {
     ghost use Rattle.std.specs.Coded.{codes};
+    ghost use Rattle.hx_cli.specs.contracts.Sessions as sessions_contracts;
+    ghost use Rattle.hx_sample.specs.contracts.Vars as vars_contracts;
     ghost use Rattle.hx_core.specs.World.{EngineParts};
-    ghost use Rattle.hx_core.specs.contracts.world.KeptWorld as world_contracts;
+    ghost use Rattle.hx_core.specs.contracts.connections.Connections as connections_contracts;
 
     ghost Value = { EngineParts };
 
-    ghost coded = { Prim.hlevel (codes, world_contracts.the_row.coded) };
+    ghost coded = { Prim.hlevel (
+      codes,
+      connections_contracts.the_row.coded,
+      vars_contracts.the_row.coded,
+      sessions_contracts.the_row.coded,
+    ) };
 
-    ghost view = { λ engine. record { world = engine.world; stopped = engine.stopped } };
+    ghost view = { λ engine. record {
+      world = engine.world.world;
+      slots = engine.world.slots;
+      stopped = engine.stopped;
+    } };
 }
 
 impl Engine {
@@ -43,8 +55,8 @@ impl Engine {
     ///
     /// The references have the heads and the lists that the rules name.
     pub fn new(alloc: Global, program: Program, refs: Refs) -> Engine
-        requires { FitRules refs program }
-        ensures { result ≡ running (first_world program refs) }
+        requires { FitRules refs.content program }
+        ensures { result ≡ running (first_world program refs.content) refs.slots }
     {
         Engine {
             alloc,
@@ -56,7 +68,8 @@ impl Engine {
 
     /// The references, as the events so far have changed them.
     pub fn refs(&self) -> &Refs
-        ensures { result.now ≡ self.now.world.refs }
+        ensures content { result.now.content ≡ self.now.world.refs }
+        ensures slots { result.now.slots ≡ self.now.slots }
     {
         self.world.refs()
     }
@@ -71,7 +84,9 @@ impl Engine {
     /// Goes on to the world after an event, and gives its answer: the lines of a request, those of
     /// the reply to a line of the management socket, and nothing for a connection that opens or
     /// closes. The variables of a request end with it, and those of a session with its connection.
-    /// Regular expressions that rules and commands add to lists are made by `maker`.
+    /// Regular expressions that rules and commands add to lists are made by `maker`. After an event
+    /// up to 64 slots of memory that no version needs any more are given back: exactly so many,
+    /// where so many wait, after one that opens or closes a connection.
     ///
     /// `UnknownConn` exactly where a request or an end names a connection that isn't open, and
     /// `ConnOpen` exactly where one opens that is open; nothing is changed then. `TooLarge` only
@@ -80,7 +95,10 @@ impl Engine {
     /// stopped: it answers that fault from then on, and changes no more.
     pub fn step<M: ReMaker>(&mut self, event: &Event, maker: &mut M) -> Result<Answer, StepFault>
         ensures answer { IfOk result (λ answer. answer ≡ answer_of self.old.world event.now) }
-        ensures world { OnOk result (self.new ≡ running (world_after self.old.world event.now)) }
+        ensures world { OnOk result ((self.new.world ≡ world_after self.old.world event.now)
+            × (self.new.stopped ≡ None)) }
+        ensures slots { OnOk result (OpensOrCloses event.now
+            → self.new.slots ≡ after_tidying 64 self.old.slots) }
         ensures allowed { OnOk result
             ((self.old.stopped ≡ None) × (refusal_of self.old.world event.now ≡ None)) }
         ensures refused { self.old.stopped ≡ None → IfErr result (λ fault. IsRefusal fault
@@ -89,8 +107,7 @@ impl Engine {
             → (refusal_of self.old.world event.now ≡ None) × (self.new.stopped ≡ Some fault)) }
         ensures large { self.old.stopped ≡ None
             → StepCountsLarge result (EventAsksFor self.old.world event.now)
-            (record { too_large = M.too_large maker.old; large = M.large maker.old })
-            (record { too_large = M.too_large maker.new; large = M.large maker.new }) }
+            (M.state maker.old) (M.state maker.new) }
         ensures stopped { IfSome self.old.stopped (λ fault. (result ≡ Err fault)
             × (self.new ≡ self.old) × (maker.new ≡ maker.old)) }
     {

@@ -31,26 +31,26 @@ pub(crate) fn evaluated<M: ReMaker, L: Ledger>(
     requires name { blank.name ≡ L.name }
     requires parts { blank.parts ≡ L.parts }
     requires some { 0 < L.parts }
-    requires fit { FitRules refs.old rules.now }
+    requires fit { FitRules refs.old.content rules.now }
     ensures verdict { IfOk result (λ verdict. verdict
         ≡ (evaluation refs_view conn.now rules.now
-        (start message.old vars.old refs.old)).verdict) }
+        (start message.old vars.old refs.old.content)).verdict) }
     ensures message { OnOk result (message.new
         ≡ (evaluation refs_view conn.now rules.now
-        (start message.old vars.old refs.old)).state.message) }
+        (start message.old vars.old refs.old.content)).state.message) }
     ensures vars { OnOk result (vars.new
         ≡ (evaluation refs_view conn.now rules.now
-        (start message.old vars.old refs.old)).state.vars) }
-    ensures refs { OnOk result (refs.new
+        (start message.old vars.old refs.old.content)).state.vars) }
+    ensures refs { OnOk result (refs.new.content
         ≡ (evaluation refs_view conn.now rules.now
-        (start message.old vars.old refs.old)).state.tables) }
+        (start message.old vars.old refs.old.content)).state.tables) }
     ensures kind { IfErr result (λ fault. ¬ (IsRefusal fault)) }
-    ensures heads { refs.new.heads ≡ refs.old.heads }
-    ensures lists { length (searched_lists refs.new) ≡ length (searched_lists refs.old) }
+    ensures heads { refs.new.content.heads ≡ refs.old.content.heads }
+    ensures lists { length (searched_lists refs.new.content) ≡ length
+        (searched_lists refs.old.content) }
     ensures large { StepCountsLarge result (RulesAskFor refs_view conn.now rules.now
-        (start message.old vars.old refs.old))
-        (record { too_large = M.too_large maker.old; large = M.large maker.old })
-        (record { too_large = M.too_large maker.new; large = M.large maker.new }) }
+        (start message.old vars.old refs.old.content))
+        (M.state maker.old) (M.state maker.new) }
 {
     let mut steps = Steps::<L>::open(blank);
     let verdict = evaluate(alloc, rules, message, conn, vars, refs, maker, &mut steps)?;

@@ -33,9 +33,9 @@ impl KeptWorld {
     ) -> Result<Answer, StepFault>
         requires { room.items ≡ [] }
         ensures steps { DoesStep self.old self.new (Event.Req id bytes.now) result }
-        ensures large { StepCountsLarge result (EventAsksFor self.old (Event.Req id bytes.now))
-            (record { too_large = M.too_large maker.old; large = M.large maker.old })
-            (record { too_large = M.too_large maker.new; large = M.large maker.new }) }
+        ensures large { StepCountsLarge result
+            (EventAsksFor self.old.world (Event.Req id bytes.now))
+            (M.state maker.old) (M.state maker.new) }
     {
         let Some(conn) = self.connections.get(id) else {
             return Err(StepFault::UnknownConn);
@@ -54,14 +54,13 @@ impl KeptWorld {
     ) -> Result<Answer, StepFault>
         requires { room.items ≡ [] }
         ensures world { OnOk result
-            (self.new ≡ after_head self.old conn.now (head_of bytes.now)) }
+            (self.new.world ≡ after_head self.old.world conn.now (head_of bytes.now)) }
         ensures text { IfOk result (λ text. text
-            ≡ head_answer self.old conn.now (head_of bytes.now)) }
+            ≡ head_answer self.old.world conn.now (head_of bytes.now)) }
         ensures kind { IfErr result (λ fault. ¬ (IsRefusal fault)) }
         ensures large { StepCountsLarge result
-            (HeadAsksFor self.old conn.now (head_of bytes.now))
-            (record { too_large = M.too_large maker.old; large = M.large maker.old })
-            (record { too_large = M.too_large maker.new; large = M.large maker.new }) }
+            (HeadAsksFor self.old.world conn.now (head_of bytes.now))
+            (M.state maker.old) (M.state maker.new) }
     {
         match read_head(self.alloc, bytes) {
             Ok((read, _)) => self.answer_head(conn, &read, room, maker),
@@ -74,9 +73,9 @@ impl KeptWorld {
     /// Answers a request whose bytes begin with no head; the rules aren't asked.
     fn answer_bad(&mut self, mut room: Vec<u8>) -> Result<Answer, NoMemory>
         requires { room.items ≡ [] }
-        ensures world { OnOk result (self.new ≡ after_number self.old) }
+        ensures world { OnOk result (self.new.world ≡ after_number self.old.world) }
         ensures text { IfOk result (λ text. text
-            ≡ decimal (next_number self.old.requests) ++ codes " bad 400\n") }
+            ≡ decimal (next_number self.old.world.requests) ++ codes " bad 400\n") }
     {
         self.requests = self.requests.saturating_add(1);
         append_bad(&mut room, self.requests)?;
@@ -92,19 +91,18 @@ impl KeptWorld {
         maker: &mut M,
     ) -> Result<Answer, StepFault>
         requires { room.items ≡ [] }
-        ensures world { OnOk result (self.new ≡ record (after_number self.old) {
-          vars = after_request (request_evaluation self.old conn.now read.now).state.vars;
-          refs = (request_evaluation self.old conn.now read.now).state.tables;
+        ensures world { OnOk result (self.new.world ≡ record (after_number self.old.world) {
+          vars = after_request (request_evaluation self.old.world conn.now read.now).state.vars;
+          refs = (request_evaluation self.old.world conn.now read.now).state.tables;
         }) }
         ensures text { IfOk result (λ text. text
-            ≡ decimal (next_number self.old.requests)
-            ++ verdict_text (request_evaluation self.old conn.now read.now).verdict read.now
-            (request_evaluation self.old conn.now read.now).state.message) }
+            ≡ decimal (next_number self.old.world.requests)
+            ++ verdict_text (request_evaluation self.old.world conn.now read.now).verdict read.now
+            (request_evaluation self.old.world conn.now read.now).state.message) }
         ensures kind { IfErr result (λ fault. ¬ (IsRefusal fault)) }
-        ensures large { StepCountsLarge result (RulesAskFor refs_view conn.now self.old.rules
-            (start read.now self.old.vars self.old.refs))
-            (record { too_large = M.too_large maker.old; large = M.large maker.old })
-            (record { too_large = M.too_large maker.new; large = M.large maker.new }) }
+        ensures large { StepCountsLarge result (RulesAskFor refs_view conn.now self.old.world.rules
+            (start read.now self.old.world.vars self.old.world.refs))
+            (M.state maker.old) (M.state maker.new) }
     {
         let mut made = read.copy()?;
         let rules = &self.rules;

@@ -1,6 +1,7 @@
-ghost use Rattle.std.specs.Prelude.{◌≡◌, [], IsErrOf};
+ghost use Rattle.std.specs.Prelude.{◌≡◌, [], IsErrOf, OnOk};
 ghost use Rattle.hx_core.specs.StepView.{DoesStep};
-ghost use Rattle.hx_core.specs.Steps.{EventAsksFor, StepCountsLarge};
+ghost use Rattle.hx_core.specs.Steps.{EventAsksFor, OpensOrCloses, StepCountsLarge};
+ghost use Rattle.hx_refs.specs.References.{after_tidying};
 ghost use Rattle.hx_core.specs.World.{first_world, FitRules};
 
 use crate::answer::Answer;
@@ -20,7 +21,8 @@ use std::marker::Model;
 /// How many slots of memory of versions that were dropped are given back after an event.
 const TIDY: usize = 64;
 
-/// What is known between two events. Contracts see it as a world, whose references fit its rules.
+/// What is known between two events. Contracts see it as a world, whose references fit its rules,
+/// and the slots of memory in which these are kept.
 #[derive(Drop)]
 pub(crate) struct KeptWorld {
     pub(crate) alloc: Global,
@@ -36,10 +38,11 @@ impl Model for KeptWorld {
     ghost use Rattle.std.specs.Coded.{codes};
     ghost use Rattle.hx_cli.specs.contracts.Sessions as sessions_contracts;
     ghost use Rattle.hx_sample.specs.contracts.Vars as vars_contracts;
-    ghost use Rattle.hx_core.specs.World.{FitRules, World};
+    ghost use Rattle.hx_core.specs.StepView.{WorldState};
+    ghost use Rattle.hx_core.specs.World.{FitRules};
     ghost use Rattle.hx_core.specs.contracts.connections.Connections as connections_contracts;
 
-    ghost Value = { World };
+    ghost Value = { WorldState };
 
     ghost coded = { Prim.hlevel (
       codes,
@@ -49,22 +52,26 @@ impl Model for KeptWorld {
     ) };
 
     ghost view = { λ kept. record {
-      rules = kept.rules;
-      connections = kept.connections;
-      requests = kept.requests;
-      vars = kept.vars;
-      refs = kept.refs;
-      payloads = kept.sessions;
+      world = record {
+        rules = kept.rules;
+        connections = kept.connections;
+        requests = kept.requests;
+        vars = kept.vars;
+        refs = kept.refs.content;
+        payloads = kept.sessions;
+      };
+      slots = kept.refs.slots;
     } };
 
-    ghost invariant = { λ kept. FitRules kept.refs kept.rules };
+    ghost invariant = { λ kept. FitRules kept.refs.content kept.rules };
 }
 
 impl KeptWorld {
     /// Before the first event.
     pub(crate) fn new(alloc: Global, rules: Program, refs: Refs) -> KeptWorld
-        requires { FitRules refs rules }
-        ensures { result ≡ first_world rules refs }
+        requires { FitRules refs.content rules }
+        ensures { result
+            ≡ record { world = first_world rules refs.content; slots = refs.slots } }
     {
         KeptWorld {
             alloc,
@@ -79,14 +86,16 @@ impl KeptWorld {
 
     /// The references.
     pub(crate) fn refs(&self) -> &Refs
-        ensures { result.now ≡ self.now.refs }
+        ensures { result.now
+            ≡ record { content = self.now.world.refs; slots = self.now.slots } }
     {
         &self.refs
     }
 
     /// Gives memory back that no version of a reference needs any more.
     pub(crate) fn tidy(&mut self)
-        ensures { self.new ≡ self.old }
+        ensures world { self.new.world ≡ self.old.world }
+        ensures slots { self.new.slots ≡ after_tidying 64 self.old.slots }
     {
         self.refs.tidy(TIDY);
     }
@@ -100,9 +109,10 @@ impl KeptWorld {
     ) -> Result<Answer, StepFault>
         requires { room.items ≡ [] }
         ensures steps { DoesStep self.old self.new event.now result }
-        ensures large { StepCountsLarge result (EventAsksFor self.old event.now)
-            (record { too_large = M.too_large maker.old; large = M.large maker.old })
-            (record { too_large = M.too_large maker.new; large = M.large maker.new }) }
+        ensures slots { OnOk result
+            (OpensOrCloses event.now → self.new.slots ≡ self.old.slots) }
+        ensures large { StepCountsLarge result (EventAsksFor self.old.world event.now)
+            (M.state maker.old) (M.state maker.new) }
     {
         match event {
             Event::Conn {
@@ -132,6 +142,7 @@ impl KeptWorld {
         requires { room.items ≡ [] }
         ensures steps { DoesStep self.old self.new
             (Event.Conn conn.id conn.src conn.src_port conn.dst conn.dst_port) result }
+        ensures slots { OnOk result (self.new.slots ≡ self.old.slots) }
         ensures kind { ¬ (IsErrOf result StepFault.TooLarge) }
     {
         if self.connections.is_open(conn.id) {
@@ -145,6 +156,7 @@ impl KeptWorld {
     fn close(&mut self, id: u32, room: Vec<u8>) -> Result<Answer, StepFault>
         requires { room.items ≡ [] }
         ensures steps { DoesStep self.old self.new (Event.Close id) result }
+        ensures slots { OnOk result (self.new.slots ≡ self.old.slots) }
         ensures kind { ¬ (IsErrOf result StepFault.TooLarge) }
     {
         if !self.connections.is_open(id) {
@@ -166,9 +178,8 @@ impl KeptWorld {
         requires { room.items ≡ [] }
         ensures steps { DoesStep self.old self.new (Event.Cli session text.now) result }
         ensures large { StepCountsLarge result
-            (EventAsksFor self.old (Event.Cli session text.now))
-            (record { too_large = M.too_large maker.old; large = M.large maker.old })
-            (record { too_large = M.too_large maker.new; large = M.large maker.new }) }
+            (EventAsksFor self.old.world (Event.Cli session text.now))
+            (M.state maker.old) (M.state maker.new) }
     {
         let refs = &mut self.refs;
         let reply = self.sessions.line(session, text, refs, maker)?;

@@ -4,10 +4,10 @@ use Rattle.hx_core.proofs.world.KeptWorld.step.Goals as goal
 
 pub returns-in-Conn-clause-large : goal.returns-in-Conn-clause-large
 returns-in-Conn-clause-large g c =
-    unasked_counts c.open.result (EventAsksFor c.args.self.now c.args.event.now)
-    (record { too_large = g.M.ReMaker.too_large c.args.maker.now; large = g.M.ReMaker.large c.args.maker.now }) c.open.ensures.kind
+    unasked_counts c.open.result (EventAsksFor c.args.self.now.world c.args.event.now)
+    (g.M.ReMaker.state c.args.maker.now) c.open.ensures.kind
 
 pub returns-in-Close-clause-large : goal.returns-in-Close-clause-large
 returns-in-Close-clause-large g c =
-    unasked_counts c.close.result (EventAsksFor c.args.self.now c.args.event.now)
-    (record { too_large = g.M.ReMaker.too_large c.args.maker.now; large = g.M.ReMaker.large c.args.maker.now }) c.close.ensures.kind
+    unasked_counts c.close.result (EventAsksFor c.args.self.now.world c.args.event.now)
+    (g.M.ReMaker.state c.args.maker.now) c.close.ensures.kind
