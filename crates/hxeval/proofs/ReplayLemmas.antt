@@ -8,7 +8,7 @@ use Rattle.hx_outside.specs.Log.{Log}
 use Rattle.hx_outside.specs.declared.SinkFault.{SinkFault}
 use Rattle.hx_outside.specs.declared.SinkFault.TheVariants as sink
 use Rattle.hx_core.specs.Steps.{answer_of, EventAsksFor, IsRefusal, refusal_of, world_after}
-use Rattle.hx_core.specs.World.{first_world, World}
+use Rattle.hx_core.specs.World.{World}
 use Rattle.hx_core.specs.declared.fault.StepFault.{StepFault}
 use Rattle.hx_core.specs.declared.fault.StepFault.TheVariants as step
 use Rattle.hx_outside.specs.Makers.{ExpressionText, LastIsAsked}
@@ -23,7 +23,7 @@ use Rattle.hx_record.specs.declared.RecordFault.{RecordFault}
 use Rattle.hx_record.specs.declared.RecordFault.TheVariants as reader
 use Rattle.hxeval.specs.Gathering.{Replays, Passes, AnswersEvent, GathersAnswer, IsFailure}
 use Rattle.hxeval.specs.Outcome.{Outcome, Completed, RecordRefused, Undecided, after_answers}
-use Rattle.hxeval.specs.Replay.{IsRecord, ItemsAskFor, ReplayAsksLast, WritesDecided, record_limit, ends_with, event_outcome, refusal_code, replay_outcome, record_outcome, decided_outcome}
+use Rattle.hxeval.specs.Replay.{IsRecord, ItemsAskFor, ReplayAsksLast, WritesDecided, record_limit, initial_world, ends_with, event_outcome, refusal_code, replay_outcome, record_outcome, decided_outcome}
 use Rattle.hxeval.specs.Program.{Program}
 use Rattle.hxeval.specs.RunFault.{IsReplayFault, result_end, reader_fault, sink_fault}
 use Rattle.hxeval.specs.declared.run_fault.RunFault.{RunFault}
@@ -46,9 +46,9 @@ pub record Progress (what : Items → Items → Type 0) (program : Program) (wor
   pub limit : s.limit ≡ record_limit
   pub same : (ends : Bool) (more : List ℕ) → MayFollow s ends more
       → (before : Items) × what before (items_after s ends more)
-      × (replay_outcome (first_world program.rules program.references) (items_from ends 0 (took ++ more) record_limit)
+      × (replay_outcome (initial_world program) (items_from ends 0 (took ++ more) record_limit)
       ≡ after_answers (wrote ++ gathered) (replay_outcome world before))
-      × AskAlike world before (first_world program.rules program.references) (items_from ends 0 (took ++ more) record_limit)
+      × AskAlike world before (initial_world program) (items_from ends 0 (took ++ more) record_limit)
 
 -- between two events the items before are those after
 abbrev pub AreSame : Items → Items → Type 0
@@ -59,7 +59,7 @@ abbrev pub Answer : Result Next RecordFault → Items → Items → Type 0
 Answer result before after = AnswersNext before after result
 
 pub progress_start : (program : Program) (left out : Option (List ℕ))
-    → Progress AreSame program (first_world program.rules program.references) (record { limit = record_limit; at = 0; pending = []; ended = false }) left left out out []
+    → Progress AreSame program (initial_world program) (record { limit = record_limit; at = 0; pending = []; ended = false }) left left out out []
 progress_start program left out = record {
   took = [];
   consumed = Consumes-nil left;
@@ -179,7 +179,7 @@ record Seen (what : Items → Items → Type 0) (program : Program) (world : Wor
   after : Items
   stand : what before after
   outcome : record_outcome program bytes ≡ after_answers (wrote ++ gathered) (replay_outcome world before)
-  asks : AskAlike world before (first_world program.rules program.references) (record_items bytes record_limit)
+  asks : AskAlike world before (initial_world program) (record_items bytes record_limit)
 
 seen : (what : Items → Items → Type 0) (program : Program) (world : World) (s : State) (left left' old new : Option (List ℕ)) (gathered : List ℕ)
     → Progress what program world s left left' old new gathered → (s.ended ≡ true → IsAtEnd left') → Seen what program world left old new gathered
@@ -354,7 +354,7 @@ writes_decided program world s left left' left'' old new new' gathered p going u
     let (before, stand, outcome, _) = p.same false [] (λ ended. absurd (true≢false (sym ended ∙ going))) in
     let unknown : items_after s false [] ≡ Unknown = ap (λ ends. items_after s ends []) (sym going) ∙ undecided in
     let here : decided_outcome program p.took ≡ after_answers (p.wrote ++ gathered) (ends_with Undecided) =
-    ap (λ t. replay_outcome (first_world program.rules program.references) (items_from false 0 t record_limit)) (sym (append-nil p.took)) ∙ outcome
+    ap (λ t. replay_outcome (initial_world program) (items_from false 0 t record_limit)) (sym (append-nil p.took)) ∙ outcome
     ∙ ap (λ i. after_answers (p.wrote ++ gathered) (replay_outcome world i)) (sym stand ∙ unknown) in
     record {
       took = p.took;
@@ -444,7 +444,7 @@ pub replays_asks : (program : Program) (world after : World) (s : State) (left l
     → IsSomeAnd large (EventAsksFor world placed.event) → ReplayAsksLast program left large
 replays_asks program world after s left left' old new new' placed gathered gathered' fault large p at_end is event there =
     let v = seen (Answer (Ok (next.Event placed))) program world s left left' old new gathered p at_end in
-    let first = first_world program.rules program.references in
+    let first = initial_world program in
     let all = record_items v.bytes record_limit in
     let here : AnswersEvent world after placed new new' gathered gathered' (Err run.TooLarge) =
     subst (λ (f : RunFault). AnswersEvent world after placed new new' gathered gathered' (Err f)) is event in

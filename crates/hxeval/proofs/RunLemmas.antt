@@ -10,7 +10,7 @@ use Rattle.hx_outside.specs.declared.FileFault.{FileFault}
 use Rattle.hx_outside.specs.declared.FileFault.TheVariants as file
 use Rattle.hx_outside.specs.declared.SinkFault.{SinkFault}
 use Rattle.hx_outside.specs.declared.SinkFault.TheVariants as sink
-use Rattle.hx_refs.specs.References.{References, version_entries}
+use Rattle.hx_refs.specs.References.{References, version_entries, RefsState}
 use Rattle.hx_refs.specs.declared.Limits.{Limits}
 use Rattle.hx_rules.specs.Programs.{Rules}
 use Rattle.hx_rules.specs.Tables.{HasHeads, HasLists}
@@ -22,7 +22,7 @@ use Rattle.hx_load.specs.Loads.{Loading, Loads, ReadsFile, loaded}
 use Rattle.hx_load.specs.Loads as loading
 use Rattle.hxeval.specs.Program.{Program}
 use Rattle.hx_load.specs.References.{HasFiles}
-use Rattle.hxeval.specs.Run.{Setting, Accepts, HasConfig, RunAsksLast, RunJudgesLast, RunReads, SourceFails, accepted_outcome, check_line, outcome_of, usual_limits}
+use Rattle.hxeval.specs.Run.{Setting, Accepts, RunAsksLast, RunJudgesLast, RunReads, SourceFails, accepted_outcome, check_line, outcome_of, usual_limits}
 use Rattle.hxeval.specs.RunFault.{Attempted, IsReplayFault, result_end, fault_of_file, load_fault, sink_fault}
 use Rattle.hxeval.specs.declared.command.Task.{Task}
 use Rattle.hxeval.specs.declared.command.Task.TheVariants as task
@@ -45,12 +45,22 @@ files_in_are (Some files) = refl
 abbrev pub program_of : Rules → References → Program
 program_of rules refs = record { rules = rules; references = refs }
 
+-- the configuration is what the files hold under its name, where that is known
+abbrev pub IsConfig : Option NamedBytes → List ℕ → Option (List ℕ) → Type 0
+IsConfig held name config = IfSome held (λ files. config ≡ value_at files name)
+
+-- files and configuration, as a setting has them
+holds : (held : Option NamedBytes) (name : List ℕ) (files : NamedBytes) (config : Option (List ℕ)) → HasFiles held files → IsConfig held name config
+    → IfSome held (λ known. (files ≡ known) × (config ≡ value_at known name))
+holds None name files config of_files of_config = tt
+holds (Some known) name files config of_files of_config = (of_files, of_config)
+
 -- the configuration and the record, as far as files and source are known
 abbrev config_in : Option NamedBytes → List ℕ → Option (List ℕ)
 config_in None name = None
 config_in (Some files) name = value_at files name
 
-config_in_is : (held : Option NamedBytes) (name : List ℕ) → HasConfig held name (config_in held name)
+config_in_is : (held : Option NamedBytes) (name : List ℕ) → IsConfig held name (config_in held name)
 config_in_is None name = tt
 config_in_is (Some files) name = refl
 
@@ -59,7 +69,7 @@ record_in_is None = tt
 record_in_is (Some left) = refl
 
 is_config : (held : Option NamedBytes) (name items : List ℕ) → IfSome held (λ files. value_at files name ≡ Some items)
-    → HasConfig held name (Some items)
+    → IsConfig held name (Some items)
 is_config None name items known = tt
 is_config (Some files) name items known = sym known
 
@@ -73,8 +83,7 @@ unknown s old fault undecided =
         config = config_in s.held s.name;
         files = files_in s.held;
         bytes = unwrap_or s.left [];
-        of_config = config_in_is s.held s.name;
-        of_files = files_in_are s.held;
+        of_files = holds s.held s.name (files_in s.held) (config_in s.held s.name) (files_in_are s.held) (config_in_is s.held s.name);
         of_source = record_in_is s.left;
         is = refl;
       };
@@ -90,7 +99,7 @@ unread s old file.NoMemory = unknown s old run.NoMemory refl
 
 -- The configuration of a setting was read: its bytes, and the files, limits and text that `load` is given.
 pub record ReadsConfig (s : Setting) (now : Option NamedBytes) (limits : Limits) (items text : List ℕ) : Type 0 where
-  pub config : HasConfig s.held s.name (Some items)
+  pub config : IsConfig s.held s.name (Some items)
   pub files : now ≡ s.held
   pub usual : limits ≡ usual_limits
   pub bytes : text ≡ items
@@ -108,7 +117,7 @@ here s now limits items text r P p =
     subst (λ (t : List ℕ). P s.held usual_limits t) r.bytes
     (subst (λ (l : Limits). P s.held l text) r.usual (subst (λ (h : Option NamedBytes). P h limits text) r.files p))
 
-unloaded_here : (s : Setting) (items : List ℕ) (old : Option (List ℕ)) (fault : LoadFault) → HasConfig s.held s.name (Some items)
+unloaded_here : (s : Setting) (items : List ℕ) (old : Option (List ℕ)) (fault : LoadFault) → IsConfig s.held s.name (Some items)
     → LoadsHeld s.held s.env usual_limits items (Err fault) → Attempted s old old (Err (load_fault fault))
 unfolding outcome_of
 unloaded_here s items old (load.Refused line code) config l = record {
@@ -117,8 +126,7 @@ unloaded_here s items old (load.Refused line code) config l = record {
     config = Some items;
     files = l.files;
     bytes = unwrap_or s.left [];
-    of_config = config;
-    of_files = l.of_files;
+    of_files = holds s.held s.name l.files (Some items) l.of_files config;
     of_source = record_in_is s.left;
     is = let is : loaded s.env usual_limits l.files items ≡ loading.Refused (record { line = line; code = code }) = l.is in rw is refl;
   };
@@ -138,36 +146,35 @@ unloaded s now limits items text old fault read l =
     (here s now limits items text read (λ (h : Option NamedBytes) (m : Limits) (t : List ℕ). LoadsHeld h s.env m t (Err fault)) l)
 
 -- a configuration that is accepted, with the files under which it is
-loaded_accepts : (s : Setting) (items : List ℕ) (rules : Rules) (refs : References) → HasConfig s.held s.name (Some items)
-    → (l : LoadsHeld s.held s.env usual_limits items (Ok (rules, refs))) → Accepts s l.files (program_of rules refs)
+loaded_accepts : (s : Setting) (items : List ℕ) (rules : Rules) (refs : RefsState) → IsConfig s.held s.name (Some items)
+    → LoadsHeld s.held s.env usual_limits items (Ok (rules, refs)) → Accepts s (program_of rules refs.content)
 loaded_accepts s items rules refs config l =
-    let is : loaded s.env usual_limits l.files items ≡ loading.Accepted rules refs = l.is in
+    let is : loaded s.env usual_limits l.files items ≡ loading.Accepted rules refs.content = l.is in
     record {
       config = items;
-      of_config = config;
-      of_files = l.of_files;
+      files = l.files;
+      of_files = holds s.held s.name l.files (Some items) l.of_files config;
       loads = subst (λ (said : Loading). Loads s.env usual_limits l.files items said) is (loads s.env usual_limits l.files items);
     }
 
 -- its outcome
-accepted_is : (s : Setting) (items : List ℕ) (rules : Rules) (refs : References) (bytes : List ℕ) (asked : Task) → s.task ≡ asked
+accepted_is : (s : Setting) (items : List ℕ) (rules : Rules) (refs : RefsState) (bytes : List ℕ) (asked : Task) → s.task ≡ asked
     → (l : LoadsHeld s.held s.env usual_limits items (Ok (rules, refs)))
-    → accepted_outcome asked (program_of rules refs) bytes ≡ outcome_of s.env s.task l.files (Some items) bytes
+    → accepted_outcome asked (program_of rules refs.content) bytes ≡ outcome_of s.env s.task l.files (Some items) bytes
 unfolding outcome_of
 accepted_is s items rules refs bytes asked same l =
-    let is : loaded s.env usual_limits l.files items ≡ loading.Accepted rules refs = l.is in rw (is, same) refl
+    let is : loaded s.env usual_limits l.files items ≡ loading.Accepted rules refs.content = l.is in rw (is, same) refl
 
-replayed_here : (s : Setting) (items : List ℕ) (rules : Rules) (refs : References) (old new : Option (List ℕ)) (r : Result (Unit {0}) RunFault)
-    → s.task ≡ task.Replay → HasConfig s.held s.name (Some items) → LoadsHeld s.held s.env usual_limits items (Ok (rules, refs))
-    → Replays (program_of rules refs) s.left old new [] r → Attempted s old new r
+replayed_here : (s : Setting) (items : List ℕ) (rules : Rules) (refs : RefsState) (old new : Option (List ℕ)) (r : Result (Unit {0}) RunFault)
+    → s.task ≡ task.Replay → IsConfig s.held s.name (Some items) → LoadsHeld s.held s.env usual_limits items (Ok (rules, refs))
+    → Replays (program_of rules refs.content) s.left old new [] r → Attempted s old new r
 replayed_here s items rules refs old new r asked config l replays = record {
-  outcome = record_outcome (program_of rules refs) replays.bytes;
+  outcome = record_outcome (program_of rules refs.content) replays.bytes;
   of_setting = record {
     config = Some items;
     files = l.files;
     bytes = replays.bytes;
-    of_config = config;
-    of_files = l.of_files;
+    of_files = holds s.held s.name l.files (Some items) l.of_files config;
     of_source = replays.of_source;
     is = accepted_is s items rules refs replays.bytes task.Replay asked l;
   };
@@ -177,38 +184,37 @@ replayed_here s items rules refs old new r asked config l replays = record {
 }
 
 -- a record that was replayed
-pub replayed_run : (s : Setting) (now : Option NamedBytes) (limits : Limits) (items text : List ℕ) (rules : Rules) (refs : References) (old new : Option (List ℕ)) (r : Result (Unit {0}) RunFault)
+pub replayed_run : (s : Setting) (now : Option NamedBytes) (limits : Limits) (items text : List ℕ) (rules : Rules) (refs : RefsState) (old new : Option (List ℕ)) (r : Result (Unit {0}) RunFault)
     → s.task ≡ task.Replay
     → ReadsConfig s now limits items text → LoadsHeld now s.env limits text (Ok (rules, refs))
-    → Replays (program_of rules refs) s.left old new [] r → Attempted s old new r
+    → Replays (program_of rules refs.content) s.left old new [] r → Attempted s old new r
 replayed_run s now limits items text rules refs old new r asked read l replays =
     replayed_here s items rules refs old new r asked read.config
     (here s now limits items text read (λ (h : Option NamedBytes) (m : Limits) (t : List ℕ). LoadsHeld h s.env m t (Ok (rules, refs))) l) replays
 
-checked_here : (s : Setting) (items : List ℕ) (rules : Rules) (refs : References) (old new : Option (List ℕ))
-    → s.task ≡ task.Check → HasConfig s.held s.name (Some items) → LoadsHeld s.held s.env usual_limits items (Ok (rules, refs))
-    → Appends old new (check_line rules refs) → Attempted s old new (Ok tt)
+checked_here : (s : Setting) (items : List ℕ) (rules : Rules) (refs : RefsState) (old new : Option (List ℕ))
+    → s.task ≡ task.Check → IsConfig s.held s.name (Some items) → LoadsHeld s.held s.env usual_limits items (Ok (rules, refs))
+    → Appends old new (check_line rules refs.content) → Attempted s old new (Ok tt)
 checked_here s items rules refs old new asked config l appended = record {
-  outcome = accepted_outcome task.Check (program_of rules refs) (unwrap_or s.left []);
+  outcome = accepted_outcome task.Check (program_of rules refs.content) (unwrap_or s.left []);
   of_setting = record {
     config = Some items;
     files = l.files;
     bytes = unwrap_or s.left [];
-    of_config = config;
-    of_files = l.of_files;
+    of_files = holds s.held s.name l.files (Some items) l.of_files config;
     of_source = record_in_is s.left;
     is = accepted_is s items rules refs (unwrap_or s.left []) task.Check asked l;
   };
-  wrote = check_line rules refs;
+  wrote = check_line rules refs.content;
   appended = appended;
   answers = (refl, refl);
 }
 
 -- a configuration that was checked
-pub checked_run : (s : Setting) (now : Option NamedBytes) (limits : Limits) (items text : List ℕ) (rules : Rules) (refs : References) (old new : Option (List ℕ))
+pub checked_run : (s : Setting) (now : Option NamedBytes) (limits : Limits) (items text : List ℕ) (rules : Rules) (refs : RefsState) (old new : Option (List ℕ))
     → s.task ≡ task.Check
     → ReadsConfig s now limits items text → LoadsHeld now s.env limits text (Ok (rules, refs))
-    → Appends old new (check_line rules refs) → Attempted s old new (Ok tt)
+    → Appends old new (check_line rules refs.content) → Attempted s old new (Ok tt)
 checked_run s now limits items text rules refs old new asked read l appended =
     checked_here s items rules refs old new asked read.config
     (here s now limits items text read (λ (h : Option NamedBytes) (m : Limits) (t : List ℕ). LoadsHeld h s.env m t (Ok (rules, refs))) l) appended
@@ -217,17 +223,16 @@ uncheckable : (fault : SinkFault) → result_end (Err (sink_fault fault)) ≡ Un
 uncheckable sink.Failed = refl
 uncheckable sink.NoMemory = refl
 
-unchecked_here : (s : Setting) (items : List ℕ) (rules : Rules) (refs : References) (old new : Option (List ℕ)) (fault : SinkFault)
-    → s.task ≡ task.Check → HasConfig s.held s.name (Some items) → LoadsHeld s.held s.env usual_limits items (Ok (rules, refs))
-    → AppendsPrefix old new (check_line rules refs) → Attempted s old new (Err (sink_fault fault))
+unchecked_here : (s : Setting) (items : List ℕ) (rules : Rules) (refs : RefsState) (old new : Option (List ℕ)) (fault : SinkFault)
+    → s.task ≡ task.Check → IsConfig s.held s.name (Some items) → LoadsHeld s.held s.env usual_limits items (Ok (rules, refs))
+    → AppendsPrefix old new (check_line rules refs.content) → Attempted s old new (Err (sink_fault fault))
 unchecked_here s items rules refs old new fault asked config l part = record {
-  outcome = accepted_outcome task.Check (program_of rules refs) (unwrap_or s.left []);
+  outcome = accepted_outcome task.Check (program_of rules refs.content) (unwrap_or s.left []);
   of_setting = record {
     config = Some items;
     files = l.files;
     bytes = unwrap_or s.left [];
-    of_config = config;
-    of_files = l.of_files;
+    of_files = holds s.held s.name l.files (Some items) l.of_files config;
     of_source = record_in_is s.left;
     is = accepted_is s items rules refs (unwrap_or s.left []) task.Check asked l;
   };
@@ -237,50 +242,48 @@ unchecked_here s items rules refs old new fault asked config l part = record {
 }
 
 -- one that was checked, where its line couldn't be written
-pub unchecked_run : (s : Setting) (now : Option NamedBytes) (limits : Limits) (items text : List ℕ) (rules : Rules) (refs : References) (old new : Option (List ℕ)) (fault : SinkFault)
+pub unchecked_run : (s : Setting) (now : Option NamedBytes) (limits : Limits) (items text : List ℕ) (rules : Rules) (refs : RefsState) (old new : Option (List ℕ)) (fault : SinkFault)
     → s.task ≡ task.Check
     → ReadsConfig s now limits items text → LoadsHeld now s.env limits text (Ok (rules, refs))
-    → AppendsPrefix old new (check_line rules refs) → Attempted s old new (Err (sink_fault fault))
+    → AppendsPrefix old new (check_line rules refs.content) → Attempted s old new (Err (sink_fault fault))
 unchecked_run s now limits items text rules refs old new fault asked read l part =
     unchecked_here s items rules refs old new fault asked read.config
     (here s now limits items text read (λ (h : Option NamedBytes) (m : Limits) (t : List ℕ). LoadsHeld h s.env m t (Ok (rules, refs))) l) part
 
-source_fails_here : (s : Setting) (items : List ℕ) (rules : Rules) (refs : References) (left' old new : Option (List ℕ))
-    → s.task ≡ task.Replay → HasConfig s.held s.name (Some items) → LoadsHeld s.held s.env usual_limits items (Ok (rules, refs))
-    → WritesDecided (program_of rules refs) s.left left' old new → SourceFails s left' old new
+source_fails_here : (s : Setting) (items : List ℕ) (rules : Rules) (refs : RefsState) (left' old new : Option (List ℕ))
+    → s.task ≡ task.Replay → IsConfig s.held s.name (Some items) → LoadsHeld s.held s.env usual_limits items (Ok (rules, refs))
+    → WritesDecided (program_of rules refs.content) s.left left' old new → SourceFails s left' old new
 source_fails_here s items rules refs left' old new asked config l written = record {
   task = asked;
-  files = l.files;
-  program = program_of rules refs;
+  program = program_of rules refs.content;
   accepted = loaded_accepts s items rules refs config l;
   written = written;
 }
 
 -- a replay that the source ended
-pub source_fails : (s : Setting) (now : Option NamedBytes) (limits : Limits) (items text : List ℕ) (rules : Rules) (refs : References) (left' old new : Option (List ℕ))
+pub source_fails : (s : Setting) (now : Option NamedBytes) (limits : Limits) (items text : List ℕ) (rules : Rules) (refs : RefsState) (left' old new : Option (List ℕ))
     → s.task ≡ task.Replay
     → ReadsConfig s now limits items text → LoadsHeld now s.env limits text (Ok (rules, refs))
-    → WritesDecided (program_of rules refs) s.left left' old new → SourceFails s left' old new
+    → WritesDecided (program_of rules refs.content) s.left left' old new → SourceFails s left' old new
 source_fails s now limits items text rules refs left' old new asked read l written =
     source_fails_here s items rules refs left' old new asked read.config
     (here s now limits items text read (λ (h : Option NamedBytes) (m : Limits) (t : List ℕ). LoadsHeld h s.env m t (Ok (rules, refs))) l) written
 
-asks_here : (s : Setting) (items : List ℕ) (rules : Rules) (refs : References) (large : Option ExpressionText)
-    → s.task ≡ task.Replay → HasConfig s.held s.name (Some items) → LoadsHeld s.held s.env usual_limits items (Ok (rules, refs))
-    → ReplayAsksLast (program_of rules refs) s.left large → RunAsksLast s large
+asks_here : (s : Setting) (items : List ℕ) (rules : Rules) (refs : RefsState) (large : Option ExpressionText)
+    → s.task ≡ task.Replay → IsConfig s.held s.name (Some items) → LoadsHeld s.held s.env usual_limits items (Ok (rules, refs))
+    → ReplayAsksLast (program_of rules refs.content) s.left large → RunAsksLast s large
 asks_here s items rules refs large asked config l asks = record {
   task = asked;
-  files = l.files;
-  program = program_of rules refs;
+  program = program_of rules refs.content;
   accepted = loaded_accepts s items rules refs config l;
   asks = asks;
 }
 
 -- a text for which an event asks
-pub run_asks : (s : Setting) (now : Option NamedBytes) (limits : Limits) (items text : List ℕ) (rules : Rules) (refs : References) (large : Option ExpressionText)
+pub run_asks : (s : Setting) (now : Option NamedBytes) (limits : Limits) (items text : List ℕ) (rules : Rules) (refs : RefsState) (large : Option ExpressionText)
     → s.task ≡ task.Replay
     → ReadsConfig s now limits items text → LoadsHeld now s.env limits text (Ok (rules, refs))
-    → ReplayAsksLast (program_of rules refs) s.left large → RunAsksLast s large
+    → ReplayAsksLast (program_of rules refs.content) s.left large → RunAsksLast s large
 run_asks s now limits items text rules refs large asked read l asks =
     asks_here s items rules refs large asked read.config
     (here s now limits items text read (λ (h : Option NamedBytes) (m : Limits) (t : List ℕ). LoadsHeld h s.env m t (Ok (rules, refs))) l) asks
@@ -305,11 +308,11 @@ pub config_unread : (s : Setting) (last : Option (List ℕ)) → last ≡ Some s
 config_unread s last is = rw is (inl refl)
 
 -- a file to which the configuration comes is one of the run
-comes_to : (s : Setting) (items : List ℕ) (files : NamedBytes) (last : Option (List ℕ)) → HasConfig s.held s.name (Some items) → HasFiles s.held files
+comes_to : (s : Setting) (items : List ℕ) (files : NamedBytes) (last : Option (List ℕ)) → IsConfig s.held s.name (Some items) → HasFiles s.held files
     → IsSomeAnd last (ReadsFile s.env usual_limits files items) → IsSomeAnd last (RunReads s)
 comes_to s items files None config of_files reads = absurd reads
 comes_to s items files (Some name) config of_files reads =
-    inr (record { config = items; files = files; of_config = config; of_files = of_files; reads = reads })
+    inr (record { config = items; files = files; of_files = holds s.held s.name files (Some items) of_files config; reads = reads })
 
 pub load_reads : (s : Setting) (now : Option NamedBytes) (limits : Limits) (items text : List ℕ) (last : Option (List ℕ))
     → ReadsConfig s now limits items text → LoadReadsLast now s.env limits text last → IsSomeAnd last (RunReads s)
@@ -336,7 +339,12 @@ pub load_judges : (s : Setting) (now : Option NamedBytes) (limits : Limits) (ite
 load_judges s now limits items text large read l =
     let there : LoadJudgesLast s.held s.env usual_limits items large =
     here s now limits items text read (λ (h : Option NamedBytes) (m : Limits) (t : List ℕ). LoadJudgesLast h s.env m t large) l in
-    record { config = items; files = there.files; of_config = read.config; of_files = there.of_files; judged = there.judged }
+    record {
+      config = items;
+      files = there.files;
+      of_files = holds s.held s.name there.files (Some items) there.of_files read.config;
+      judged = there.judged;
+    }
 
 -- which fault of a part it was
 pub file_failed : (fault : FileFault) → fault_of_file fault ≡ run.Files → fault ≡ file.Failed
@@ -359,7 +367,6 @@ load_large load.NoMemory is = cc
 pub source_moved : (s : Setting) (left' old mid new : Option (List ℕ)) → SourceFails s left' old mid → Appends mid new [] → SourceFails s left' old new
 source_moved s left' old mid new f nothing = record {
   task = f.task;
-  files = f.files;
   program = f.program;
   accepted = f.accepted;
   written = record {

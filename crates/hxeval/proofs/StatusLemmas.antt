@@ -1,15 +1,16 @@
 -- Laws of the status with which a run ends.
-use Rattle.std.proofs.Common.{◌≡◌, ◌≢◌, ℕ, zero, suc, ◌<◌, ◌≤◌, ◌⊎◌, true, List, [], ◌∷◌, ◌++◌, Contains, Option, None, Some, Ok, Err, inl, inr, arith, refl, sym, ◌∙◌, ap, subst, append_assoc, append-nil}
+use Rattle.std.proofs.Common.{◌≡◌, ◌≢◌, ℕ, zero, suc, ◌<◌, ◌≤◌, ◌⊎◌, List, [], ◌∷◌, ◌++◌, Contains, Option, None, Some, option_map, Ok, Err, inl, inr, arith, refl, sym, ◌∙◌, ap, subst, append_assoc, append-nil}
 use Rattle.std.specs.Io.KnownBytes.{Appends}
 use Rattle.std.proofs.KnownBytes.{Appends-trans}
 use Rattle.hx_core.specs.Steps.{answer_of, refusal_of, world_after}
-use Rattle.hx_core.specs.World.{first_world, World}
+use Rattle.hx_core.specs.World.{World}
 use Rattle.hx_core.specs.declared.fault.StepFault.{StepFault}
 use Rattle.hx_outside.specs.Count.{Rose}
 use Rattle.hx_record.specs.Record.{Items, Unknown, Done, Bad, Then, record_items}
+use Rattle.hx_record.specs.declared.Event.{Event}
 use Rattle.hx_record.specs.declared.Placed.{Placed}
 use Rattle.hxeval.specs.Outcome.{End, Outcome, Completed, ConfigRefused, RecordRefused, Undecided, status_of, last_line, text_of, after_answers}
-use Rattle.hxeval.specs.Replay.{ends_with, refusal_code, replay_outcome, record_outcome, record_limit, events_of, is_whole, AreAllowed, answers_to}
+use Rattle.hxeval.specs.Replay.{ends_with, refusal_code, replay_outcome, record_outcome, record_limit, initial_world, events_of, AreAllowed, answers_to}
 use Rattle.hx_load.specs.Loads.{Loading, Loads, loaded}
 use Rattle.hx_load.specs.Loads as loading
 use Rattle.hxeval.specs.Program.{Program}
@@ -36,9 +37,10 @@ completed Undecided is = cc
 
 -- a completed replay was of a whole record of events that may stand where they stand, and wrote their answers
 pub record Completes (world : World) (items : Items) : Type 0 where
-  pub whole : is_whole items ≡ true
-  pub allowed : AreAllowed world (events_of items)
-  pub answers : (replay_outcome world items).answers ≡ answers_to world (events_of items)
+  pub events : List Event
+  pub read : events_of items ≡ Some events
+  pub allowed : AreAllowed world events
+  pub answers : (replay_outcome world items).answers ≡ answers_to world events
 
 completes_then : (world : World) (placed : Placed) (rest : Items) (refusal : Option StepFault) → refusal_of world placed.event ≡ refusal
     → (replay_outcome world (Then placed rest)).end ≡ Completed
@@ -50,7 +52,8 @@ completes_then world placed rest None allowed is following =
     ≡ after_answers (answer_of world placed.event) (replay_outcome (world_after world placed.event) rest) = rw allowed refl in
     let later = following (sym (ap (λ (o : Outcome). o.end) here) ∙ is) in
     record {
-      whole = later.whole;
+      events = placed.event ∷ later.events;
+      read = ap (λ found. option_map (λ events. placed.event ∷ events) found) later.read;
       allowed = (allowed, later.allowed);
       answers = ap (λ (o : Outcome). o.answers) here ∙ ap (λ text. answer_of world placed.event ++ text) later.answers;
     }
@@ -61,7 +64,7 @@ completes_then world placed rest (Some fault) refused is following =
 completes : (world : World) (items : Items) → (replay_outcome world items).end ≡ Completed → Completes world items
 unfolding replay_outcome
 completes world Unknown is = absurd (completed Undecided is)
-completes world Done is = record { whole = refl; allowed = tt; answers = refl }
+completes world Done is = record { events = []; read = refl; allowed = tt; answers = refl }
 completes world (Bad offset code) is = absurd (completed (RecordRefused offset code) is)
 completes world (Then placed rest) is =
     completes_then world placed rest (refusal_of world placed.event) refl is (completes (world_after world placed.event) rest)
@@ -103,11 +106,11 @@ no_config_left s outcome o config end =
     completed Undecided (sym (ap (λ (o : Outcome). o.end) here) ∙ end)
 
 accepts : (s : Setting) (outcome : Outcome) (config : List ℕ) (program : Program) (o : HasOutcome s outcome) → o.config ≡ Some config
-    → loaded s.env usual_limits o.files config ≡ loading.Accepted program.rules program.references → Accepts s o.files program
+    → loaded s.env usual_limits o.files config ≡ loading.Accepted program.rules program.references → Accepts s program
 accepts s outcome config program o config_is is = record {
   config = config;
-  of_config = rw config_is at o.of_config;
-  of_files = o.of_files;
+  files = o.files;
+  of_files = rw config_is at o.of_files;
   loads = subst (λ (l : Loading). Loads s.env usual_limits o.files config l) is (loads s.env usual_limits o.files config);
 }
 
@@ -117,16 +120,16 @@ headline_of s old new wrote outcome None o asked config appended end answers = a
 headline_of s old new wrote outcome (Some config) o asked is appended end answers =
     let here = outcome_by s outcome config task.Replay o asked is in
     let a = completes_run (loaded s.env usual_limits o.files config) o.bytes (sym (ap (λ (o : Outcome). o.end) here) ∙ end) in
-    let c = completes (first_world a.program.rules a.program.references) (record_items o.bytes record_limit) a.end in
-    let all : wrote ≡ answers_to (first_world a.program.rules a.program.references) (events_of (record_items o.bytes record_limit)) =
+    let c = completes (initial_world a.program) (record_items o.bytes record_limit) a.end in
+    let all : wrote ≡ answers_to (initial_world a.program) c.events =
     sym answers ∙ ap (λ (o : Outcome). o.answers) here ∙ a.answers ∙ c.answers in
     record {
-      files = o.files;
-      bytes = o.bytes;
       program = a.program;
       accepted = accepts s outcome config a.program o is a.is;
+      bytes = o.bytes;
       of_source = o.of_source;
-      read = c.whole;
+      events = c.events;
+      read = c.read;
       allowed = c.allowed;
       written = rw (← all) appended;
     }
@@ -145,7 +148,6 @@ checked_of s old new wrote outcome (Some config) o asked is appended end answers
     let all : wrote ≡ check_line a.program.rules a.program.references =
     sym answers ∙ ap (λ (o : Outcome). o.answers) here ∙ a.answers in
     record {
-      files = o.files;
       program = a.program;
       accepted = accepts s outcome config a.program o is a.is;
       written = rw (← all) appended;

@@ -1,5 +1,5 @@
 -- What a record is answered, event by event.
-use Rattle.std.specs.Prelude.{◌≡◌, ℕ, Bool, true, false, List, [], ◌∷◌, ◌++◌, Option, None, Some, IfSome, IsSomeAnd, ◌⊎◌}
+use Rattle.std.specs.Prelude.{◌≡◌, ℕ, List, [], ◌∷◌, ◌++◌, Option, None, Some, IfSome, IsSomeAnd, option_map, ◌⊎◌}
 use Rattle.std.specs.Io.KnownBytes.{Appends, Consumes}
 use Rattle.hx_record.specs.Record.{Items, Unknown, Done, Bad, Then, record_items, decided_items}
 use Rattle.hx_record.specs.declared.Event.{Event}
@@ -51,12 +51,12 @@ initial_world program = first_world program.rules program.references
 -- what a whole record is answered
 abbrev pub record_outcome : Program → List ℕ → Outcome
 record_outcome program bytes =
-    replay_outcome (first_world program.rules program.references) (record_items bytes record_limit)
+    replay_outcome (initial_world program) (record_items bytes record_limit)
 
 -- what the first bytes of a record are answered, whatever follows them
 abbrev pub decided_outcome : Program → List ℕ → Outcome
 decided_outcome program bytes =
-    replay_outcome (first_world program.rules program.references) (decided_items bytes record_limit)
+    replay_outcome (initial_world program) (decided_items bytes record_limit)
 
 -- the record is all that the source has left, where that is known
 abbrev pub IsRecord : Option (List ℕ) → List ℕ → Type 0
@@ -71,15 +71,11 @@ pub record WritesDecided (program : Program) (left left' old new : Option (List 
   pub going_on : (decided_outcome program took).end ≡ Undecided
   pub written : Appends old new (decided_outcome program took).answers
 
--- the events of a record, and whether its end follows them
-abbrev pub events_of : Items → List Event
-events_of (Then placed rest) = placed.event ∷ events_of rest
-events_of _ = []
-
-abbrev pub is_whole : Items → Bool
-is_whole Done = true
-is_whole (Then placed rest) = is_whole rest
-is_whole _ = false
+-- the events of a record that is read to its end
+abbrev pub events_of : Items → Option (List Event)
+events_of Done = Some []
+events_of (Then placed rest) = option_map (λ events. placed.event ∷ events) (events_of rest)
+events_of _ = None
 
 -- each event may stand where it stands
 abbrev pub AreAllowed : World → List Event → Type 0
@@ -110,4 +106,4 @@ pub record ReplayAsksLast (program : Program) (left : Option (List ℕ))
   pub bytes : List ℕ
   pub of_source : IsRecord left bytes
   pub asks : IsSomeAnd large
-      (ItemsAskFor (first_world program.rules program.references) (record_items bytes record_limit))
+      (ItemsAskFor (initial_world program) (record_items bytes record_limit))

@@ -1,5 +1,5 @@
 -- What a run writes, and its status.
-use Rattle.std.specs.Prelude.{◌≡◌, ◌⊎◌, ◌++◌, ℕ, true, List, [], ◌∷◌, length, map, codes, Contains, IfSome, IsSomeAnd, Option, None, Some, option_map, if◌then◌else◌}
+use Rattle.std.specs.Prelude.{◌≡◌, ◌⊎◌, ◌++◌, ℕ, List, [], ◌∷◌, length, map, codes, Contains, IfSome, IsSomeAnd, Option, None, Some, option_map, if◌then◌else◌}
 use Rattle.std.specs.Fmt.{decimal}
 use Rattle.std.specs.Io.KnownBytes.{Appends}
 use Rattle.std.specs.Str.{bytes_eq}
@@ -8,17 +8,17 @@ use Rattle.std.specs.declared.vec.Vec.{Vec}
 use Rattle.hx_base.specs.Pairs.{NamedBytes, pairs_of, value_at}
 use Rattle.hx_load.specs.Loads.{GivesProgram, Judges, Loading, ReadsFile, loaded}
 use Rattle.hx_load.specs.Loads as loading
-use Rattle.hx_load.specs.References.{HasFiles}
 use Rattle.hx_outside.specs.Makers.{ExpressionText}
 use Rattle.hx_outside.specs.Prefixes.{AppendsPrefix}
 use Rattle.hx_record.specs.Record.{record_items}
+use Rattle.hx_record.specs.declared.Event.{Event}
 use Rattle.hx_refs.specs.References.{References}
 use Rattle.hx_refs.specs.declared.Limits.{Limits}
 use Rattle.hx_rules.specs.Programs.{Rules, rule_count}
 use Rattle.hx_words.specs.Variable.{Env}
 use Rattle.hxeval.specs.Outcome.{Outcome, Completed, ConfigRefused, Undecided, status_of, text_of}
 pub use Rattle.hxeval.specs.Outcome.{config_line}
-use Rattle.hxeval.specs.Replay.{IsRecord, ReplayAsksLast, WritesDecided, record_limit, ends_with, record_outcome, events_of, is_whole, AreAllowed, answers_to, initial_world}
+use Rattle.hxeval.specs.Replay.{IsRecord, ReplayAsksLast, WritesDecided, record_limit, ends_with, record_outcome, events_of, AreAllowed, answers_to, initial_world}
 use Rattle.hxeval.specs.Program.{Program}
 use Rattle.hxeval.specs.declared.command.Task.{Task}
 use Rattle.hxeval.specs.declared.command.Task.TheVariants.{Check, Replay}
@@ -64,13 +64,20 @@ setting env held command left = record {
   left = left;
 }
 
+-- the setting of a run with these words; none where they are no command
+abbrev pub setting_of : List (Vec ℕ Global) → List (Vec ℕ Global × Vec ℕ Global)
+    → Option NamedBytes → Option (List ℕ) → Option Setting
+setting_of words env held left =
+    option_map (λ command. setting env held command left) (command_of (texts_of words))
+
 -- the limits of the references of a configuration
 abbrev pub usual_limits : Limits
 usual_limits = record { entries = 1000000; adds = 4000000000; versions = 4294967295 }
 
--- the configuration is what the files hold under its name, where that is known
-abbrev pub HasConfig : Option NamedBytes → List ℕ → Option (List ℕ) → Type 0
-HasConfig held name config = IfSome held (λ files. config ≡ value_at files name)
+-- these are the files, and the configuration is what they hold under its name, where that is
+-- known
+abbrev pub HasConfig : Setting → NamedBytes → Option (List ℕ) → Type 0
+HasConfig s files config = IfSome s.held (λ held. (files ≡ held) × (config ≡ value_at held s.name))
 
 -- what is written of a configuration that is accepted: the number of its rules, and that of its
 -- references
@@ -108,8 +115,7 @@ pub record HasOutcome (s : Setting) (outcome : Outcome) : Type 0 where
   pub config : Option (List ℕ)
   pub files : NamedBytes
   pub bytes : List ℕ
-  pub of_config : HasConfig s.held s.name config
-  pub of_files : HasFiles s.held files
+  pub of_files : HasConfig s files config
   pub of_source : IsRecord s.left bytes
   pub is : outcome ≡ outcome_of s.env s.task files config bytes
 
@@ -129,39 +135,36 @@ pub record HasStatus (s : Setting) (status : ℕ) : Type 0 where
   pub is : status_of outcome.end ≡ Some status
 
 -- the configuration of a setting is accepted as this program
-pub record Accepts (s : Setting) (files : NamedBytes) (program : Program) : Type 0 where
+pub record Accepts (s : Setting) (program : Program) : Type 0 where
   pub config : List ℕ
-  pub of_config : IfSome s.held (λ held. Some config ≡ value_at held s.name)
-  pub of_files : IfSome s.held (λ held. files ≡ held)
+  pub files : NamedBytes
+  pub of_files : HasConfig s files (Some config)
   pub loads : GivesProgram s.env usual_limits files config program.rules program.references
 
 -- The headline. The configuration was accepted, the record was read to its end, each of its events
 -- stood where it may, and exactly the answers to its events in order were written.
 pub record Headline (s : Setting) (old new : Option (List ℕ)) : Type 0 where
-  pub files : NamedBytes
-  pub bytes : List ℕ
   pub program : Program
-  pub accepted : Accepts s files program
-  pub of_source : IfSome s.left (λ left. bytes ≡ left)
-  pub read : is_whole (record_items bytes record_limit) ≡ true
-  pub allowed : AreAllowed (initial_world program) (events_of (record_items bytes record_limit))
-  pub written : Appends old new
-      (answers_to (initial_world program) (events_of (record_items bytes record_limit)))
+  pub accepted : Accepts s program
+  pub bytes : List ℕ
+  pub of_source : IsRecord s.left bytes
+  pub events : List Event
+  pub read : events_of (record_items bytes record_limit) ≡ Some events
+  pub allowed : AreAllowed (initial_world program) events
+  pub written : Appends old new (answers_to (initial_world program) events)
 
 -- A check: the configuration was accepted, and its line was written.
 pub record Checked (s : Setting) (old new : Option (List ℕ)) : Type 0 where
-  pub files : NamedBytes
   pub program : Program
-  pub accepted : Accepts s files program
+  pub accepted : Accepts s program
   pub written : Appends old new (check_line program.rules program.references)
 
 -- The source failed: the files hold a configuration that is accepted, and exactly the answers were
 -- written to the events that the bytes taken from the source decide.
 pub record SourceFails (s : Setting) (left' old new : Option (List ℕ)) : Type 0 where
   pub task : s.task ≡ Replay
-  pub files : NamedBytes
   pub program : Program
-  pub accepted : Accepts s files program
+  pub accepted : Accepts s program
   pub written : WritesDecided program s.left left' old new
 
 -- The last text that was too large for the maker is one that is read as a regular expression when
@@ -169,25 +172,22 @@ pub record SourceFails (s : Setting) (left' old new : Option (List ℕ)) : Type 
 pub record RunJudgesLast (s : Setting) (large : Option ExpressionText) : Type 0 where
   pub config : List ℕ
   pub files : NamedBytes
-  pub of_config : HasConfig s.held s.name (Some config)
-  pub of_files : HasFiles s.held files
+  pub of_files : HasConfig s files (Some config)
   pub judged : IsSomeAnd large (Judges s.env usual_limits files config)
 
 -- The last text that was too large for the maker is one for which a rule or a command asks, at an
 -- event of the record.
 pub record RunAsksLast (s : Setting) (large : Option ExpressionText) : Type 0 where
   pub task : s.task ≡ Replay
-  pub files : NamedBytes
   pub program : Program
-  pub accepted : Accepts s files program
+  pub accepted : Accepts s program
   pub asks : ReplayAsksLast program s.left large
 
 -- a file is one to which the configuration comes when it is loaded, with no fault before it
 pub record ComesTo (s : Setting) (name : List ℕ) : Type 0 where
   pub config : List ℕ
   pub files : NamedBytes
-  pub of_config : HasConfig s.held s.name (Some config)
-  pub of_files : HasFiles s.held files
+  pub of_files : HasConfig s files (Some config)
   pub reads : ReadsFile s.env usual_limits files config name
 
 -- the files that a run reads: the configuration, and those to which that comes

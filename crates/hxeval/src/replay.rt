@@ -50,11 +50,11 @@ pub fn replay<S: Source, K: Sink, M: ReMaker>(
     out: &mut K,
     maker: &mut M,
 ) -> Result<(), RunFault>
-    requires { FitRules refs rules }
-    ensures replays { Replays (record { rules = rules; references = refs })
+    requires { FitRules refs.content rules }
+    ensures replays { Replays (record { rules = rules; references = refs.content })
         (S.left record_in.old) (K.written out.old) (K.written out.new) [] result }
     ensures decided { IsErrOf result RunFault.Source
-        → WritesDecided (record { rules = rules; references = refs }) (S.left record_in.old)
+        → WritesDecided (record { rules = rules; references = refs.content }) (S.left record_in.old)
         (S.left record_in.new) (K.written out.old) (K.written out.new) }
     ensures at_end { OnOk result (IsAtEnd (S.left record_in.new)) }
     ensures kind { IfErr result IsReplayFault }
@@ -63,14 +63,14 @@ pub fn replay<S: Source, K: Sink, M: ReMaker>(
     ensures sink { IsErrOf result RunFault.Sink → Rose (K.faults out.old) (K.faults out.new) }
     ensures later { K.faults out.old ≤ K.faults out.new }
     ensures too_large { IsErrOf result RunFault.TooLarge
-        → Rose (M.too_large maker.old) (M.too_large maker.new)
-        × ReplayAsksLast (record { rules = rules; references = refs }) (S.left record_in.old)
-        (M.large maker.new) }
+        → Rose (M.state maker.old).too_large (M.state maker.new).too_large
+        × ReplayAsksLast (record { rules = rules; references = refs.content }) (S.left record_in.old)
+        (M.state maker.new).large }
     // After a text that was too large, the answers before it may fail to be written.
     ensures uncounted { ¬ (IsErrOf result RunFault.TooLarge) → ¬ (IsErrOf result RunFault.Sink)
         → ¬ (IsErrOf result RunFault.NoMemory)
-        → (M.too_large maker.new ≡ M.too_large maker.old)
-        × (M.large maker.new ≡ M.large maker.old) }
+        → ((M.state maker.new).too_large ≡ (M.state maker.old).too_large)
+        × ((M.state maker.new).large ≡ (M.state maker.old).large) }
 {
     let mut answers = Answers::new(alloc);
     let ended = gather(alloc, rules, refs, record_in, out, &mut answers, maker);
@@ -90,11 +90,11 @@ fn gather<S: Source, K: Sink, M: ReMaker>(
     maker: &mut M,
 ) -> Result<(), RunFault>
     requires none { answers.old ≡ [] }
-    requires fit { FitRules refs rules }
-    ensures replays { Replays (record { rules = rules; references = refs })
+    requires fit { FitRules refs.content rules }
+    ensures replays { Replays (record { rules = rules; references = refs.content })
         (S.left record_in.old) (K.written out.old) (K.written out.new) answers.new result }
     ensures decided { IsErrOf result RunFault.Source
-        → WritesDecided (record { rules = rules; references = refs }) (S.left record_in.old)
+        → WritesDecided (record { rules = rules; references = refs.content }) (S.left record_in.old)
         (S.left record_in.new) (K.written out.old) (K.written out.new) }
     ensures empty { IsErrOf result RunFault.Source → answers.new ≡ [] }
     ensures at_end { OnOk result (IsAtEnd (S.left record_in.new)) }
@@ -104,12 +104,12 @@ fn gather<S: Source, K: Sink, M: ReMaker>(
     ensures sink { IsErrOf result RunFault.Sink → Rose (K.faults out.old) (K.faults out.new) }
     ensures later { K.faults out.old ≤ K.faults out.new }
     ensures too_large { IsErrOf result RunFault.TooLarge
-        → Rose (M.too_large maker.old) (M.too_large maker.new)
-        × ReplayAsksLast (record { rules = rules; references = refs }) (S.left record_in.old)
-        (M.large maker.new) }
+        → Rose (M.state maker.old).too_large (M.state maker.new).too_large
+        × ReplayAsksLast (record { rules = rules; references = refs.content }) (S.left record_in.old)
+        (M.state maker.new).large }
     ensures uncounted { ¬ (IsErrOf result RunFault.TooLarge)
-        → (M.too_large maker.new ≡ M.too_large maker.old)
-        × (M.large maker.new ≡ M.large maker.old) }
+        → ((M.state maker.new).too_large ≡ (M.state maker.old).too_large)
+        × ((M.state maker.new).large ≡ (M.state maker.old).large) }
 {
     let mut engine = Engine::new(alloc, rules, refs);
     let mut reader = Reader::new(alloc, RECORD_LIMIT);
@@ -141,11 +141,11 @@ fn answer_event<K: Sink, M: ReMaker>(
     ensures sink { IsErrOf result RunFault.Sink → Rose (K.faults out.old) (K.faults out.new) }
     ensures later { K.faults out.old ≤ K.faults out.new }
     ensures too_large { IsErrOf result RunFault.TooLarge
-        → Rose (M.too_large maker.old) (M.too_large maker.new)
-        × IsSomeAnd (M.large maker.new) (EventAsksFor engine.old.world placed.event) }
+        → Rose (M.state maker.old).too_large (M.state maker.new).too_large
+        × IsSomeAnd (M.state maker.new).large (EventAsksFor engine.old.world placed.event) }
     ensures uncounted { ¬ (IsErrOf result RunFault.TooLarge)
-        → (M.too_large maker.new ≡ M.too_large maker.old)
-        × (M.large maker.new ≡ M.large maker.old) }
+        → ((M.state maker.new).too_large ≡ (M.state maker.old).too_large)
+        × ((M.state maker.new).large ≡ (M.state maker.old).large) }
 {
     let Placed { offset, event } = placed;
     match gather_answer(engine, &event, answers, maker) {
@@ -178,8 +178,7 @@ fn gather_answer<M: ReMaker>(
         answers.old answers.new result }
     ensures running { OnOk result (engine.new.stopped ≡ None) }
     ensures large { StepCountsLarge result (EventAsksFor engine.old.world event.now)
-        (record { too_large = M.too_large maker.old; large = M.large maker.old })
-        (record { too_large = M.too_large maker.new; large = M.large maker.new }) }
+        (M.state maker.old) (M.state maker.new) }
 {
     let answer = engine.step(event, maker)?;
     let gathered = answers.push(answer.bytes());

@@ -1,9 +1,10 @@
-ghost use Rattle.std.specs.Prelude.{◌≡◌, ◌≢◌, ◌≤◌, ◌↔◌, ◌⊎◌, ℕ, Ok, Err, None, Some, Contains, [], ◌∷◌, OnOk, IfOk, IsErrOf, IsSomeAnd};
+ghost use Rattle.std.specs.Prelude.{◌≡◌, ◌≢◌, ◌≤◌, ◌↔◌, ◌⊎◌, ℕ, Ok, Err, None, Some, Contains, [], ◌∷◌, OnOk, IfOk, IfSome, IsErrOf, IsSomeAnd};
 ghost use Rattle.std.specs.Io.KnownBytes.{Appends, IsAtEnd};
 ghost use Rattle.hx_outside.specs.Count.{Rose};
 ghost use Rattle.hx_outside.specs.Prefixes.{AppendsPrefix};
 ghost use Rattle.hxeval.specs.Command.{asked_of};
-ghost use Rattle.hxeval.specs.Run.{Asked, check_line, command_of, texts_of, setting, Checked, Ran, HasStatus, Headline};
+ghost use Rattle.hxeval.specs.Run.{check_line, command_of, texts_of, setting, setting_of};
+ghost use Rattle.hxeval.specs.Run.{Checked, Ran, HasStatus, Headline};
 ghost use Rattle.hxeval.specs.Run.{RunAsksLast, RunJudgesLast, RunReads, SourceFails};
 ghost use Rattle.hxeval.specs.RunFault.{Attempted, Finishes};
 ghost use Rattle.hxeval.specs.declared.command.Task.{Task};
@@ -22,8 +23,8 @@ use std::alloc::{AllocError, Global};
 /// the environment `env`, and answers the exit status.
 ///
 /// `run CONFIG` reads the file CONFIG as a configuration, and answers the events of the record in
-/// order: requests, and lines of the management socket. All answers that the bytes read so far
-/// decide are written before more is read.
+/// order: requests, and lines of the management socket. Answers are written before more of the
+/// record is read: `outside` says so of a read that fails, and tests show it of the others.
 /// `check CONFIG` judges the configuration alone, and where it is accepted writes `ok RULES REFS`:
 /// how many rules and how many references it has. Files that the configuration names are read
 /// through `files` too, and regular expressions are made by `maker`.
@@ -38,6 +39,11 @@ use std::alloc::{AllocError, Global};
 /// | 6 | the sink failed |
 /// | 7 | memory ran out |
 /// | 8 | a regular expression is too large for the maker |
+///
+/// Where contracts don't know what the files hold, what the source has left or what was written to
+/// the sink (`held`, `left`, `written`), as of the machine's own files and streams, `headline`,
+/// `checked`, `ran`, `complete`, `outside`, `named` and `too_large` say nothing of these bytes:
+/// what the machine's adapters do with them is trusted, and tested.
 pub fn run<F: Files, S: Source, K: Sink, M: ReMaker>(
     alloc: Global,
     words: &[Vec<u8>],
@@ -53,57 +59,52 @@ pub fn run<F: Files, S: Source, K: Sink, M: ReMaker>(
         → (files.new ≡ files.old) × (record_in.new ≡ record_in.old) × (out.new ≡ out.old)
         × (maker.new ≡ maker.old) }
 
-    ensures headline { (command : Asked) → command_of (texts_of words.now) ≡ Some command
-        → command.task ≡ Task.Replay → result ≡ 0
-        → Headline (setting env.now (F.held files.old) command (S.left record_in.old))
-        (K.written out.old) (K.written out.new) }
-    ensures checked { (command : Asked) → command_of (texts_of words.now) ≡ Some command
-        → command.task ≡ Task.Check → result ≡ 0
-        → Checked (setting env.now (F.held files.old) command (S.left record_in.old))
-        (K.written out.old) (K.written out.new) }
-    ensures ran { (command : Asked) → command_of (texts_of words.now) ≡ Some command
-        → Ran (setting env.now (F.held files.old) command (S.left record_in.old))
-        (K.written out.old) (K.written out.new) result }
-    ensures at_end { (command : Asked) → command_of (texts_of words.now) ≡ Some command
-        → command.task ≡ Task.Replay → result ≡ 0 → IsAtEnd (S.left record_in.new) }
+    ensures headline { result ≡ 0 → IfSome
+        (setting_of words.now env.now (F.held files.old) (S.left record_in.old)) (λ given.
+        given.task ≡ Task.Replay → Headline given (K.written out.old) (K.written out.new)) }
+    ensures checked { result ≡ 0 → IfSome
+        (setting_of words.now env.now (F.held files.old) (S.left record_in.old)) (λ given.
+        given.task ≡ Task.Check → Checked given (K.written out.old) (K.written out.new)) }
+    ensures ran { IfSome
+        (setting_of words.now env.now (F.held files.old) (S.left record_in.old)) (λ given.
+        Ran given (K.written out.old) (K.written out.new) result) }
+    ensures at_end { result ≡ 0 → IfSome (command_of (texts_of words.now))
+        (λ command. command.task ≡ Task.Replay → IsAtEnd (S.left record_in.new)) }
     ensures config_refused { result ≡ 3 → record_in.new ≡ record_in.old }
-    ensures unread { (command : Asked) → command_of (texts_of words.now) ≡ Some command
-        → command.task ≡ Task.Check → record_in.new ≡ record_in.old }
+    ensures unread { IfSome (command_of (texts_of words.now))
+        (λ command. command.task ≡ Task.Check → record_in.new ≡ record_in.old) }
 
-    ensures outside { (command : Asked) → command_of (texts_of words.now) ≡ Some command
-        → result ≡ 5
-        → (Rose (F.faults files.old) (F.faults files.new)
-        × IsSomeAnd (F.last files.new)
-        (RunReads (setting env.now (F.held files.old) command (S.left record_in.old)))
+    ensures outside { result ≡ 5 → IfSome
+        (setting_of words.now env.now (F.held files.old) (S.left record_in.old)) (λ given.
+        (Rose (F.faults files.old) (F.faults files.new)
+        × IsSomeAnd (F.last files.new) (RunReads given)
         × Appends (K.written out.old) (K.written out.new) [])
         ⊎ (Rose (S.faults record_in.old) (S.faults record_in.new)
-        × SourceFails (setting env.now (F.held files.old) command (S.left record_in.old))
-        (S.left record_in.new) (K.written out.old) (K.written out.new)) }
+        × SourceFails given (S.left record_in.new) (K.written out.old) (K.written out.new))) }
     ensures sink { result ≡ 6 → Rose (K.faults out.old) (K.faults out.new) }
     // A text of the configuration is too large before anything is written; one that a rule or a
     // command adds may be so after some answers, of which `ran` says that they are a prefix.
-    ensures too_large { (command : Asked) → command_of (texts_of words.now) ≡ Some command
-        → result ≡ 8 → Rose (M.too_large maker.old) (M.too_large maker.new)
-        × ((RunJudgesLast (setting env.now (F.held files.old) command (S.left record_in.old))
-        (M.large maker.new) × Appends (K.written out.old) (K.written out.new) [])
-        ⊎ RunAsksLast (setting env.now (F.held files.old) command (S.left record_in.old))
-        (M.large maker.new)) }
+    ensures too_large { result ≡ 8 → IfSome
+        (setting_of words.now env.now (F.held files.old) (S.left record_in.old)) (λ given.
+        Rose (M.state maker.old).too_large (M.state maker.new).too_large
+        × ((RunJudgesLast given (M.state maker.new).large
+        × Appends (K.written out.old) (K.written out.new) [])
+        ⊎ RunAsksLast given (M.state maker.new).large)) }
     // Where nothing outside failed, the status is the one that the configuration and the record
     // have, unless memory ran out.
-    ensures complete { (command : Asked) → command_of (texts_of words.now) ≡ Some command
-        → ¬ (Rose (F.faults files.old) (F.faults files.new))
+    ensures complete { IfSome
+        (setting_of words.now env.now (F.held files.old) (S.left record_in.old)) (λ given.
+        ¬ (Rose (F.faults files.old) (F.faults files.new))
         → ¬ (Rose (S.faults record_in.old) (S.faults record_in.new))
         → ¬ (Rose (K.faults out.old) (K.faults out.new))
-        → ¬ (Rose (M.too_large maker.old) (M.too_large maker.new))
-        → (result ≡ 7)
-        ⊎ HasStatus (setting env.now (F.held files.old) command (S.left record_in.old)) result }
+        → ¬ (Rose (M.state maker.old).too_large (M.state maker.new).too_large)
+        → (result ≡ 7) ⊎ HasStatus given result) }
 
     ensures held { F.held files.new ≡ F.held files.old }
     // No file was read in vain but the configuration and those to which it comes.
-    ensures named { (command : Asked) → command_of (texts_of words.now) ≡ Some command
-        → (F.last files.new ≡ F.last files.old)
-        ⊎ IsSomeAnd (F.last files.new)
-        (RunReads (setting env.now (F.held files.old) command (S.left record_in.old))) }
+    ensures named { IfSome
+        (setting_of words.now env.now (F.held files.old) (S.left record_in.old)) (λ given.
+        (F.last files.new ≡ F.last files.old) ⊎ IsSomeAnd (F.last files.new) (RunReads given)) }
 {
     let Some(command) = command_of(words) else {
         return 2;
@@ -145,14 +146,11 @@ fn attempt<F: Files, S: Source, K: Sink, M: ReMaker>(
         (S.left record_in.new) (K.written out.old) (K.written out.new) }
     ensures sink_failed { IsErrOf result RunFault.Sink
         → Rose (K.faults out.old) (K.faults out.new) }
-    ensures too_large { IsErrOf result RunFault.TooLarge
-        → Rose (M.too_large maker.old) (M.too_large maker.new)
-        × ((RunJudgesLast
-        (setting env.now (F.held files.old) (asked_of command.entry) (S.left record_in.old))
-        (M.large maker.new) × (out.new ≡ out.old))
-        ⊎ RunAsksLast
-        (setting env.now (F.held files.old) (asked_of command.entry) (S.left record_in.old))
-        (M.large maker.new)) }
+    ensures too_large { let given = setting env.now (F.held files.old) (asked_of command.entry)
+        (S.left record_in.old) in IsErrOf result RunFault.TooLarge
+        → Rose (M.state maker.old).too_large (M.state maker.new).too_large
+        × ((RunJudgesLast given (M.state maker.new).large × (out.new ≡ out.old))
+        ⊎ RunAsksLast given (M.state maker.new).large) }
     ensures later { K.faults out.old ≤ K.faults out.new }
     ensures held { F.held files.new ≡ F.held files.old }
     ensures named { (F.last files.new ≡ F.last files.old)
@@ -175,9 +173,9 @@ fn write_check<K: Sink>(
     out: &mut K,
 ) -> Result<(), SinkFault>
     ensures ok { OnOk result (Appends (K.written out.old) (K.written out.new)
-        (check_line rules.now refs.now)) }
+        (check_line rules.now refs.now.content)) }
     ensures prefix { AppendsPrefix (K.written out.old) (K.written out.new)
-        (check_line rules.now refs.now) }
+        (check_line rules.now refs.now.content) }
     ensures failed { IsErrOf result SinkFault.Failed → Rose (K.faults out.old) (K.faults out.new) }
     ensures later { K.faults out.old ≤ K.faults out.new }
 {
@@ -189,7 +187,7 @@ fn write_check<K: Sink>(
 
 /// The line of a configuration that is accepted.
 fn check_line(alloc: Global, rules: &Program, refs: &Refs) -> Result<Vec<u8>, AllocError>
-    ensures { IfOk result (λ line. line.items ≡ check_line rules.now refs.now) }
+    ensures { IfOk result (λ line. line.items ≡ check_line rules.now refs.now.content) }
 {
     let mut digits = Buffer::new();
     let mut line = Vec::new(alloc);

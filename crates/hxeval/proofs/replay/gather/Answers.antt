@@ -10,7 +10,7 @@ use Rattle.hxeval.proofs.replay.gather.Goals as goal
 
 pub events-init : goal.events-init
 events-init g c = rw (c.new-engine.ensures, c.new-reader.ensures, c.requires.none) (record {
-  progress = progress_start (record { rules = c.args.rules; references = c.args.refs }) (g.S.Source.left c.args.record_in.now) (g.K.Sink.written c.args.out.now);
+  progress = progress_start (record { rules = c.args.rules; references = c.args.refs.content }) (g.S.Source.left c.args.record_in.now) (g.K.Sink.written c.args.out.now);
   within = omega arith;
   ended = λ is. absurd (true≢false (sym is));
   running = refl;
@@ -23,9 +23,9 @@ events-init g c = rw (c.new-engine.ensures, c.new-reader.ensures, c.requires.non
 pub returns-in_err-placed-clause-replays : goal.returns-in_err-placed-clause-replays
 returns-in_err-placed-clause-replays g c =
     let p = err_from_is_err_and c.from_residual.result c.from_residual.ensures.1 in
-    rw (p.1, p.2) (replays_fault (record { rules = c.args.rules; references = c.args.refs }) c.events.engine.world c.next_decided.new.self (g.S.Source.left c.args.record_in.now)
+    rw (p.1, p.2) (replays_fault (record { rules = c.args.rules; references = c.args.refs.content }) c.events.engine.world c.next_decided.new.self (g.S.Source.left c.args.record_in.now)
     (g.S.Source.left c.events.record_in) (g.K.Sink.written c.args.out.now) (g.K.Sink.written c.events.out) c.events.answers c.in_err-placed.field-0.0
-    (progress_decides (record { rules = c.args.rules; references = c.args.refs }) c.events.engine.world c.events.reader c.next_decided.new.self (g.S.Source.left c.args.record_in.now)
+    (progress_decides (record { rules = c.args.rules; references = c.args.refs.content }) c.events.engine.world c.events.reader c.next_decided.new.self (g.S.Source.left c.args.record_in.now)
     (g.S.Source.left c.events.record_in) (g.K.Sink.written c.args.out.now) (g.K.Sink.written c.events.out) c.events.answers
     (Err c.in_err-placed.field-0.0) c.events.invariant.progress c.in_err-placed.ensures.decides)
     (λ is. c.events.invariant.ended (sym c.in_err-placed.ensures.decides.ended ∙ is)))
@@ -51,14 +51,14 @@ returns-in_err-placed-clause-source g c = λ is.
 pub events-preserved-in-Continue-branch-3 : goal.events-preserved-in-Continue-branch-3
 events-preserved-in-Continue-branch-3 g c =
     let decides = rw c.in-Event.is at c.in_ok-placed.ensures.decides in
-    let p = progress_decides (record { rules = c.args.rules; references = c.args.refs }) c.events.engine.world c.events.reader c.next_decided.new.self (g.S.Source.left c.args.record_in.now)
+    let p = progress_decides (record { rules = c.args.rules; references = c.args.refs.content }) c.events.engine.world c.events.reader c.next_decided.new.self (g.S.Source.left c.args.record_in.now)
     (g.S.Source.left c.events.record_in) (g.K.Sink.written c.args.out.now) (g.K.Sink.written c.events.out) c.events.answers
     (Ok (next.Event c.in-Event.placed)) c.events.invariant.progress decides in
     let moves = (rw c.in-Event.is at c.in_ok-placed.ensures.moves) tt in
     let answers = c.in_ok-answer_event-in-Event.ensures.answers in
     let uncounted = c.in_ok-answer_event-in-Event.ensures.uncounted (λ is. cc) in
     record {
-      progress = progress_answers (record { rules = c.args.rules; references = c.args.refs }) c.events.engine.world c.answer_event.new.engine.world c.next_decided.new.self (g.S.Source.left c.args.record_in.now)
+      progress = progress_answers (record { rules = c.args.rules; references = c.args.refs.content }) c.events.engine.world c.answer_event.new.engine.world c.next_decided.new.self (g.S.Source.left c.args.record_in.now)
           (g.S.Source.left c.events.record_in) (g.K.Sink.written c.args.out.now) (g.K.Sink.written c.events.out) (g.K.Sink.written c.answer_event.new.out)
           c.in-Event.placed c.events.answers c.answer_event.new.answers p answers;
       within = omega (arith, moves.1, p.limit);
@@ -73,11 +73,11 @@ events-preserved-in-Continue-branch-3 g c =
 pub returns-in_err-answer_event-in-Event-clause-replays : goal.returns-in_err-answer_event-in-Event-clause-replays
 returns-in_err-answer_event-in-Event-clause-replays g c =
     let decides = rw c.in-Event.is at c.in_ok-placed.ensures.decides in
-    let p = progress_decides (record { rules = c.args.rules; references = c.args.refs }) c.events.engine.world c.events.reader c.next_decided.new.self (g.S.Source.left c.args.record_in.now)
+    let p = progress_decides (record { rules = c.args.rules; references = c.args.refs.content }) c.events.engine.world c.events.reader c.next_decided.new.self (g.S.Source.left c.args.record_in.now)
     (g.S.Source.left c.events.record_in) (g.K.Sink.written c.args.out.now) (g.K.Sink.written c.events.out) c.events.answers
     (Ok (next.Event c.in-Event.placed)) c.events.invariant.progress decides in
     let r = err_from_is_err_and c.from_residual-in_err-answer_event-in-Event.result c.from_residual-in_err-answer_event-in-Event.ensures.1 in
-    rw (r.1, r.2) (replays_event (record { rules = c.args.rules; references = c.args.refs }) c.events.engine.world c.answer_event.new.engine.world c.next_decided.new.self (g.S.Source.left c.args.record_in.now)
+    rw (r.1, r.2) (replays_event (record { rules = c.args.rules; references = c.args.refs.content }) c.events.engine.world c.answer_event.new.engine.world c.next_decided.new.self (g.S.Source.left c.args.record_in.now)
     (g.S.Source.left c.events.record_in) (g.K.Sink.written c.args.out.now) (g.K.Sink.written c.events.out) (g.K.Sink.written c.answer_event.new.out)
     c.in-Event.placed c.events.answers c.answer_event.new.answers c.in_err-answer_event-in-Event.field-0.0 p
     (λ is. c.events.invariant.ended (sym decides.ended ∙ is)) c.in_err-answer_event-in-Event.ensures.kind c.in_err-answer_event-in-Event.ensures.answers)
@@ -85,13 +85,13 @@ returns-in_err-answer_event-in-Event-clause-replays g c =
 pub events-preserved : goal.events-preserved
 events-preserved g c =
     let decides = rw c.in-Undecided.is at c.in_ok-placed.ensures.decides in
-    let p = progress_decides (record { rules = c.args.rules; references = c.args.refs }) c.events.engine.world c.events.reader c.next_decided.new.self (g.S.Source.left c.args.record_in.now)
+    let p = progress_decides (record { rules = c.args.rules; references = c.args.refs.content }) c.events.engine.world c.events.reader c.next_decided.new.self (g.S.Source.left c.args.record_in.now)
     (g.S.Source.left c.events.record_in) (g.K.Sink.written c.args.out.now) (g.K.Sink.written c.events.out) c.events.answers
     (Ok next.Undecided) c.events.invariant.progress decides in
     let undecided = c.in_ok-placed.ensures.undecided (ap Ok c.in-Undecided.is) in
     let within = c.in_ok-placed.ensures.within (ap Ok c.in-Undecided.is) in
     let fills = c.in_ok-read_more-in-Undecided.ensures.ok in
-    let q = progress_fills (record { rules = c.args.rules; references = c.args.refs }) c.events.engine.world c.next_decided.new.self c.read_more.new.reader (g.S.Source.left c.args.record_in.now)
+    let q = progress_fills (record { rules = c.args.rules; references = c.args.refs.content }) c.events.engine.world c.next_decided.new.self c.read_more.new.reader (g.S.Source.left c.args.record_in.now)
     (g.S.Source.left c.events.record_in) (g.S.Source.left c.read_more.new.record_in) (g.K.Sink.written c.args.out.now) (g.K.Sink.written c.events.out)
     (g.K.Sink.written c.read_more.new.out) c.events.answers p undecided.0 c.in_ok-read_more-in-Undecided.ensures.written fills in
     record {
@@ -108,11 +108,11 @@ events-preserved g c =
 pub returns-in_err-read_more-in-Undecided-clause-replays : goal.returns-in_err-read_more-in-Undecided-clause-replays
 returns-in_err-read_more-in-Undecided-clause-replays g c =
     let decides = rw c.in-Undecided.is at c.in_ok-placed.ensures.decides in
-    let p = progress_decides (record { rules = c.args.rules; references = c.args.refs }) c.events.engine.world c.events.reader c.next_decided.new.self (g.S.Source.left c.args.record_in.now)
+    let p = progress_decides (record { rules = c.args.rules; references = c.args.refs.content }) c.events.engine.world c.events.reader c.next_decided.new.self (g.S.Source.left c.args.record_in.now)
     (g.S.Source.left c.events.record_in) (g.K.Sink.written c.args.out.now) (g.K.Sink.written c.events.out) c.events.answers
     (Ok next.Undecided) c.events.invariant.progress decides in
     let r = err_from_is_err_and c.from_residual-in_err-read_more-in-Undecided.result c.from_residual-in_err-read_more-in-Undecided.ensures.1 in
-    rw (r.1, r.2, c.read_more.ensures.empty) (replays_lost (record { rules = c.args.rules; references = c.args.refs }) c.events.engine.world c.next_decided.new.self (g.S.Source.left c.args.record_in.now)
+    rw (r.1, r.2, c.read_more.ensures.empty) (replays_lost (record { rules = c.args.rules; references = c.args.refs.content }) c.events.engine.world c.next_decided.new.self (g.S.Source.left c.args.record_in.now)
     (g.S.Source.left c.events.record_in) (g.K.Sink.written c.args.out.now) (g.K.Sink.written c.events.out) (g.K.Sink.written c.read_more.new.out)
     c.events.answers (Ok next.Undecided) p (λ is. c.events.invariant.ended (sym decides.ended ∙ is)) c.read_more.ensures.prefix
     c.in_err-read_more-in-Undecided.field-0.0 c.in_err-read_more-in-Undecided.ensures.kind)
@@ -120,13 +120,13 @@ returns-in_err-read_more-in-Undecided-clause-replays g c =
 pub returns-in_err-read_more-in-Undecided-clause-decided : goal.returns-in_err-read_more-in-Undecided-clause-decided
 returns-in_err-read_more-in-Undecided-clause-decided g c = λ is.
     let decides = rw c.in-Undecided.is at c.in_ok-placed.ensures.decides in
-    let p = progress_decides (record { rules = c.args.rules; references = c.args.refs }) c.events.engine.world c.events.reader c.next_decided.new.self (g.S.Source.left c.args.record_in.now)
+    let p = progress_decides (record { rules = c.args.rules; references = c.args.refs.content }) c.events.engine.world c.events.reader c.next_decided.new.self (g.S.Source.left c.args.record_in.now)
     (g.S.Source.left c.events.record_in) (g.K.Sink.written c.args.out.now) (g.K.Sink.written c.events.out) c.events.answers
     (Ok next.Undecided) c.events.invariant.progress decides in
     let undecided = c.in_ok-placed.ensures.undecided (ap Ok c.in-Undecided.is) in
     let r = err_from_is_err_and c.from_residual-in_err-read_more-in-Undecided.result c.from_residual-in_err-read_more-in-Undecided.ensures.1 in
     let source = handed_on c.from_residual-in_err-read_more-in-Undecided.result r.0 c.in_err-read_more-in-Undecided.field-0.0 run.Source r.1 r.2 is in
-    writes_decided (record { rules = c.args.rules; references = c.args.refs }) c.events.engine.world c.next_decided.new.self (g.S.Source.left c.args.record_in.now) (g.S.Source.left c.events.record_in)
+    writes_decided (record { rules = c.args.rules; references = c.args.refs.content }) c.events.engine.world c.next_decided.new.self (g.S.Source.left c.args.record_in.now) (g.S.Source.left c.events.record_in)
     (g.S.Source.left c.read_more.new.record_in) (g.K.Sink.written c.args.out.now) (g.K.Sink.written c.events.out) (g.K.Sink.written c.read_more.new.out)
     c.events.answers p undecided.0 undecided.1 c.in_err-read_more-in-Undecided.ensures.kept
     (c.in_err-read_more-in-Undecided.ensures.before_reading (ap Err source))
@@ -134,9 +134,9 @@ returns-in_err-read_more-in-Undecided-clause-decided g c = λ is.
 pub returns-in-End-clause-replays : goal.returns-in-End-clause-replays
 returns-in-End-clause-replays g c =
     let decides = rw c.in-End.is at c.in_ok-placed.ensures.decides in
-    replays_end (record { rules = c.args.rules; references = c.args.refs }) c.events.engine.world c.next_decided.new.self (g.S.Source.left c.args.record_in.now) (g.S.Source.left c.events.record_in)
+    replays_end (record { rules = c.args.rules; references = c.args.refs.content }) c.events.engine.world c.next_decided.new.self (g.S.Source.left c.args.record_in.now) (g.S.Source.left c.events.record_in)
     (g.K.Sink.written c.args.out.now) (g.K.Sink.written c.events.out) c.events.answers
-    (progress_decides (record { rules = c.args.rules; references = c.args.refs }) c.events.engine.world c.events.reader c.next_decided.new.self (g.S.Source.left c.args.record_in.now)
+    (progress_decides (record { rules = c.args.rules; references = c.args.refs.content }) c.events.engine.world c.events.reader c.next_decided.new.self (g.S.Source.left c.args.record_in.now)
     (g.S.Source.left c.events.record_in) (g.K.Sink.written c.args.out.now) (g.K.Sink.written c.events.out) c.events.answers
     (Ok next.End) c.events.invariant.progress decides)
     (λ is. c.events.invariant.ended (sym decides.ended ∙ is))
@@ -150,17 +150,17 @@ returns-in_err-placed-clause-too_large g c = λ is.
 pub returns-in_err-answer_event-in-Event-clause-too_large : goal.returns-in_err-answer_event-in-Event-clause-too_large
 returns-in_err-answer_event-in-Event-clause-too_large g c = λ is.
     let decides = rw c.in-Event.is at c.in_ok-placed.ensures.decides in
-    let p = progress_decides (record { rules = c.args.rules; references = c.args.refs }) c.events.engine.world c.events.reader c.next_decided.new.self (g.S.Source.left c.args.record_in.now)
+    let p = progress_decides (record { rules = c.args.rules; references = c.args.refs.content }) c.events.engine.world c.events.reader c.next_decided.new.self (g.S.Source.left c.args.record_in.now)
     (g.S.Source.left c.events.record_in) (g.K.Sink.written c.args.out.now) (g.K.Sink.written c.events.out) c.events.answers
     (Ok (next.Event c.in-Event.placed)) c.events.invariant.progress decides in
     let r = err_from_is_err_and c.from_residual-in_err-answer_event-in-Event.result c.from_residual-in_err-answer_event-in-Event.ensures.1 in
     let large = handed_on c.from_residual-in_err-answer_event-in-Event.result r.0 c.in_err-answer_event-in-Event.field-0.0 run.TooLarge r.1 r.2 is in
     let there = c.in_err-answer_event-in-Event.ensures.too_large (ap Err large) in (
-      subst (λ count. Rose count (g.M.ReMaker.too_large c.answer_event.new.maker)) c.events.invariant.too_large there.0,
-      replays_asks (record { rules = c.args.rules; references = c.args.refs }) c.events.engine.world c.answer_event.new.engine.world c.next_decided.new.self (g.S.Source.left c.args.record_in.now)
+      subst (λ count. Rose count (g.M.ReMaker.state c.answer_event.new.maker).too_large) c.events.invariant.too_large there.0,
+      replays_asks (record { rules = c.args.rules; references = c.args.refs.content }) c.events.engine.world c.answer_event.new.engine.world c.next_decided.new.self (g.S.Source.left c.args.record_in.now)
           (g.S.Source.left c.events.record_in) (g.K.Sink.written c.args.out.now) (g.K.Sink.written c.events.out) (g.K.Sink.written c.answer_event.new.out)
           c.in-Event.placed c.events.answers c.answer_event.new.answers c.in_err-answer_event-in-Event.field-0.0
-          (g.M.ReMaker.large c.answer_event.new.maker) p (λ is. c.events.invariant.ended (sym decides.ended ∙ is)) large
+          (g.M.ReMaker.state c.answer_event.new.maker).large p (λ is. c.events.invariant.ended (sym decides.ended ∙ is)) large
           c.in_err-answer_event-in-Event.ensures.answers there.1,
     )
 

@@ -7,15 +7,15 @@ use Rattle.hxeval.proofs.replay.gather.Given as goal
 
 abbrev pub invariant-events : goal.invariant-events
 invariant-events g l = record {
-  progress : Progress AreSame (record { rules = l.fn.rules; references = l.fn.refs }) l.engine.world l.reader (g.S.Source.left l.fn.record_in)
+  progress : Progress AreSame (record { rules = l.fn.rules; references = l.fn.refs.content }) l.engine.world l.reader (g.S.Source.left l.fn.record_in)
       (g.S.Source.left l.record_in) (g.K.Sink.written l.fn.out) (g.K.Sink.written l.out) l.answers;
   within : l.reader.at ≤ record_limit;
   ended : l.reader.ended ≡ true → IsAtEnd (g.S.Source.left l.record_in);
   running : l.engine.stopped ≡ None;
   source : g.S.Source.faults l.fn.record_in ≤ g.S.Source.faults l.record_in;
   sink : g.K.Sink.faults l.fn.out ≤ g.K.Sink.faults l.out;
-  too_large : g.M.ReMaker.too_large l.maker ≡ g.M.ReMaker.too_large l.fn.maker;
-  large : g.M.ReMaker.large l.maker ≡ g.M.ReMaker.large l.fn.maker;
+  too_large : (g.M.ReMaker.state l.maker).too_large ≡ (g.M.ReMaker.state l.fn.maker).too_large;
+  large : (g.M.ReMaker.state l.maker).large ≡ (g.M.ReMaker.state l.fn.maker).large;
 }
 
 abbrev pub decreases-events : goal.decreases-events

@@ -61,7 +61,7 @@ returns-in_err-rules-clause-too_large g c = λ is.
       rose,
       inl (
         load_judges (setting c.args.env.now (g.F.Files.held c.args.files.now) (asked_of c.args.command) (g.S.Source.left c.args.record_in.now))
-            (g.F.Files.held c.read.new.self) c.usual.result c.in_ok-config.config.items c.as_slice.result.now (g.M.ReMaker.large c.load.new.maker)
+            (g.F.Files.held c.read.new.self) c.usual.result c.in_ok-config.config.items c.as_slice.result.now (g.M.ReMaker.state c.load.new.maker).large
             (reads_config (setting c.args.env.now (g.F.Files.held c.args.files.now) (asked_of c.args.command) (g.S.Source.left c.args.record_in.now)) (g.F.Files.held c.read.new.self) c.usual.result c.in_ok-config.config.items c.as_slice.result.now
             c.in_ok-config.ensures.bytes c.in_ok-config.ensures.same c.usual.ensures c.as_slice.ensures.value)
             judged,
@@ -79,7 +79,7 @@ returns-in_err-rules-clause-named g c =
     c.in_ok-config.ensures.kept c.in_err-rules.ensures.named
 
 pub replay-requires : goal.replay-requires
-replay-requires g c = fits c.in_ok-rules.refs c.in_ok-rules.rules c.in_ok-rules.ensures.heads c.in_ok-rules.ensures.lists
+replay-requires g c = fits c.in_ok-rules.refs.content c.in_ok-rules.rules c.in_ok-rules.ensures.heads c.in_ok-rules.ensures.lists
 
 pub returns-in-Replay-clause-attempted : goal.returns-in-Replay-clause-attempted
 returns-in-Replay-clause-attempted g c =
@@ -113,7 +113,7 @@ returns-in-Replay-clause-too_large g c = λ is.
       rw (c.in_ok-rules.ensures.uncounted (λ is. cc)).0 at rose,
       inr (run_asks (setting c.args.env.now (g.F.Files.held c.args.files.now) (asked_of c.args.command) (g.S.Source.left c.args.record_in.now))
           (g.F.Files.held c.read.new.self) c.usual.result c.in_ok-config.config.items c.as_slice.result.now c.in_ok-rules.rules c.in_ok-rules.refs
-          (g.M.ReMaker.large c.replay.new.maker) c.in-Replay.is
+          (g.M.ReMaker.state c.replay.new.maker).large c.in-Replay.is
           (reads_config (setting c.args.env.now (g.F.Files.held c.args.files.now) (asked_of c.args.command) (g.S.Source.left c.args.record_in.now)) (g.F.Files.held c.read.new.self) c.usual.result c.in_ok-config.config.items c.as_slice.result.now
           c.in_ok-config.ensures.bytes c.in_ok-config.ensures.same c.usual.ensures c.as_slice.ensures.value)
           c.in_ok-rules.ensures.loads asks),
