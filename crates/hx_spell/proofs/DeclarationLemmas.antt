@@ -18,9 +18,10 @@ use Rattle.hx_base.specs.Results.{◌>>=◌}
 use Rattle.hx_spell.specs.Codes.{bad_argument, unsupported}
 use Rattle.hx_spell.specs.Criteria.{Criterion, criterion_of}
 use Rattle.hx_spell.specs.Declarations.{Way, decl_by, decl_of, decl_reading, file_heads, has_no_patterns, heads_of_keys, ignores_case, pattern_decl, way_of, way_of_kind, words_head}
-use Rattle.hx_spell.specs.Flags.{AfterFlags, Flag, Flags, IgnoreCase, TwoColumns, Numeric, File, Method, Number, End, begins_as_flag, flag_argument, flag_table, flag_word, flags_end, flags_from, may_stand, method_table, no_flags}
+use Rattle.hx_spell.specs.Flags.{AfterFlags, Flag, Flags, begins_as_flag, flag_argument, flag_table, flag_word, flags_end, flags_from, may_stand, method_table, no_flags}
+use Rattle.hx_spell.specs.Flags.Flag.{IgnoreCase, TwoColumns, Numeric, File, Method, Number, End}
 use Rattle.hx_spell.specs.Known.{Known, Reading, reading, reference_form, with_named_file, with_reference}
-use Rattle.hx_spell.specs.Patterns.{Keys, Operator, compares_numbers, key_or_fault, keys_of, number_keys, operator_table, word_key}
+use Rattle.hx_spell.specs.Patterns.{Keys, Operator, compares_numbers, key_or_fault, keys_of, number_keys, operator_table}
 use Rattle.hx_spell.specs.AclRelation.{SpellDecl}
 use Rattle.hx_spell.specs.Tables.{entry_at}
 use Rattle.hx_spell.proofs.CriterionFormLemmas.{named_file_coded, reference_coded}
@@ -234,9 +235,9 @@ numbers_coded : (operator : Operator) (words : List (List ℕ))
 numbers_coded operator [] = tt
 numbers_coded operator (word ∷ words) =
     next_coded (entry_at operator_table word) (λ next. number_keys next words)
-    (key_or_fault (word_key operator word) (number_keys operator words))
+    (key_or_fault (operator word) (number_keys operator words))
     (λ next. numbers_coded next words)
-    (key_coded (word_key operator word) (number_keys operator words) (numbers_coded operator words))
+    (key_coded (operator word) (number_keys operator words) (numbers_coded operator words))
 
 keys_tested : (b : Bool) (first second : Keys) → IsCode first.fault → IsCode second.fault
     → IsCode (cond b first second).fault

@@ -6,9 +6,10 @@ use Rattle.std.proofs.lemmas.Option.{same_Some, none-some}
 use Rattle.std.proofs.lemmas.Slice.Eq.{bytes_eq-Decides}
 use Rattle.hx_spell.specs.declared.fault.SpellFault.{SpellFault}
 use Rattle.hx_spell.specs.Codes.{bad_argument, unsupported}
-use Rattle.hx_spell.specs.Flags.{AfterFlags, Flag, Flags, IgnoreCase, TwoColumns, Numeric, File, Method, Number, End, begins_as_flag, flag_argument, flag_table, flag_word, flags_end, flags_from, may_stand}
+use Rattle.hx_spell.specs.Flags.{AfterFlags, Flag, Flags, begins_as_flag, flag_argument, flag_table, flag_text, flag_word, flags_end, flags_from, may_stand}
+use Rattle.hx_spell.specs.Flags.Flag.{IgnoreCase, TwoColumns, Numeric, File, Method, Number, End}
 use Rattle.hx_spell.specs.Known.{Known, Reading}
-use Rattle.hx_spell.specs.AclRelation.{EndFlags, SpellFlags, flag_alone, flag_text, takes_argument}
+use Rattle.hx_spell.specs.AclRelation.{EndFlags, SpellFlags, flag_alone, takes_argument}
 use Rattle.hx_spell.specs.AclRelation.SpellFlags.{NoFlags, FlagAlone, FlagWithArgument}
 use Rattle.hx_spell.specs.Tables.{Table, entry_at}
 use Rattle.hx_spell.proofs.ResultLemmas.{and_then_ok}

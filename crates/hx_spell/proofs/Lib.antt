@@ -19,6 +19,7 @@ pub mod DistinctLemmas
 pub mod ExpressionFormLemmas
 pub mod ExpressionLemmas
 pub mod FlagLemmas
+pub mod FlagTableLemmas
 pub mod FormLemmas
 pub mod FormatFormLemmas
 pub mod FormatReadLemmas
@@ -33,6 +34,7 @@ pub mod LineSpellLemmas
 pub mod LineSteps
 pub mod LineTableLemmas
 pub mod NumberTextLemmas
+pub mod PatternTableLemmas
 pub mod ResultLemmas
 pub mod RowLemmas
 pub mod SoundActionLemmas

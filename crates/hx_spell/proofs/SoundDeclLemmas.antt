@@ -14,7 +14,7 @@ use Rattle.hx_spell.specs.declared.table_specs.HeadSpec.{HeadSpec}
 use Rattle.hx_spell.specs.Codes.{bad_argument, unsupported}
 use Rattle.hx_spell.specs.Declarations.{Way, decl_of, decl_reading, file_heads, has_no_patterns, heads_of_keys, ignores_case, pattern_decl, words_head}
 use Rattle.hx_spell.specs.Flags.{AfterFlags, Flag, Flags, Searched, flag_argument, method_table}
-use Rattle.hx_spell.specs.Flags.{IgnoreCase, TwoColumns, Numeric, File, Method, Number}
+use Rattle.hx_spell.specs.Flags.Flag.{IgnoreCase, TwoColumns, Numeric, File, Method, Number}
 use Rattle.hx_spell.specs.Heads.{DeclNames, IsHeadBy, NamesHead}
 use Rattle.hx_spell.specs.Known.{Known, Reading, reading, reference_form, with_acl, with_head, with_named_file, with_reference}
 use Rattle.hx_spell.specs.Patterns.{keys_of}

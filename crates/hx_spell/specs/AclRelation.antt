@@ -5,20 +5,11 @@ use Rattle.hx_ast.specs.declared.Decl.{Decl}
 use Rattle.hx_spell.specs.Criteria.{Criterion}
 use Rattle.hx_spell.specs.Declarations.{Way, decl_by, way_of}
 use Rattle.hx_spell.specs.ExpressionRelation.{WritesCriterion}
-use Rattle.hx_spell.specs.Flags.{Flag, Flags, begins_as_flag, flag_argument, may_stand, no_flags}
-use Rattle.hx_spell.specs.Flags.{IgnoreCase, TwoColumns, Numeric, File, Method, Number, End}
+use Rattle.hx_spell.specs.Flags.{Flag, Flags, begins_as_flag, flag_argument, flag_text, may_stand, no_flags}
+use Rattle.hx_spell.specs.Flags.Flag.{IgnoreCase, TwoColumns, Numeric, File, Method, Number}
 use Rattle.hx_spell.specs.Known.{Known, Reading, reading}
 
 -- ---- flags
-
-abbrev pub flag_text : Flag → List ℕ
-flag_text IgnoreCase = codes "-i"
-flag_text TwoColumns = codes "-M"
-flag_text Numeric = codes "-n"
-flag_text File = codes "-f"
-flag_text Method = codes "-m"
-flag_text Number = codes "-u"
-flag_text End = codes "--"
 
 -- what a flag without an argument changes; none for the others
 abbrev pub flag_alone : Flag → Flags → Option Flags

@@ -22,9 +22,6 @@ use Rattle.hx_ast.specs.declared.Conv.TheVariants as conv
 use Rattle.hx_ast.specs.declared.Expr.{Expr}
 use Rattle.hx_ast.specs.declared.Fetch.{Fetch}
 use Rattle.hx_spell.specs.declared.fault.SpellFault.{SpellFault}
-pub use Rattle.hx_spell.specs.declared.criteria.Criterion.{Criterion}
-pub use Rattle.hx_spell.specs.declared.criteria.MapWay.{MapWay}
-pub use Rattle.hx_spell.specs.declared.criteria.MethodFetch.{MethodFetch}
 use Rattle.hx_spell.specs.Codes.{bad_argument, form_fault, unsupported}
 use Rattle.hx_base.specs.Results.{◌>>=◌}
 use Rattle.hx_spell.specs.Arguments.{counted, optional}
@@ -33,6 +30,11 @@ use Rattle.hx_spell.specs.Known.{Known, Reading, nothing_known, with_head, with_
 use Rattle.hx_spell.specs.Tables.{Maker, Table, conv_table, entry_at, fetch_table}
 
 -- ---- maps
+
+-- how a map is searched, and the type of its values
+pub record MapWay : Type 0 where
+  pub by : By
+  pub out : Out
 
 abbrev pub map_way : By → Out → MapWay
 map_way by out = record { by = by; out = out }
@@ -103,7 +105,7 @@ convs_after line (step ∷ steps) known = do
 
 -- ---- fetches with a method in their names
 
--- a fetch, and the match method that its name brings, if it brings one
+-- what makes a fetch of arguments, and the match method of its name
 pub record FetchWay : Type 0 where
   pub make : Maker Fetch
   pub by : Option By
@@ -134,6 +136,11 @@ fetch_way name =
     option_or (option_map (way_with None) (entry_at fetch_table name))
     (option_and_then derived_of_parts (cut_of (ascii "_") name))
 
+-- a fetch, and the match method that its name brings, if it brings one
+pub record MethodFetch : Type 0 where
+  pub fetch : Fetch
+  pub by : Option By
+
 abbrev pub fetch_by : Option FetchWay → List (List ℕ) → Result MethodFetch SpellFault
 fetch_by None args = Err unsupported
 fetch_by (Some way) args = way.make args >>= (λ f. Ok (record { fetch = f; by = way.by }))
@@ -147,6 +154,11 @@ abbrev pub fetch_step : Step → Result MethodFetch SpellFault
 fetch_step (Last call rest) = fetch_by (fetch_way call.name) call.args
 fetch_step (More call rest) = fetch_by (fetch_way call.name) call.args
 fetch_step (Faulty name fault) = fetch_fault_by (fetch_way name) fault
+
+-- an expression, and the match method that the name of its fetch brings, if it brings one
+pub record Criterion : Type 0 where
+  pub expr : Expr
+  pub by : Option By
 
 abbrev pub criterion : MethodFetch → Reading (List Conv) → Reading Criterion
 criterion first convs =

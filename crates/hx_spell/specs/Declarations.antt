@@ -9,7 +9,6 @@ use Rattle.hx_ast.specs.declared.Decl.{Decl}
 use Rattle.hx_ast.specs.declared.Expr.{Expr}
 use Rattle.hx_ast.specs.Acls.{compares_texts, takes_patterns}
 use Rattle.hx_ast.specs.Types.{expr_kind}
-pub use Rattle.hx_spell.specs.declared.declarations.Way.{Way}
 use Rattle.hx_spell.specs.declared.fault.SpellFault.{SpellFault}
 use Rattle.hx_spell.specs.Codes.{bad_argument}
 use Rattle.hx_base.specs.Results.{◌>>=◌}
@@ -17,6 +16,11 @@ use Rattle.hx_spell.specs.Criteria.{criterion_of}
 use Rattle.hx_spell.specs.Flags.{AfterFlags, Flags, Searched, flags_from, no_flags}
 use Rattle.hx_spell.specs.Known.{Known, Reading, reference_form, with_acl, with_head, with_reference, reading}
 use Rattle.hx_spell.specs.Patterns.{keys_of}
+
+-- a match method, and whether it ignores the case of letters in all that it compares
+pub record Way : Type 0 where
+  pub by : By
+  pub folds : Bool
 
 abbrev pub way_by : By → Bool → Result Way SpellFault
 way_by by folds = Ok (record { by = by; folds = folds })

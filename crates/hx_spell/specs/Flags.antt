@@ -9,29 +9,52 @@ use Rattle.hx_text.specs.Methods.{method_name, methods}
 use Rattle.hx_text.specs.Network.{width_of}
 use Rattle.hx_ast.specs.Acls.{takes_patterns}
 use Rattle.hx_spell.specs.declared.fault.SpellFault.{SpellFault}
-pub use Rattle.hx_spell.specs.declared.flag_table.Flag.{Flag}
-pub use Rattle.hx_spell.specs.declared.flag_table.Flag.TheVariants.{IgnoreCase, TwoColumns, Numeric, File, Method, Number, End}
-pub use Rattle.hx_spell.specs.declared.flag_table.Flags.{Flags}
-pub use Rattle.hx_spell.specs.declared.flag_table.Searched.{Searched}
 use Rattle.hx_spell.specs.Codes.{bad_argument, unsupported}
 use Rattle.hx_base.specs.Results.{◌>>=◌}
 use Rattle.hx_spell.specs.Known.{Known, Reading, with_acl, with_named_file, reading}
 use Rattle.hx_spell.specs.Tables.{Table, entry_at}
 
+-- the reference of a file that an ACL searches, and whether it ignores the case of letters there
+pub record Searched : Type 0 where
+  pub table : ℕ
+  pub ci : Bool
+
+-- What flags say: whether what follows ignores the case of letters, whether the files that follow
+-- have two columns, the match method, the number of the inline patterns, and the files.
+pub record Flags : Type 0 where
+  pub ci : Bool
+  pub two : Bool
+  pub by : Option By
+  pub given : Option ℕ
+  pub files : List Searched
+
 -- before the first flag
 abbrev pub no_flags : Option By → Flags
 no_flags by = record { ci = false; two = false; by = by; given = None; files = [] }
 
+-- a flag
+pub data Flag : Type 0 where
+  IgnoreCase : Flag
+  TwoColumns : Flag
+  Numeric : Flag
+  File : Flag
+  Method : Flag
+  Number : Flag
+  End : Flag
+
+-- the word of a flag
+abbrev pub flag_text : Flag → List ℕ
+flag_text IgnoreCase = codes "-i"
+flag_text TwoColumns = codes "-M"
+flag_text Numeric = codes "-n"
+flag_text File = codes "-f"
+flag_text Method = codes "-m"
+flag_text Number = codes "-u"
+flag_text End = codes "--"
+
 unfoldable pub flag_table : Table Flag
-flag_table =
-    (codes "-i", IgnoreCase)
-    ∷ (codes "-M", TwoColumns)
-    ∷ (codes "-n", Numeric)
-    ∷ (codes "-f", File)
-    ∷ (codes "-m", Method)
-    ∷ (codes "-u", Number)
-    ∷ (codes "--", End)
-    ∷ []
+flag_table = map (λ flag. (flag_text flag, flag))
+    (IgnoreCase ∷ TwoColumns ∷ Numeric ∷ File ∷ Method ∷ Number ∷ End ∷ [])
 
 -- the match methods, as `-m` names them
 unfoldable pub method_table : Table By

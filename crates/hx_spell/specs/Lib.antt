@@ -26,6 +26,8 @@ pub mod Heads
 pub mod KnownView
 pub mod TableView
 pub mod CriterionView
+pub mod FlagView
+pub mod PatternView
 pub mod FormatView
 pub mod ActionView
 pub mod ConditionView

@@ -13,7 +13,6 @@ use Rattle.hx_ast.specs.declared.Statement.{Statement}
 use Rattle.hx_ast.specs.declared.Statement.TheVariants as statement
 use Rattle.hx_ast.specs.declared.Term.{Term}
 use Rattle.hx_spell.specs.declared.fault.SpellFault.{SpellFault}
-pub use Rattle.hx_spell.specs.declared.line.When.{When}
 use Rattle.hx_spell.specs.Actions.{Taken, action_words, format_word, head_of_step, with_redirect}
 use Rattle.hx_base.specs.Results.{◌>>=◌}
 use Rattle.hx_spell.specs.Codes.{bad_argument, bad_name, misplaced, unsupported}
@@ -78,6 +77,11 @@ acl_of line (name ∷ words) known =
 -- the words that a condition follows, with whether they turn it round
 unfoldable pub polarity_table : Table Bool
 polarity_table = (codes "if", false) ∷ (codes "unless", true) ∷ []
+
+-- whether a condition is turned round, and the condition, if there is one
+pub record When : Type 0 where
+  pub unless : Bool
+  pub cond : Option (List (List Term))
 
 abbrev pub when_reading : Bool → Option (List (List Term)) → Known → Reading When
 when_reading unless cond known = reading (record { unless = unless; cond = cond }) known

@@ -8,17 +8,10 @@ use Rattle.hx_base.specs.Bytes.{ascii}
 use Rattle.hx_text.specs.declared.By.{By}
 use Rattle.hx_text.specs.declared.By.TheVariants as method
 use Rattle.hx_text.specs.Number.{int_of}
-pub use Rattle.hx_spell.specs.declared.patterns.Keys.{Keys}
-pub use Rattle.hx_spell.specs.declared.patterns.Operator.{Operator}
-pub use Rattle.hx_spell.specs.declared.patterns.Operator.TheVariants.{Equal, AtLeast, Above, AtMost, Below}
+use Rattle.hx_spell.specs.declared.fault.SpellFault.{SpellFault}
 use Rattle.hx_spell.specs.Codes.{bad_argument}
 use Rattle.hx_spell.specs.Tables.{Table, entry_at}
 use Rattle.hx_spell.specs.Values.{is_among}
-
-unfoldable pub operator_table : Table Operator
-operator_table =
-    (codes "eq", Equal) ∷ (codes "ge", AtLeast) ∷ (codes "gt", Above) ∷ (codes "le", AtMost)
-    ∷ (codes "lt", Below) ∷ []
 
 -- numbers from this text on, and up to it
 abbrev pub from_text : List ℕ → List ℕ
@@ -27,25 +20,34 @@ from_text text = text ++ ascii ":" ∷ []
 abbrev pub up_to_text : List ℕ → List ℕ
 up_to_text text = ascii ":" ∷ text
 
--- the key of a number, or of a word that is none, which no number then hits
-abbrev pub operator_key : Operator → List ℕ → Option ℤ → List ℕ
-operator_key Equal word n = word
-operator_key AtLeast word n = from_text (option_map_or signed_decimal n word)
-operator_key Above word n = from_text (option_map_or (λ i. signed_decimal (i +ℤ pos 1)) n word)
-operator_key AtMost word n = up_to_text (option_map_or signed_decimal n word)
-operator_key Below word n = up_to_text (option_map_or (λ i. signed_decimal (i -ℤ pos 1)) n word)
+-- an operator is the key of a word after it, and none where the word may not follow it
+abbrev pub Operator : Type 0
+Operator = List ℕ → Option (List ℕ)
 
--- after any operator but `eq`, a range isn't allowed
-abbrev pub allows_range : Operator → Bool
-allows_range Equal = true
-allows_range _ = false
+-- the word itself, which may be a range
+abbrev pub equal : List ℕ → Option (List ℕ)
+equal word = Some word
 
--- the key of a word after an operator, and none where it is a range that isn't allowed
-abbrev pub word_key : Operator → List ℕ → Option (List ℕ)
-word_key operator word =
-    if is_among word (ascii ":")
-    then (if allows_range operator then Some word else None)
-    else Some (operator_key operator word (int_of word))
+-- The numbers from a bound on, or up to it; a range isn't allowed. Of a word that is no number it
+-- is a key that no number hits.
+abbrev pub bounded : (List ℕ → List ℕ) → (ℤ → ℤ) → List ℕ → Option (List ℕ)
+bounded range bound word =
+    if is_among word (ascii ":") then None
+    else Some (range (option_map_or (λ n. signed_decimal (bound n)) (int_of word) word))
+
+unfoldable pub operator_table : Table Operator
+operator_table =
+    (codes "eq", equal)
+    ∷ (codes "ge", bounded from_text (λ n. n))
+    ∷ (codes "gt", bounded from_text (λ n. n +ℤ pos 1))
+    ∷ (codes "le", bounded up_to_text (λ n. n))
+    ∷ (codes "lt", bounded up_to_text (λ n. n -ℤ pos 1))
+    ∷ []
+
+-- the keys of words, and the fault of the word after them, if it has one
+pub record Keys : Type 0 where
+  pub keys : List (List ℕ)
+  pub fault : Option SpellFault
 
 abbrev pub key_or_fault : Option (List ℕ) → Keys → Keys
 key_or_fault (Some key) more = record { keys = key ∷ more.keys; fault = more.fault }
@@ -57,7 +59,7 @@ abbrev pub number_keys : Operator → List (List ℕ) → Keys
 number_keys operator [] = record { keys = []; fault = None }
 number_keys operator (word ∷ words) =
     option_map_or (λ next. number_keys next words) (entry_at operator_table word)
-    (key_or_fault (word_key operator word) (number_keys operator words))
+    (key_or_fault (operator word) (number_keys operator words))
 
 -- whether the method compares numbers
 abbrev pub compares_numbers : By → Bool
@@ -68,4 +70,4 @@ compares_numbers _ = false
 -- the keys of inline patterns
 abbrev pub keys_of : By → List (List ℕ) → Keys
 keys_of by words =
-    if compares_numbers by then number_keys Equal words else record { keys = words; fault = None }
+    if compares_numbers by then number_keys equal words else record { keys = words; fault = None }

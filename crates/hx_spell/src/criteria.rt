@@ -29,6 +29,7 @@ use hx_ast::{Conv, Convs, Expr, Fetch, Items};
 use hx_text::{By, NoMemory, Octets, Out, cut_at, read_i64, read_ip};
 use hx_words::{ArgFault, Call, CallStep, laws, next_call};
 use std::alloc::Global;
+use std::marker::Model;
 
 /// The criterion of an ACL: an expression, and the match method that the name of its fetch brings,
 /// if it brings one.
@@ -38,11 +39,27 @@ pub(crate) struct Criterion {
     pub(crate) by: Option<By>,
 }
 
+impl Model for Criterion {
+    ghost use Rattle.hx_spell.specs.Criteria.{Criterion};
+
+    ghost Value = { Criterion };
+
+    ghost view = { λ criterion. record { expr = criterion.expr; by = criterion.by } };
+}
+
 /// The fetch of a criterion, and the method of its name.
 #[derive(Drop)]
 pub(crate) struct MethodFetch {
     pub(crate) fetch: Fetch,
     pub(crate) by: Option<By>,
+}
+
+impl Model for MethodFetch {
+    ghost use Rattle.hx_spell.specs.Criteria.{MethodFetch};
+
+    ghost Value = { MethodFetch };
+
+    ghost view = { λ found. record { fetch = found.fetch; by = found.by } };
 }
 
 /// What the name of a fetch says in a criterion.
@@ -57,6 +74,16 @@ pub(crate) struct FetchWay {
 pub(crate) struct MapWay {
     pub(crate) by: By,
     pub(crate) out: Out,
+}
+
+impl Model for MapWay {
+    ghost use Rattle.hx_spell.specs.Criteria.{MapWay};
+
+    ghost Value = { MapWay };
+
+    ghost view = { λ way. record { by = way.by; out = way.out } };
+
+    ghost inverse = { λ way. record { by = way.by; out = way.out } };
 }
 
 fn map_way(name: &[u8]) -> Option<MapWay>

@@ -16,12 +16,23 @@ use crate::table_specs::HeadSpec;
 use hx_ast::{Decl, Expr, Heads, Items};
 use hx_text::{By, Kind, NoMemory, Octets};
 use std::alloc::Global;
+use std::marker::Model;
 
 /// A match method, and whether it ignores the case of letters in all that it compares.
 #[derive(Clone, Copy)]
 pub(crate) struct Way {
     by: By,
     folds: bool,
+}
+
+impl Model for Way {
+    ghost use Rattle.hx_spell.specs.Declarations.{Way};
+
+    ghost Value = { Way };
+
+    ghost view = { λ way. record { by = way.by; folds = way.folds } };
+
+    ghost inverse = { λ way. record { by = way.by; folds = way.folds } };
 }
 
 /// The way of an ACL whose method isn't said, by the type of its values. Code 10 for binary values
@@ -115,17 +126,17 @@ fn heads_of_keys(
     line: u64,
     way: Way,
     flags: &Flags,
-    keys: &Keys,
+    keys: &[Octets],
+    fault: Option<SpellFault>,
     heads: Heads,
 ) -> Result<Heads, SpellFault>
-    ensures answers { ReadsAs result known.new
-        (heads_of_keys line way flags.now keys.now.keys keys.now.fault
+    ensures answers { ReadsAs result known.new (heads_of_keys line way flags.now keys.now fault
         (record { value = heads; known = known.old })) }
     ensures extends { Extends known.old known.new }
 {
     let mut heads = heads;
-    if keys.keys.len() == 0 {
-        if let Some(fault) = keys.fault {
+    if keys.is_empty() {
+        if let Some(fault) = fault {
             return Err(fault);
         }
         if flags.given.is_some() {
@@ -133,9 +144,9 @@ fn heads_of_keys(
         }
         return Ok(heads);
     }
-    let words = copies(alloc, keys.keys.as_slice())?;
+    let words = copies(alloc, keys)?;
     let table = known.inline(line, flags.given, words)?;
-    if let Some(fault) = keys.fault {
+    if let Some(fault) = fault {
         return Err(fault);
     }
     heads.push(words_head(known, way, flags.ci, table)?)?;
@@ -154,15 +165,25 @@ fn pattern_decl(
     ensures answers { ReadsAs result known.new (pattern_decl line expr way after.entry known.old) }
     ensures extends { Extends known.old known.new }
 {
-    let keys = keys_of(alloc, way.by, after.words)?;
-    let heads = file_heads(known, alloc, way, after.flags.files.as_slice())?;
-    let heads = heads_of_keys(known, alloc, line, way, &after.flags, &keys, heads)?;
+    let AfterFlags { flags, words } = after;
+    let Keys { keys, fault } = keys_of(alloc, way.by, words)?;
+    let heads = file_heads(known, alloc, way, flags.files.as_slice())?;
+    let heads = heads_of_keys(
+        known,
+        alloc,
+        line,
+        way,
+        &flags,
+        keys.as_slice(),
+        fault,
+        heads,
+    )?;
     Ok(Decl {
         expr,
         by: way.by,
-        ci: ignores_case(way, after.flags.ci),
+        ci: ignores_case(way, flags.ci),
         heads,
-        words: keys.keys,
+        words: keys,
     })
 }
 

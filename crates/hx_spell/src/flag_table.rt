@@ -1,5 +1,6 @@
 use hx_ast::Items;
 use hx_text::By;
+use std::marker::Model;
 
 /// The flags of an ACL by their words (HAProxy configuration manual 2.4, section 7.1).
 pub(crate) const FLAGS: [(&[u8], Flag); 7] = [
@@ -55,6 +56,16 @@ pub(crate) struct Searched {
     pub(crate) ci: bool,
 }
 
+impl Model for Searched {
+    ghost use Rattle.hx_spell.specs.Flags.{Searched};
+
+    ghost Value = { Searched };
+
+    ghost view = { λ searched. record { table = searched.table; ci = searched.ci } };
+
+    ghost inverse = { λ searched. record { table = searched.table; ci = searched.ci } };
+}
+
 /// What the flags up to a place say.
 #[derive(Drop)]
 pub(crate) struct Flags {
@@ -68,4 +79,18 @@ pub(crate) struct Flags {
     pub(crate) given: Option<u32>,
     /// the files
     pub(crate) files: Items<Searched>,
+}
+
+impl Model for Flags {
+    ghost use Rattle.hx_spell.specs.Flags.{Flags};
+
+    ghost Value = { Flags };
+
+    ghost view = { λ flags. record {
+      ci = flags.ci;
+      two = flags.two;
+      by = flags.by;
+      given = flags.given;
+      files = flags.files;
+    } };
 }

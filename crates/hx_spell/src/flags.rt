@@ -1,5 +1,7 @@
-ghost use Rattle.std.specs.Prelude.{◌≡◌, None};
+ghost use Rattle.std.specs.Prelude.{◌≡◌, None, option_map};
 ghost use Rattle.hx_ast.specs.Acls.{takes_patterns};
+ghost use Rattle.hx_spell.specs.FlagView.{flag_of};
+ghost use Rattle.hx_spell.specs.Flags.Flag.{File};
 ghost use Rattle.hx_spell.specs.Flags.{flag_table, method_table, begins_as_flag, may_stand};
 ghost use Rattle.hx_spell.specs.Flags.{flag_argument, flags_from, no_flags};
 ghost use Rattle.hx_spell.specs.Known.{ReadsAs, Extends};
@@ -30,9 +32,8 @@ impl<'a> Model for AfterFlags<'a> {
     ghost view = { λ after. record { flags = after.flags; words = after.words.now } };
 }
 
-#[tactic(auto, unfolding(crate::specs::Flags::flag_table))]
 fn flag_at(word: &[u8]) -> Option<Flag>
-    ensures { result ≡ entry_at flag_table word.now }
+    ensures { entry_at flag_table word.now ≡ option_map flag_of result }
 {
     lookup(&FLAGS, word)
 }
@@ -68,7 +69,7 @@ pub(crate) fn takes_patterns(by: By) -> bool
 /// Whether a flag may follow these: a method or a number once, and a file where the method isn't
 /// one without patterns.
 fn may_stand(flag: Flag, flags: &Flags) -> bool
-    ensures { result ≡ may_stand flag flags.now }
+    ensures { result ≡ may_stand (flag_of flag) flags.now }
 {
     match flag {
         Flag::Method => flags.by.is_none(),
@@ -89,7 +90,7 @@ fn with_file(
     flags: Flags,
 ) -> Result<Flags, SpellFault>
     ensures answers { ReadsAs result known.new
-        (flag_argument line Flag.File name.now flags known.old) }
+        (flag_argument line File name.now flags known.old) }
     ensures extends { Extends known.old known.new }
 {
     let mut flags = flags;
@@ -111,7 +112,7 @@ fn with_argument(
     flags: Flags,
 ) -> Result<Flags, SpellFault>
     ensures answers { ReadsAs result known.new
-        (flag_argument line flag text.now flags known.old) }
+        (flag_argument line (flag_of flag) text.now flags known.old) }
     ensures extends { Extends known.old known.new }
 {
     match flag {

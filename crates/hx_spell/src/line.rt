@@ -21,6 +21,7 @@ use crate::taken::Taken;
 use hx_ast::{Action, Cond, Rule, Statement};
 use hx_text::Octets;
 use std::alloc::Global;
+use std::marker::Model;
 
 /// The first words of statements.
 const KEYWORDS: [(&[u8], Keyword); 14] = [
@@ -190,6 +191,14 @@ fn acl_of(
 struct When {
     unless: bool,
     cond: Option<Cond>,
+}
+
+impl Model for When {
+    ghost use Rattle.hx_spell.specs.Lines.{When};
+
+    ghost Value = { When };
+
+    ghost view = { λ when. record { unless = when.unless; cond = when.cond } };
 }
 
 /// The last words of a rule: none, or a condition.

@@ -1,10 +1,9 @@
-ghost use Rattle.std.specs.Prelude.{◌≡◌, ◌+ℤ◌, ◌-ℤ◌, pos, IfOk, Some, None};
-ghost use Rattle.hx_spell.specs.declared.patterns.Operator.TheVariants.{Equal};
+ghost use Rattle.std.specs.Prelude.{◌≡◌, ◌+ℤ◌, ◌-ℤ◌, pos, IfOk, Some, None, option_map};
 ghost use Rattle.std.specs.Fmt.{signed_decimal};
 ghost use Rattle.hx_text.specs.Number.{int_of};
-ghost use Rattle.hx_spell.specs.Patterns.{operator_table, from_text, up_to_text};
-ghost use Rattle.hx_spell.specs.Patterns.{operator_key, allows_range};
-ghost use Rattle.hx_spell.specs.Patterns.{word_key, number_keys, compares_numbers, keys_of};
+ghost use Rattle.hx_spell.specs.Patterns.{compares_numbers, equal, from_text, keys_of};
+ghost use Rattle.hx_spell.specs.Patterns.{number_keys, operator_table, up_to_text};
+ghost use Rattle.hx_spell.specs.PatternView.{allows_range, key_after, operator_key};
 ghost use Rattle.hx_spell.specs.Tables.{entry_at};
 
 use crate::fault::{BAD_ARGUMENT, SpellFault};
@@ -13,6 +12,7 @@ use crate::values::is_among;
 use hx_ast::{Items, Texts};
 use hx_text::{By, NoMemory, Octets, print_i64, read_i64};
 use std::alloc::Global;
+use std::marker::Model;
 
 /// How a number is compared with the words after an operator.
 #[derive(Clone, Copy)]
@@ -51,9 +51,16 @@ pub(crate) struct Keys {
     pub(crate) fault: Option<SpellFault>,
 }
 
-#[tactic(auto, unfolding(crate::specs::Patterns::operator_table))]
+impl Model for Keys {
+    ghost use Rattle.hx_spell.specs.Patterns.{Keys};
+
+    ghost Value = { Keys };
+
+    ghost view = { λ keys. record { keys = keys.keys; fault = keys.fault } };
+}
+
 fn operator_at(word: &[u8]) -> Option<Operator>
-    ensures { result ≡ entry_at operator_table word.now }
+    ensures { entry_at operator_table word.now ≡ option_map key_after result }
 {
     lookup(&OPERATORS, word)
 }
@@ -151,14 +158,12 @@ fn allows_range(operator: Operator) -> bool
 
 /// The key of a word after an operator, and none where it is a range that may not follow it.
 fn word_key(alloc: Global, operator: Operator, word: &[u8]) -> Result<Option<Octets>, NoMemory>
-    ensures { IfOk result (λ key. key ≡ word_key operator word.now) }
+    ensures { IfOk result (λ key. key ≡ key_after operator word.now) }
 {
-    if is_among(word, b':') {
-        if allows_range(operator) {
-            Ok(Some(Octets::copy(alloc, word)?))
-        } else {
-            Ok(None)
-        }
+    if allows_range(operator) {
+        Ok(Some(Octets::copy(alloc, word)?))
+    } else if is_among(word, b':') {
+        Ok(None)
     } else {
         Ok(Some(operator_key(alloc, operator, word)?))
     }
@@ -167,7 +172,7 @@ fn word_key(alloc: Global, operator: Operator, word: &[u8]) -> Result<Option<Oct
 /// The keys of words that are compared as numbers.
 #[tactic(auto, using(crate::proofs::KeyLemmas::read_on))]
 fn number_keys(alloc: Global, words: &[Octets]) -> Result<Keys, NoMemory>
-    ensures { IfOk result (λ keys. keys ≡ number_keys Equal words.now) }
+    ensures { IfOk result (λ keys. keys ≡ number_keys equal words.now) }
 {
     let mut keys = Items::new(alloc);
     let mut operator = Operator::Equal;

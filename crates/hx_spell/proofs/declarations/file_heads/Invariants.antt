@@ -6,7 +6,7 @@ use Rattle.hx_spell.proofs.declarations.file_heads.Given as goal
 
 abbrev pub invariant-loop-left : goal.invariant-loop-left
 invariant-loop-left l =
-    (file_heads l.way l.files l.fn.known ≡ longer_heads l.heads (file_heads l.way l.left l.known))
+    (file_heads l.fn.way l.files l.fn.known ≡ longer_heads l.heads (file_heads l.way l.left l.known))
     × Extends l.fn.known l.known
 
 abbrev pub decreases-loop-left : goal.decreases-loop-left
