@@ -1,9 +1,11 @@
 #!/usr/bin/env python3
-"""Counts the definitions on which the headline rests, and prints the tables of DEFINITIONS.md.
+"""Counts the definitions on which contracts rest, and prints the tables of DEFINITIONS.md.
 
-It goes from name to name through crates/*/specs, beginning with `Headline`. A name that stands in
-the text of a definition counts as used by it, so that the count is never too low. Lines are those
-of code: comments, imports and blank lines aren't counted.
+It goes from name to name through crates/*/specs, and prints three totals: of the definitions under
+`Headline`, of those under all clauses of `run`, and of the types of the code that either name, with
+those types that are private to their crate. The tables are those of `Headline`. A name that stands
+in the text of a definition counts as used by it, so that the count is never too low. Lines are
+those of code: comments, imports, attributes and blank lines aren't counted.
 """
 import collections
 import pathlib
@@ -12,7 +14,8 @@ import signal
 import sys
 
 ROOT = pathlib.Path(__file__).resolve().parent.parent
-START = ("hxeval.specs.Run", "Headline")
+HEADLINE = [("hxeval.specs.Run", "Headline")]
+RUN = ("crates/hxeval/src/run.rt", "run")
 CRATES = (
     "hxeval hx_core hx_cli hx_record hx_http hx_rules hx_acl hx_expr hx_fetch hx_lists "
     "hx_conv_text hx_conv_val hx_sample hx_match hx_refs hx_load hx_spell hx_ast hx_words "
@@ -115,12 +118,29 @@ def uses_operator(text, operator):
     return all(sign in text for sign in signs) or (signs == [">>="] and "←" in text)
 
 
-def reached_from(modules, start):
-    """All definitions that one rests on, by module, with their numbers of lines."""
+def clause_names(path, function):
+    """The definitions that the clauses of a public function name, as its file imports them."""
+    text = path.read_text()
+    start = text.index(f"pub fn {function}<")
+    clauses = text[start : text.index("\n{\n", start)]
+    words = set(re.findall(NAME, clauses))
+    for module, names in re.findall(r"ghost use Rattle\.(hx\S+)\.\{(.*)\};", text):
+        for name in names.split(", "):
+            if name in words:
+                yield module, name
+
+
+def reached_from(modules, starts):
+    """All definitions that some rest on, by module, with their numbers of lines, and the types of
+    the code that these name, each as a crate and a name."""
     reached = collections.defaultdict(dict)
-    waiting = [start]
+    types = set()
+    waiting = list(starts)
     while waiting:
         module, name = waiting.pop()
+        crate, _, declared = module.partition(".specs.declared.")
+        if declared and crate in CRATES and not declared.endswith("TheConstants"):
+            types.add((crate, declared.removesuffix(".TheVariants")))
         if module not in modules or name in reached[module]:
             continue
         here = modules[module]
@@ -133,14 +153,84 @@ def reached_from(modules, start):
             continue
         reached[module][name] = sum(1 for line in here.definitions[name] if line.strip())
         waiting.extend(used_names(modules, module, name))
-    return reached
+    return {module: found for module, found in reached.items() if found}, types
+
+
+def total_of(reached):
+    """The lines and the definitions of all modules."""
+    lines = sum(sum(found.values()) for found in reached.values())
+    return f"{lines:,} lines in {sum(len(found) for found in reached.values()):,} definitions"
+
+
+class CodeType:
+    """A struct or an enum of src/: its lines, and whether other crates can name it."""
+
+    def __init__(self, crate, name):
+        self.crate = crate
+        self.name = name
+        folder = ROOT / "crates" / crate / "src"
+        head = re.compile(r"^(pub(?:\(crate\))? )?(?:enum|struct) " + name + r"\b")
+        for path in sorted(folder.glob("**/*.rt")):
+            lines = path.read_text().split("\n")
+            for at, line in enumerate(lines):
+                found = head.match(line)
+                if found:
+                    self.lines = type_lines(lines[at:])
+                    self.shown = found.group(1) == "pub " and is_exported(folder, name)
+                    return
+        sys.exit(f"no type {name} in {folder}")
+
+
+def type_lines(lines):
+    """How many lines of code a type has, which begins with the first of these."""
+    count = 0
+    for line in lines:
+        if line.strip() and not re.match(r"\s*(//|#)", line):
+            count += 1
+        if line.startswith("}") or (count == 1 and line.endswith((";", "}"))):
+            break
+    return count
+
+
+def is_exported(folder, name):
+    """Whether a library lets others name a type; of a program none is asked for."""
+    library = folder / "lib.rt"
+    if not library.exists():
+        return True
+    return bool(re.search(r"pub use [^;]*\b" + name + r"\b", library.read_text()))
+
+
+def types_of(names):
+    """The types of the code that definitions name, each once."""
+    types = {(crate, path.split(".")[-1]) for crate, path in names}
+    return [CodeType(crate, name) for crate, name in sorted(types)]
+
+
+def print_types(where, names):
+    """Prints how many types there are, and those that are private to their crate."""
+    types = types_of(names)
+    total = sum(kind.lines for kind in types)
+    hidden = [kind for kind in types if not kind.shown]
+    print(f"{total:,} lines in {len(types)} types of the code {where}")
+    crates = {kind.crate: None for kind in hidden}
+    lists = [
+        f"{crate}: {', '.join(kind.name for kind in hidden if kind.crate == crate)}"
+        for crate in crates
+    ]
+    lines = sum(kind.lines for kind in hidden)
+    print(f"of these {lines:,} lines in {len(hidden)} that are private to their crate: "
+          f"{'; '.join(lists) or 'none'}")
 
 
 def main():
     modules = read_modules()
-    reached = {module: found for module, found in reached_from(modules, START).items() if found}
-    total = sum(sum(found.values()) for found in reached.values())
-    print(f"{total:,} lines in {sum(len(found) for found in reached.values()):,} definitions")
+    reached, types = reached_from(modules, HEADLINE)
+    starts = [*clause_names(ROOT / RUN[0], RUN[1])]
+    under_run, run_types = reached_from(modules, starts)
+    print(f"{total_of(reached)} under `Headline`")
+    print(f"{total_of(under_run)} under all clauses of `run`")
+    print_types("under `Headline`", types)
+    print_types("under all clauses of `run`", run_types)
     for crate in CRATES:
         files = [m for m in modules if m.split(".")[0] == crate and m in reached]
         if not files:

@@ -103,12 +103,11 @@ def prove(crates, name, rooms, jobs):
     room = f"{rooms}/{name}"
     folder = f"{room}/crates/{name}"
     room_for(crates, name, room)
-    words = ["rt", "lib"]
+    words = ["rt", "lib", "--jobs", str(jobs)]
     if os.path.isfile(f"{folder}/src/main.rt"):
         # linking is a part of running: over the first example, with no record
-        words = ["rt", "run", "--", "run", f"{TOP}/examples/first/deny.cfg"]
-    else:
-        words += ["--jobs", str(jobs)]
+        words[1] = "run"
+        words += ["--", "run", f"{TOP}/examples/first/deny.cfg"]
     ran = subprocess.run(
         words,
         cwd=folder,
