@@ -8,3 +8,8 @@ pub mod UseLineLemmas
 pub mod PayloadLemmas
 pub mod LineLemmas
 pub mod KeepLemmas
+pub mod PositionLemmas
+pub mod CountLemmas
+pub mod UnseenReferenceLemmas
+pub mod UnseenCommandLemmas
+pub mod UnseenLineLemmas
