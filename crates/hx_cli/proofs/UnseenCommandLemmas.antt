@@ -100,7 +100,7 @@ other_version : (refs : References) (r v : ℕ) (ver : Option ℕ) (name : List 
     → names_reference refs r name ≡ true → is_given ver v ≡ false
 other_version refs r v ver name other here = not_given (is_given ver v) (names_reference refs r name) other here
 
-entries_alike : (r v : ℕ) (refs : References) (at : ℕ) (ver : Option ℕ) → IsNotSearched refs r v
+pub entries_alike : (r v : ℕ) (refs : References) (at : ℕ) (ver : Option ℕ) → IsNotSearched refs r v
     → (at ≡ r → is_given ver v ≡ false) → entries_in (with_empty_version r v refs) at ver ≡ entries_in refs at ver
 entries_alike r v refs at ver apart other =
     read_alike (λ reference. version_entries reference ver) [] refs r v at

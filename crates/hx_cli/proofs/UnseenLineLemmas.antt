@@ -79,7 +79,7 @@ other_alike r v old new (Some begun) follows =
 
 module _ (r v : ℕ) (refs : References) (payloads others : OpenPayloads)
     (begun : (session : ℕ) → finite.get others session ≡ other_payload refs r v (finite.get payloads session)) where
-  payloads_follow : (new : References) → Follows r v refs new → (session : ℕ)
+  pub payloads_follow : (new : References) → Follows r v refs new → (session : ℕ)
       → finite.get others session ≡ other_payload new r v (finite.get payloads session)
   payloads_follow new follows session = begun session ∙ other_alike r v refs new (finite.get payloads session) follows
 

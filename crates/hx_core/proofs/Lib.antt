@@ -1,3 +1,4 @@
 pub mod ItemLemmas
 pub mod VerdictLemmas
 pub mod StepLemmas
+pub mod UnseenEventLemmas

@@ -1,5 +1,5 @@
 -- One event of a record: whether it may stand where it stands, its answer, and the world after it.
-use Rattle.std.specs.Prelude.{◌≡◌, ⊤, ℕ, ◌+◌, ◌-◌, ◌^◌, min, Bool, true, false, List, [], ◌++◌, codes, Option, None, Some, Result, Err, if◌then◌else◌}
+use Rattle.std.specs.Prelude.{⊤, ℕ, ◌+◌, ◌-◌, ◌^◌, min, Bool, true, false, List, [], ◌++◌, codes, Option, None, Some, Result, Err, if◌then◌else◌}
 use Rattle.std.specs.FinMap as map
 use Rattle.std.specs.Fmt.{decimal}
 use Rattle.std.specs.Option.{option_map_or}
