@@ -145,13 +145,13 @@ pub record LinesAlike (r v : ℕ) (first second : References) (command another :
 
 module _ (r v session : ℕ) (first second : References) (payloads others : OpenPayloads) (both : AreAlike r v first second payloads others) where
   follows : Follows r v first second
-  follows = second_follows r v first second both.apart both.references
+  follows = second_follows r v first second both.not_searched both.references
 
   -- the same references, and payloads that are alike
   quiet : (now then' : OpenPayloads) → ((s : ℕ) → finite.get then' s ≡ other_payload first r v (finite.get now s))
       → (command : Option Command) → LinesAlike r v first second command command (untold now first) (untold then' second)
   quiet now then' begun command =
-      record { reply = refl; alike = record { apart = both.apart; references = both.references; begun = begun } }
+      record { reply = refl; alike = record { not_searched = both.not_searched; references = both.references; sessions = begun } }
 
   -- an addition that isn't to the version
   added : (now then' : OpenPayloads) → ((s : ℕ) → finite.get then' s ≡ other_payload first r v (finite.get now s))
@@ -160,7 +160,7 @@ module _ (r v session : ℕ) (first second : References) (payloads others : Open
       (replied now (addition_effect payload.is_map payload.ver payload.name payload.pairs first))
       (replied then' (addition_effect payload.is_map payload.ver payload.name payload.pairs second))
   added now then' begun payload other =
-      let one = addition_along r v first payload.is_map payload.ver payload.name payload.pairs both.apart other in
+      let one = addition_along r v first payload.is_map payload.ver payload.name payload.pairs both.not_searched other in
       let two =
       addition_along r v second payload.is_map payload.ver payload.name payload.pairs follows.apart
       (named_alike r v first second payload.ver payload.name follows ∙ other) in
@@ -170,10 +170,10 @@ module _ (r v session : ℕ) (first second : References) (payloads others : Open
             ap (λ (reply : ReplyParts). Some reply)
             (sym two.reply ∙ ap (λ (refs : References). (effect refs).reply) both.references ∙ one.reply);
         alike = record {
-          apart = one.follows.apart;
+          not_searched = one.follows.apart;
           references =
               sym two.refs_are ∙ ap (λ (refs : References). (effect refs).refs) both.references ∙ one.refs_are;
-          begun = payloads_follow r v first now then' begun (effect first).refs one.follows;
+          sessions = payloads_follow r v first now then' begun (effect first).refs one.follows;
         };
       }
 
@@ -188,15 +188,15 @@ module _ (r v session : ℕ) (first second : References) (payloads others : Open
           (untold (finite.insert others session (with_line text payload)) second))
       go true =
           added (finite.remove payloads session) (finite.remove others session)
-          (remove_kept r v first payloads others both.begun session) payload other
+          (remove_kept r v first payloads others both.sessions session) payload other
       go false =
           quiet (finite.insert payloads session (with_line text payload)) (finite.insert others session (with_line text payload))
-          (insert_kept r v first payloads others both.begun session (with_line text payload) other) None
+          (insert_kept r v first payloads others both.sessions session (with_line text payload) other) None
 
   command_kept : (command : Command) → is_on_version first r v command ≡ false
       → LinesAlike r v first second (Some command) (Some command) (replied payloads (command_effect command first)) (replied others (command_effect command second))
   command_kept command other =
-      let one = command_along r v first command both.apart other in
+      let one = command_along r v first command both.not_searched other in
       let two =
       command_along r v second command follows.apart (on_version_alike r v first second command follows ∙ other) in
       record {
@@ -206,10 +206,10 @@ module _ (r v session : ℕ) (first second : References) (payloads others : Open
             ∙ ap (λ (refs : References). reply_without_count refs r command (command_effect command refs).reply) both.references
             ∙ one.reply);
         alike = record {
-          apart = one.follows.apart;
+          not_searched = one.follows.apart;
           references =
               sym two.refs_are ∙ ap (λ (refs : References). (command_effect command refs).refs) both.references ∙ one.refs_are;
-          begun = payloads_follow r v first payloads others both.begun (command_effect command first).refs one.follows;
+          sessions = payloads_follow r v first payloads others both.sessions (command_effect command first).refs one.follows;
         };
       }
 
@@ -217,16 +217,16 @@ module _ (r v session : ℕ) (first second : References) (payloads others : Open
       → LinesAlike r v first second found found (command_line session found payloads first) (command_line session found others second)
   found_kept None other = record {
     reply = refl;
-    alike = record { apart = both.apart; references = both.references; begun = both.begun };
+    alike = record { not_searched = both.not_searched; references = both.references; sessions = both.sessions };
   }
   found_kept (Some (AddMany is_map ver name)) other =
       quiet (finite.insert payloads session (new_payload is_map ver name)) (finite.insert others session (new_payload is_map ver name))
-      (insert_kept r v first payloads others both.begun session (new_payload is_map ver name) other) (Some (AddMany is_map ver name))
+      (insert_kept r v first payloads others both.sessions session (new_payload is_map ver name) other) (Some (AddMany is_map ver name))
   found_kept (Some command) other = command_kept command other
 
   outside_kept : (words : List (List ℕ)) → option_map_or (is_on_version first r v) (command_of words) false ≡ false
       → LinesAlike r v first second (command_of words) (command_of words) (outside_line session words payloads first) (outside_line session words others second)
-  outside_kept [] other = quiet payloads others both.begun None
+  outside_kept [] other = quiet payloads others both.sessions None
   outside_kept (word ∷ words) other = found_kept (command_of (word ∷ words)) other
 
   -- what comes of a line by the payload of its session
@@ -255,7 +255,7 @@ module _ (r v session : ℕ) (first second : References) (payloads others : Open
       subst
       (λ (found : Option PayloadParts). LinesAlike r v first second (line_command session text payloads) (command_at text found)
       (line_effect session text payloads first) (effect_at text others second found))
-      (sym (both.begun session)) (kept_by text (finite.get payloads session) other)
+      (sym (both.sessions session)) (kept_by text (finite.get payloads session) other)
 
   -- ---- lines that are left out
 
@@ -263,14 +263,14 @@ module _ (r v session : ℕ) (first second : References) (payloads others : Open
   hidden_alike : (new : References) (now : OpenPayloads) → IsHidden r v first new
       → ((s : ℕ) → finite.get others s ≡ other_payload first r v (finite.get now s)) → AreAlike r v new second now others
   hidden_alike new now hidden begun = record {
-    apart = hidden.follows.apart;
+    not_searched = hidden.follows.apart;
     references = both.references ∙ sym hidden.empty;
-    begun = payloads_follow r v first now others begun new hidden.follows;
+    sessions = payloads_follow r v first now others begun new hidden.follows;
   }
 
   same_refs : (now : OpenPayloads) → ((s : ℕ) → finite.get others s ≡ other_payload first r v (finite.get now s))
       → AreAlike r v first second now others
-  same_refs now begun = record { apart = both.apart; references = both.references; begun = begun }
+  same_refs now begun = record { not_searched = both.not_searched; references = both.references; sessions = begun }
 
   abbrev payload_effect : List ℕ → PayloadParts → Bool → LineEffect
   payload_effect text payload ends =
@@ -284,11 +284,11 @@ module _ (r v session : ℕ) (first second : References) (payloads others : Open
       go : (ends : Bool) → AreAlike r v (payload_effect text payload ends).refs second (payload_effect text payload ends).payloads others
       go true =
           hidden_alike (addition_effect payload.is_map payload.ver payload.name payload.pairs first).refs (finite.remove payloads session)
-          (addition_hidden r v first payload.is_map payload.ver payload.name payload.pairs both.apart here)
-          (remove_hidden r v first payloads others both.begun session none)
+          (addition_hidden r v first payload.is_map payload.ver payload.name payload.pairs both.not_searched here)
+          (remove_hidden r v first payloads others both.sessions session none)
       go false =
           same_refs (finite.insert payloads session (with_line text payload))
-          (insert_hidden r v first payloads others both.begun session (with_line text payload) here none)
+          (insert_hidden r v first payloads others both.sessions session (with_line text payload) here none)
 
   found_hidden : (found : Option Command) → finite.get others session ≡ None
       → option_map_or (is_on_version first r v) found false ≡ true
@@ -298,9 +298,9 @@ module _ (r v session : ℕ) (first second : References) (payloads others : Open
   found_hidden None none here undone = absurd (false≢true here)
   found_hidden (Some (AddMany is_map ver name)) none here undone =
       same_refs (finite.insert payloads session (new_payload is_map ver name))
-      (insert_hidden r v first payloads others both.begun session (new_payload is_map ver name) here none)
+      (insert_hidden r v first payloads others both.sessions session (new_payload is_map ver name) here none)
   found_hidden (Some command) none here undone =
-      hidden_alike (command_effect command first).refs payloads (command_hidden r v first command both.apart here undone) both.begun
+      hidden_alike (command_effect command first).refs payloads (command_hidden r v first command both.not_searched here undone) both.sessions
 
   outside_hidden : (words : List (List ℕ)) → finite.get others session ≡ None
       → option_map_or (is_on_version first r v) (command_of words) false ≡ true
@@ -322,4 +322,4 @@ module _ (r v session : ℕ) (first second : References) (payloads others : Open
   pub line_hidden : (text : List ℕ) → is_line_on_version r v session text payloads first ≡ true
       → is_commit_line r v session text payloads first ≡ false
       → AreAlike r v (line_effect session text payloads first).refs second (line_effect session text payloads first).payloads others
-  line_hidden text here undone = hidden_by text (finite.get payloads session) (both.begun session) here undone
+  line_hidden text here undone = hidden_by text (finite.get payloads session) (both.sessions session) here undone

@@ -87,9 +87,9 @@ other_payload refs r v payload =
 -- which the second has none.
 pub record AreAlike (r v : ℕ) (first second : References) (payloads others : OpenPayloads)
     : Type 0 where
-  pub apart : IsNotSearched first r v
+  pub not_searched : IsNotSearched first r v
   pub references : with_empty_version r v second ≡ with_empty_version r v first
-  pub begun : (session : ℕ) → finite.get others session
+  pub sessions : (session : ℕ) → finite.get others session
       ≡ other_payload first r v (finite.get payloads session)
 
 -- ---- how replies are compared
