@@ -2,3 +2,6 @@ pub mod ItemLemmas
 pub mod VerdictLemmas
 pub mod StepLemmas
 pub mod UnseenEventLemmas
+pub mod UnseenRuleLemmas
+pub mod UnseenRequestLemmas
+pub mod UnseenRunLemmas
