@@ -5,4 +5,5 @@ pub mod LineLemmas
 pub mod ReplacingLemmas
 pub mod PieceLemmas
 pub mod RewriteLemmas
+pub mod RequestLemmas
 pub mod RuleLemmas

@@ -1,5 +1,5 @@
 -- The edits of the actions that replace values.
-use Rattle.std.proofs.Common.{◌≡◌, ℕ, true, false, List, Result, None, ap, sym, subst, ◌∙◌}
+use Rattle.std.proofs.Common.{◌≡◌, ℕ, true, false, List, Result, Ok, Err, None, ap, sym, subst, ◌∙◌}
 use Rattle.std.specs.Prelude.{IfErr, OnOk}
 use Rattle.hx_ast.specs.declared.action.Action.{Action}
 use Rattle.hx_ast.specs.declared.action.Action.TheVariants as action
@@ -9,6 +9,7 @@ use Rattle.hx_http.specs.Edits.{MayFail}
 use Rattle.hx_http.specs.Parts.{Parts}
 use Rattle.hx_rules.specs.ReplacingView.{replacement_of}
 use Rattle.hx_rules.specs.Rewrites.{Edit, edit_of, replacing_edit}
+use Rattle.hx_rules.specs.State.{State}
 
 pub replace_header_is : (text : List Part → List ℕ) (asked : Action) (head : Parts) (name pattern given sub made : List ℕ) (format : List Part)
     → asked ≡ action.ReplaceHeader name pattern format → given ≡ name → sub ≡ made → made ≡ text format
@@ -27,9 +28,10 @@ replace_value_is text asked head name pattern given sub made format is same_name
     ∙ ap (λ (r : Action). edit_of text r head) (sym is)
 
 -- what a call answers, of the same edit
-pub made_as : {T : Type 0} (r : Result T EditFault) (new : Parts) (a b : Edit) → a ≡ b
-    → OnOk r (new ≡ a.head) → OnOk r (new ≡ b.head)
-made_as r new a b same made = subst (λ (edit : Edit). OnOk r (new ≡ edit.head)) same made
+pub made_as : {T S : Type 0} (r : Result T EditFault) (state : State S) (new : Parts) (a b : Edit) → a ≡ b
+    → OnOk r (new ≡ a.head) → OnOk r (record state { message = new } ≡ record state { message = b.head })
+made_as (Ok done) state new a b same made = ap (λ (head : Parts). record state { message = head }) (made ∙ ap (λ (edit : Edit). edit.head) same)
+made_as (Err fault) state new a b same made = tt
 
 pub passes_as : {T : Type 0} (r : Result T EditFault) (a b : Edit) → a ≡ b
     → OnOk r (a.fault ≡ None) → OnOk r (b.fault ≡ None)

@@ -1,5 +1,5 @@
 -- Rules one after another: where they come to, and what follows from there.
-use Rattle.std.proofs.Common.{arith, ◌≡◌, Bool, true, false, List, [], ◌∷◌, ◌++◌, Option, None, Some, refl, ap, sym, ◌∙◌, append_assoc, drop-cons, ◌<◌, length}
+use Rattle.std.proofs.Common.{arith, ◌≡◌, Bool, true, false, List, [], ◌∷◌, ◌++◌, Option, None, Some, refl, ap, sym, subst, ◌∙◌, append_assoc, drop-cons, ◌<◌, length}
 use Rattle.std.specs.Prelude.{Err, if◌then◌else◌, slice_index_or, take, drop, ◌-◌}
 use Rattle.std.specs.Option.{is_none}
 use Rattle.std.proofs.lemmas.List.{take_rest}
@@ -8,22 +8,20 @@ use Rattle.hx_ast.specs.declared.action.Action.{Action}
 use Rattle.hx_ast.specs.declared.action.Action.TheVariants as action
 use Rattle.hx_ast.specs.declared.statement.Rule.{Rule}
 use Rattle.hx_fetch.specs.declared.world.Conn.{Conn}
-use Rattle.hx_http.specs.Parts.{Parts}
 use Rattle.hx_outside.specs.Makers.{ExpressionText, MakerState}
 use Rattle.hx_sample.specs.Changes.{ChangeCountsLarge}
-use Rattle.hx_sample.specs.Vars.{Scopes}
 use Rattle.hx_sample.specs.declared.tables.TableFault.{TableFault}
 use Rattle.hx_sample.specs.declared.tables.TableFault.TheVariants as fault
 use Rattle.hx_rules.specs.declared.actions.Continuation.{Continuation}
 use Rattle.hx_rules.specs.declared.actions.Continuation.TheVariants as continuation
 use Rattle.hx_rules.specs.declared.verdict.Verdict.{Verdict}
 use Rattle.hx_rules.specs.declared.verdict.Verdict.TheVariants as verdict
-use Rattle.hx_rules.specs.Failures.{is_taken_in, RulesAskFor, StandsAt}
+use Rattle.hx_rules.specs.Failures.{ActionAsksFor, is_taken_in, RulesAskFor, StandsAt}
 use Rattle.hx_rules.specs.Formats.{text_in}
 use Rattle.hx_rules.specs.Programs.{Rules}
 use Rattle.hx_rules.specs.Rewrites.{Edit, edit_of}
 use Rattle.hx_rules.specs.State.{in_state, State, TableView}
-use Rattle.hx_rules.specs.EffectView.{IsEvaluation, effect_of, rule_effect, RuleAsksFor}
+use Rattle.hx_rules.specs.EffectView.{evaluation_of, effect_of, rule_effect, RuleAsksFor}
 use Rattle.hx_rules.specs.Verdicts.{action_effect, after_rules, edit_effect, Ends, evaluation, Goes, Effect, rules_effect, Stops, then_rules, verdict_at}
 
 -- ---- lists of rules
@@ -82,12 +80,12 @@ comes_to rule others at list = record {
   effect = at.effect;
 }
 
--- what a rule does, by the answer of the code
-effect_is : {S : Type 0} (view : TableView S) (conn : Conn) (program : Rules) (rule : Rule) (acls : Acls) (state next : State S) (answer given : Continuation) → acls ≡ program.acls → answer ≡ given → effect_of answer next ≡ rule_effect view conn acls rule state → effect_of given next ≡ rule_effect view conn program.acls rule state
-effect_is view conn program rule acls state next answer given same is does =
-    ap (λ (answer : Continuation). effect_of answer next) (sym is)
-    ∙ does
-    ∙ ap (λ (acls : Acls). rule_effect view conn acls rule state) same
+-- what a rule does to a request of this connection, by the answer of the code
+pub rule_does : {S : Type 0} (view : TableView S) {near conn : Conn} {acls program : Acls} (rule : Rule) (state : State S) {effect : Effect S} → near ≡ conn → acls ≡ program → effect ≡ rule_effect view near acls rule state → effect ≡ rule_effect view conn program rule state
+rule_does {S} view {near} {conn} {acls} {program} rule state {effect} here same does =
+    does
+    ∙ ap (λ (acls : Acls). rule_effect view near acls rule state) same
+    ∙ ap (λ (conn : Conn). rule_effect view conn program rule state) here
 
 -- a rule after which the next is judged
 further : {S : Type 0} {view : TableView S} {conn : Conn} {program : Rules} {origin state : State S} {rule : Rule} {left : List Rule} (next : State S) → Comes view conn program origin state (rule ∷ left) → Goes next ≡ rule_effect view conn program.acls rule state → Comes view conn program origin next left
@@ -100,9 +98,9 @@ further {S} {view} {conn} {program} {origin} {state} {rule} {left} next at goes 
       ∙ ap (then_rules (rules_effect view conn program.acls [])) (sym goes);
 }
 
-pub comes_further : {S : Type 0} {view : TableView S} {conn : Conn} {program : Rules} {origin state : State S} {rule : Rule} {left : List Rule} (acls : Acls) (next : State S) (answer : Continuation) → Comes view conn program origin state (rule ∷ left) → acls ≡ program.acls → answer ≡ continuation.Goes → effect_of answer next ≡ rule_effect view conn acls rule state → Comes view conn program origin next left
-comes_further {S} {view} {conn} {program} {origin} {state} {rule} {left} acls next answer at same is does =
-    further next at (effect_is view conn program rule acls state next answer continuation.Goes same is does)
+pub comes_further : {S : Type 0} {view : TableView S} {conn : Conn} {program : Rules} {origin state : State S} {rule : Rule} {left : List Rule} (next : State S) (answer : Continuation) → Comes view conn program origin state (rule ∷ left) → answer ≡ continuation.Goes → effect_of answer next ≡ rule_effect view conn program.acls rule state → Comes view conn program origin next left
+comes_further next answer at is does =
+    further next at (ap (λ (answer : Continuation). effect_of answer next) (sym is) ∙ does)
 
 -- what all rules make of the first state is what those that are left make of this one
 all_from : {S : Type 0} {view : TableView S} {conn : Conn} {program : Rules} {origin state : State S} {left : List Rule} → Comes view conn program origin state left → rules_effect view conn program.acls program.rules origin ≡ rules_effect view conn program.acls left state
@@ -111,14 +109,14 @@ all_from {S} {view} {conn} {program} {origin} {state} {left} at =
     ∙ effect_joined view conn program.acls at.done left origin
     ∙ ap (then_rules (rules_effect view conn program.acls left)) at.effect
 
--- the state stands, also where it is known by its parts
-pub stands_at : {S : Type 0} {view : TableView S} {conn : Conn} {program : Rules} {origin state : State S} {left : List Rule} {message : Parts} {vars : Scopes} {tables : S} → Comes view conn program origin state left → message ≡ state.message → vars ≡ state.vars → tables ≡ state.tables → StandsAt view conn program origin message vars tables
-stands_at {S} {view} {conn} {program} {origin} {state} {left} at m v t = record {
+-- the state stands
+pub stands_in : {S : Type 0} {view : TableView S} {conn : Conn} {program : Rules} {origin state : State S} {left : List Rule} (next : State S) → Comes view conn program origin state left → next ≡ state → StandsAt view conn program origin next.message next.vars next.tables
+stands_in {S} {view} {conn} {program} {origin} {state} {left} next at same = record {
   state = state;
   reaches = record { done = at.done; left = left; rules = at.rules; effect = at.effect };
-  message_is = sym m;
-  vars_are = sym v;
-  tables_are = sym t;
+  message_is = sym (ap (λ s. s.message) same);
+  vars_are = sym (ap (λ s. s.vars) same);
+  tables_are = sym (ap (λ s. s.tables) same);
 }
 
 -- ---- rules that end
@@ -164,32 +162,28 @@ rule_leaves view conn acls rule state =
     if_leaves state (is_taken_in view conn acls state rule.unless rule.cond) (action_effect view conn rule.action state) (action_leaves view conn rule.action state)
 
 -- the last rule leaves the state as it was
-stands_left : {S : Type 0} {view : TableView S} {conn : Conn} {program : Rules} {origin state : State S} {left : List Rule} (next : State S) → Comes view conn program origin state left → next ≡ state → StandsAt view conn program origin next.message next.vars next.tables
-stands_left next at same =
-    stands_at at (ap (λ s. s.message) same) (ap (λ s. s.vars) same) (ap (λ s. s.tables) same)
+pub stands_stopped : {S : Type 0} {view : TableView S} {conn : Conn} {program : Rules} {origin state : State S} {rule : Rule} {left : List Rule} (next : State S) (answer : Continuation) → Comes view conn program origin state (rule ∷ left) → answer ≡ continuation.Stops → effect_of answer next ≡ rule_effect view conn program.acls rule state → StandsAt view conn program origin next.message next.vars next.tables
+stands_stopped {S} {view} {conn} {program} {origin} {state} {rule} {left} next answer at is does =
+    let stops = ap (λ (answer : Continuation). effect_of answer next) (sym is) ∙ does in
+    stands_in next at (rw (← stops) at (rule_leaves view conn program.acls rule state))
 
-pub stands_stopped : {S : Type 0} {view : TableView S} {conn : Conn} {program : Rules} {origin state : State S} {rule : Rule} {left : List Rule} (acls : Acls) (next : State S) (answer : Continuation) → Comes view conn program origin state (rule ∷ left) → acls ≡ program.acls → answer ≡ continuation.Stops → effect_of answer next ≡ rule_effect view conn acls rule state → StandsAt view conn program origin next.message next.vars next.tables
-stands_stopped {S} {view} {conn} {program} {origin} {state} {rule} {left} acls next answer at same is does =
-    let stops = effect_is view conn program rule acls state next answer continuation.Stops same is does in
-    stands_left next at (rw (← stops) at (rule_leaves view conn program.acls rule state))
-
-pub stands_ended : {S : Type 0} {view : TableView S} {conn : Conn} {program : Rules} {origin state : State S} {rule : Rule} {left : List Rule} (acls : Acls) (next : State S) (answer : Continuation) (given : Verdict) → Comes view conn program origin state (rule ∷ left) → acls ≡ program.acls → answer ≡ continuation.Ends given → effect_of answer next ≡ rule_effect view conn acls rule state → StandsAt view conn program origin next.message next.vars next.tables
-stands_ended {S} {view} {conn} {program} {origin} {state} {rule} {left} acls next answer given at same is does =
-    let ends = effect_is view conn program rule acls state next answer (continuation.Ends given) same is does in
-    stands_left next at (rw (← ends) at (rule_leaves view conn program.acls rule state))
+pub stands_ended : {S : Type 0} {view : TableView S} {conn : Conn} {program : Rules} {origin state : State S} {rule : Rule} {left : List Rule} (next : State S) (answer : Continuation) (given : Verdict) → Comes view conn program origin state (rule ∷ left) → answer ≡ continuation.Ends given → effect_of answer next ≡ rule_effect view conn program.acls rule state → StandsAt view conn program origin next.message next.vars next.tables
+stands_ended {S} {view} {conn} {program} {origin} {state} {rule} {left} next answer given at is does =
+    let ends = ap (λ (answer : Continuation). effect_of answer next) (sym is) ∙ does in
+    stands_in next at (rw (← ends) at (rule_leaves view conn program.acls rule state))
 
 -- ---- what is made of the request
 
 -- by the effect of all rules
-of_effect : {S : Type 0} (view : TableView S) (conn : Conn) (program : Rules) (origin next : State S) (given : Option Verdict) (effect : Effect S) → rules_effect view conn program.acls program.rules origin ≡ effect → IsEvaluation view conn program given next.message next.vars next.tables (after_rules (λ after. in_state verdict_at view conn after program) effect) → IsEvaluation view conn program given next.message next.vars next.tables (evaluation view conn program origin)
-of_effect view conn program origin next given effect is made = rw is made
+of_effect : {S : Type 0} (view : TableView S) (conn : Conn) (program : Rules) (origin : State S) (effect : Effect S) → rules_effect view conn program.acls program.rules origin ≡ effect → evaluation view conn program origin ≡ after_rules (λ after. in_state verdict_at view conn after program) effect
+of_effect view conn program origin effect is =
+    ap (λ effect. after_rules (λ after. in_state verdict_at view conn after program) effect) is
 
 -- all rules were judged
-pub evaluated : {S : Type 0} {view : TableView S} {conn : Conn} {program : Rules} {origin state : State S} {left : List Rule} → Comes view conn program origin state left → left ≡ [] → IsEvaluation view conn program None state.message state.vars state.tables (evaluation view conn program origin)
+pub evaluated : {S : Type 0} {view : TableView S} {conn : Conn} {program : Rules} {origin state : State S} {left : List Rule} → Comes view conn program origin state left → left ≡ [] → evaluation view conn program origin ≡ evaluation_of view conn program None state
 evaluated {S} {view} {conn} {program} {origin} {state} {left} at none =
-    of_effect view conn program origin state None (Goes state)
+    of_effect view conn program origin (Goes state)
     (all_from at ∙ ap (λ (rules : List Rule). rules_effect view conn program.acls rules state) none)
-    (record { message_is = refl; vars_are = refl; tables_are = refl; verdict_is = refl })
 
 -- the effect of all rules where one of them stops or ends them
 ended : {S : Type 0} {view : TableView S} {conn : Conn} {program : Rules} {origin state : State S} {rule : Rule} {left : List Rule} (effect : Effect S) → Comes view conn program origin state (rule ∷ left) → effect ≡ rule_effect view conn program.acls rule state → rules_effect view conn program.acls program.rules origin ≡ then_rules (rules_effect view conn program.acls left) effect
@@ -198,31 +192,31 @@ ended {S} {view} {conn} {program} {origin} {state} {rule} {left} effect at is =
     ∙ effect_first view conn program.acls rule left state
     ∙ ap (then_rules (rules_effect view conn program.acls left)) (sym is)
 
-pub evaluated_stopped : {S : Type 0} {view : TableView S} {conn : Conn} {program : Rules} {origin state : State S} {rule : Rule} {left : List Rule} (acls : Acls) (next : State S) (answer : Continuation) → Comes view conn program origin state (rule ∷ left) → acls ≡ program.acls → answer ≡ continuation.Stops → effect_of answer next ≡ rule_effect view conn acls rule state → IsEvaluation view conn program None next.message next.vars next.tables (evaluation view conn program origin)
-evaluated_stopped {S} {view} {conn} {program} {origin} {state} {rule} {left} acls next answer at same is does =
-    let stops = effect_is view conn program rule acls state next answer continuation.Stops same is does in
-    of_effect view conn program origin next None (Stops next) (ended (Stops next) at stops)
-    (record { message_is = refl; vars_are = refl; tables_are = refl; verdict_is = refl })
+pub evaluated_stopped : {S : Type 0} {view : TableView S} {conn : Conn} {program : Rules} {origin state : State S} {rule : Rule} {left : List Rule} (next : State S) (answer : Continuation) → Comes view conn program origin state (rule ∷ left) → answer ≡ continuation.Stops → effect_of answer next ≡ rule_effect view conn program.acls rule state → evaluation view conn program origin ≡ evaluation_of view conn program None next
+evaluated_stopped {S} {view} {conn} {program} {origin} next answer at is does =
+    of_effect view conn program origin (Stops next)
+    (ended (Stops next) at (ap (λ (answer : Continuation). effect_of answer next) (sym is) ∙ does))
 
-pub evaluated_ended : {S : Type 0} {view : TableView S} {conn : Conn} {program : Rules} {origin state : State S} {rule : Rule} {left : List Rule} (acls : Acls) (next : State S) (answer : Continuation) (given : Verdict) → Comes view conn program origin state (rule ∷ left) → acls ≡ program.acls → answer ≡ continuation.Ends given → effect_of answer next ≡ rule_effect view conn acls rule state → IsEvaluation view conn program (Some given) next.message next.vars next.tables (evaluation view conn program origin)
-evaluated_ended {S} {view} {conn} {program} {origin} {state} {rule} {left} acls next answer given at same is does =
-    let ends = effect_is view conn program rule acls state next answer (continuation.Ends given) same is does in
-    of_effect view conn program origin next (Some given) (Ends given next) (ended (Ends given next) at ends)
-    (record { message_is = refl; vars_are = refl; tables_are = refl; verdict_is = refl })
+pub evaluated_ended : {S : Type 0} {view : TableView S} {conn : Conn} {program : Rules} {origin state : State S} {rule : Rule} {left : List Rule} (next : State S) (answer : Continuation) (given : Verdict) → Comes view conn program origin state (rule ∷ left) → answer ≡ continuation.Ends given → effect_of answer next ≡ rule_effect view conn program.acls rule state → evaluation view conn program origin ≡ evaluation_of view conn program (Some given) next
+evaluated_ended {S} {view} {conn} {program} {origin} next answer given at is does =
+    of_effect view conn program origin (Ends given next)
+    (ended (Ends given next) at (ap (λ (answer : Continuation). effect_of answer next) (sym is) ∙ does))
 
 -- ---- what the maker counts
 
 -- what a rule asks for, the rules ask for
-asks_for : {S : Type 0} {view : TableView S} {conn : Conn} {program : Rules} {origin state : State S} {rule : Rule} {left : List Rule} (acls : Acls) (text : ExpressionText) → Comes view conn program origin state (rule ∷ left) → acls ≡ program.acls → RuleAsksFor view conn acls rule state text → RulesAskFor view conn program origin text
-asks_for {S} {view} {conn} {program} {origin} {state} {rule} {left} acls text at same asks = record {
+asks_for : {S : Type 0} {view : TableView S} {near conn : Conn} {program : Rules} {origin state : State S} {rule : Rule} {left : List Rule} (acls : Acls) (text : ExpressionText) → Comes view conn program origin state (rule ∷ left) → near ≡ conn → acls ≡ program.acls → RuleAsksFor view near acls rule state text → RulesAskFor view conn program origin text
+asks_for {S} {view} {near} {conn} {program} {origin} {state} {rule} {left} acls text at here same asks = record {
   done = at.done;
   rule = rule;
   left = left;
   state = state;
   rules = at.rules;
   effect = at.effect;
-  applies = ap (λ (acls : Acls). is_taken_in view conn acls state rule.unless rule.cond) (sym same) ∙ asks.0;
-  asks = asks.1;
+  applies = ap (λ (acls : Acls). is_taken_in view conn acls state rule.unless rule.cond) (sym same)
+      ∙ ap (λ (conn : Conn). is_taken_in view conn acls state rule.unless rule.cond) (sym here)
+      ∙ asks.0;
+  asks = subst (λ (conn : Conn). ActionAsksFor view conn rule.action state text) here asks.1;
 }
 
 -- a fault counts for more that may be asked for, from an earlier state that knows the same
@@ -238,10 +232,10 @@ counts_for_more T U fault.TooLarge Asked Wider first before now wider count last
 counts_for_more T U fault.NoMemory Asked Wider first before now wider count last counts = (counts.0 ∙ count, counts.1 ∙ last)
 
 -- a rule that failed counts as the rules do
-pub rules_count : {S : Type 0} {view : TableView S} {conn : Conn} {program : Rules} {origin state : State S} {rule : Rule} {left : List Rule} (acls : Acls) (given : TableFault) (first before now : MakerState) → Comes view conn program origin state (rule ∷ left) → acls ≡ program.acls → before.too_large ≡ first.too_large → before.large ≡ first.large → ChangeCountsLarge {T = Continuation} (Err given) (RuleAsksFor view conn acls rule state) before now → ChangeCountsLarge {T = Option Verdict} (Err given) (RulesAskFor view conn program origin) first now
-rules_count {S} {view} {conn} {program} {origin} {state} {rule} {left} acls given first before now at same count last counts =
-    counts_for_more Continuation (Option Verdict) given (RuleAsksFor view conn acls rule state) (RulesAskFor view conn program origin) first before now
-    (λ text asks. asks_for acls text at same asks) count last counts
+pub rules_count : {S : Type 0} {view : TableView S} {near conn : Conn} {program : Rules} {origin state : State S} {rule : Rule} {left : List Rule} (acls : Acls) (given : TableFault) (first before now : MakerState) → Comes view conn program origin state (rule ∷ left) → near ≡ conn → acls ≡ program.acls → before.too_large ≡ first.too_large → before.large ≡ first.large → ChangeCountsLarge {T = Continuation} (Err given) (RuleAsksFor view near acls rule state) before now → ChangeCountsLarge {T = Option Verdict} (Err given) (RulesAskFor view conn program origin) first now
+rules_count {S} {view} {near} {conn} {program} {origin} {state} {rule} {left} acls given first before now at here same count last counts =
+    counts_for_more Continuation (Option Verdict) given (RuleAsksFor view near acls rule state) (RulesAskFor view conn program origin) first before now
+    (λ text asks. asks_for acls text at here same asks) count last counts
 
 -- ---- what holds of the same things
 

@@ -4,11 +4,9 @@ use Rattle.std.specs.Option.{unwrap_or}
 use Rattle.hx_acl.specs.Holds.{Acls}
 use Rattle.hx_ast.specs.declared.statement.Rule.{Rule}
 use Rattle.hx_fetch.specs.declared.world.Conn.{Conn}
-use Rattle.hx_http.specs.Parts.{Parts}
 use Rattle.hx_http.specs.declared.fault.EditFault.{EditFault}
 use Rattle.hx_http.specs.declared.fault.EditFault.TheVariants as fault
 use Rattle.hx_outside.specs.Makers.{ExpressionText}
-use Rattle.hx_sample.specs.Vars.{Scopes}
 use Rattle.hx_text.specs.declared.fault.NoMemory.{NoMemory}
 use Rattle.hx_rules.specs.declared.action.Rewrite.{Rewrite}
 use Rattle.hx_rules.specs.declared.actions.Continuation.{Continuation}
@@ -19,7 +17,7 @@ use Rattle.hx_rules.specs.Failures.{ActionAsksFor, is_taken_in}
 use Rattle.hx_rules.specs.Formats.{text_in}
 use Rattle.hx_rules.specs.ProgramView.{action_of_rewrite}
 use Rattle.hx_rules.specs.Programs.{Rules}
-use Rattle.hx_rules.specs.Rewrites.{edit_of}
+use Rattle.hx_rules.specs.Rewrites.{Edit, edit_of}
 use Rattle.hx_rules.specs.State.{in_state, State, TableView}
 use Rattle.hx_rules.specs.Verdicts.{action_effect, edit_effect, Ends, Evaluation, Goes, Effect, Stops, verdict_at}
 
@@ -39,11 +37,14 @@ continuation_after (Ok done) strict = Ok continuation.Goes
 continuation_after (Err fault.NoMemory) strict = Err (record {})
 continuation_after (Err _) strict = Ok (continuation_refused strict)
 
+-- the edit that a rewriting action makes of the head in a state
+abbrev pub edit_in : {S : Type 0} → TableView S → Conn → Rewrite → State S → Edit
+edit_in view conn asked state =
+    edit_of (text_in view conn state) (action_of_rewrite asked) state.message
+
 -- what a rewriting action does in a state
 abbrev pub rewrite_effect : {S : Type 0} → TableView S → Conn → Rewrite → State S → Effect S
-rewrite_effect view conn asked state =
-    let text = text_in view conn state in
-    edit_effect (edit_of text (action_of_rewrite asked) state.message) state
+rewrite_effect view conn asked state = edit_effect (edit_in view conn asked state) state
 
 -- what a rule does in a state: its action where it is taken
 abbrev pub rule_effect : {S : Type 0} → TableView S → Conn → Acls → Rule → State S → Effect S
@@ -59,13 +60,9 @@ RuleAsksFor view conn acls rule state text =
     (is_taken_in view conn acls state rule.unless rule.cond ≡ true)
     × ActionAsksFor view conn rule.action state text
 
--- What rules of `http-request` leave, and the verdict that they give, if they give one, belong to
--- this evaluation.
-pub record IsEvaluation {S : Type 0} (view : TableView S) (conn : Conn) (program : Rules)
-    (given : Option Verdict) (message : Parts) (vars : Scopes) (tables : S)
-    (whole : Evaluation S) : Type 0 where
-  pub message_is : whole.state.message ≡ message
-  pub vars_are : whole.state.vars ≡ vars
-  pub tables_are : whole.state.tables ≡ tables
-  pub verdict_is : whole.verdict
-      ≡ unwrap_or given (in_state verdict_at view conn whole.state program)
+-- what is made of a request whose rules of `http-request` leave this state, and give this verdict,
+-- if they give one
+abbrev pub evaluation_of : {S : Type 0} → TableView S → Conn → Rules → Option Verdict → State S
+    → Evaluation S
+evaluation_of view conn program given state =
+    record { verdict = unwrap_or given (in_state verdict_at view conn state program); state = state }

@@ -11,6 +11,7 @@ pub mod Failures
 -- views of the code, for the contracts of private functions
 pub mod ProgramView
 pub mod RedirectView
+pub mod RequestView
 pub mod EffectView
 pub mod ActionView
 pub mod ReplacingView

@@ -2,20 +2,18 @@ ghost use Rattle.std.specs.Prelude.{◌≡◌, IfOk};
 ghost use Rattle.std.specs.List.{All, list_all};
 ghost use Rattle.std.specs.Option.{option_copied};
 ghost use Rattle.hx_acl.specs.Holds.{cond_holds, HasAclsHeads};
-ghost use Rattle.hx_fetch.specs.World.{context_of};
-ghost use Rattle.hx_rules.specs.Formats.{format_text};
+ghost use Rattle.hx_rules.specs.Formats.{text_in};
 ghost use Rattle.hx_rules.specs.RedirectView.{redirect_in};
+ghost use Rattle.hx_rules.specs.RequestView.{state_of};
+ghost use Rattle.hx_rules.specs.State.{in_state, table_view};
 ghost use Rattle.hx_rules.specs.Tables.{HasBackendHeads, HasRuleHeads};
 ghost use Rattle.hx_rules.specs.Verdicts.{backend_of, is_backend_byte, named_backend, redirects_verdict};
 
 use crate::action::{BuiltAction, BuiltRedirect};
-use crate::formats::format_text;
-use crate::locations::redirect;
 use crate::program::{BuiltBackend, BuiltRule};
-use crate::taking::is_taken;
+use crate::request::Request;
 use crate::verdict::Verdict;
 use hx_acl::AclSet;
-use hx_fetch::World;
 use hx_pool::Steps;
 use hx_sample::Tables;
 use hx_text::{NoMemory, Octets};
@@ -30,37 +28,6 @@ fn redirect_in(action: &BuiltAction) -> Option<&BuiltRedirect>
         BuiltAction::Redirect(asked) => Some(asked),
         _ => None,
     }
-}
-
-/// The verdict of the first redirect that is taken, if one is.
-pub(crate) fn redirected<'w, T: Tables, L: Ledger>(
-    alloc: Global,
-    rules: &[BuiltRule],
-    acls: &AclSet,
-    world: &World<'w>,
-    tables: &'w T,
-    steps: &mut Steps<L>,
-) -> Result<Option<Verdict>, NoMemory>
-    requires rules { All (HasRuleHeads (T.heads (T.state tables.now))) rules.now }
-    requires acls { HasAclsHeads (T.heads (T.state tables.now)) acls.now }
-    ensures { IfOk result (λ verdict. verdict
-        ≡ redirects_verdict
-        (cond_holds (context_of world.now) (T.heads (T.state tables.now))
-        (T.lists (T.state tables.now)) acls.now)
-        (format_text (context_of world.now) (T.heads (T.state tables.now))
-        (T.lists (T.state tables.now)))
-        world.now.message.now rules.now) }
-{
-    let mut rest = rules;
-    while let [rule, others @ ..] = rest {
-        if let Some(asked) = redirect_in(&rule.action) {
-            if is_taken(alloc, rule.unless, &rule.cond, acls, world, tables, steps)? {
-                return Ok(Some(redirect(alloc, asked, world, tables, steps)?));
-            }
-        }
-        rest = others;
-    }
-    Ok(None)
 }
 
 fn is_backend_byte(byte: u8) -> bool
@@ -101,33 +68,60 @@ fn copied(alloc: Global, name: &Option<Octets>) -> Result<Option<Octets>, NoMemo
     }
 }
 
-/// The backend of the first rule that is taken, or else the other one.
-pub(crate) fn backend<'w, T: Tables, L: Ledger>(
-    alloc: Global,
-    rules: &[BuiltBackend],
-    fallback: &Option<Octets>,
-    acls: &AclSet,
-    world: &World<'w>,
-    tables: &'w T,
-    steps: &mut Steps<L>,
-) -> Result<Option<Octets>, NoMemory>
-    requires rules { All (HasBackendHeads (T.heads (T.state tables.now))) rules.now }
-    requires acls { HasAclsHeads (T.heads (T.state tables.now)) acls.now }
-    ensures { IfOk result (λ backend. backend
-        ≡ backend_of
-        (cond_holds (context_of world.now) (T.heads (T.state tables.now))
-        (T.lists (T.state tables.now)) acls.now)
-        (format_text (context_of world.now) (T.heads (T.state tables.now))
-        (T.lists (T.state tables.now)))
-        rules.now fallback.now) }
-{
-    let mut rest = rules;
-    while let [rule, others @ ..] = rest {
-        if is_taken(alloc, rule.unless, &rule.cond, acls, world, tables, steps)? {
-            let text = format_text(alloc, &rule.format, world, tables, steps)?;
-            return named_backend(alloc, text, fallback);
+impl<T: Tables> Request<'_, T> {
+    /// The verdict of the first redirect that is taken, if one is.
+    pub(crate) fn redirected<L: Ledger>(
+        &self,
+        acls: &AclSet,
+        rules: &[BuiltRule],
+        steps: &mut Steps<L>,
+    ) -> Result<Option<Verdict>, NoMemory>
+        requires rules { All (HasRuleHeads (T.heads (T.state self.now.tables.now))) rules.now }
+        requires acls { HasAclsHeads (T.heads (T.state self.now.tables.now)) acls.now }
+        ensures { IfOk result (λ verdict. verdict ≡ redirects_verdict
+            (in_state cond_holds (table_view T.heads T.lists T.after_change) self.now.conn.now
+            (state_of T.state self.now) acls.now)
+            (text_in (table_view T.heads T.lists T.after_change) self.now.conn.now
+            (state_of T.state self.now))
+            self.now.message.now rules.now) }
+    {
+        let mut rest = rules;
+        while let [rule, others @ ..] = rest {
+            if let Some(asked) = redirect_in(&rule.action) {
+                if self.is_taken(acls, rule.unless, &rule.cond, steps)? {
+                    return Ok(Some(self.redirect(asked, steps)?));
+                }
+            }
+            rest = others;
         }
-        rest = others;
+        Ok(None)
     }
-    copied(alloc, fallback)
+
+    /// The backend of the first rule that is taken, or else the other one.
+    pub(crate) fn backend<L: Ledger>(
+        &self,
+        acls: &AclSet,
+        rules: &[BuiltBackend],
+        fallback: &Option<Octets>,
+        steps: &mut Steps<L>,
+    ) -> Result<Option<Octets>, NoMemory>
+        requires rules { All (HasBackendHeads (T.heads (T.state self.now.tables.now))) rules.now }
+        requires acls { HasAclsHeads (T.heads (T.state self.now.tables.now)) acls.now }
+        ensures { IfOk result (λ backend. backend ≡ backend_of
+            (in_state cond_holds (table_view T.heads T.lists T.after_change) self.now.conn.now
+            (state_of T.state self.now) acls.now)
+            (text_in (table_view T.heads T.lists T.after_change) self.now.conn.now
+            (state_of T.state self.now))
+            rules.now fallback.now) }
+    {
+        let mut rest = rules;
+        while let [rule, others @ ..] = rest {
+            if self.is_taken(acls, rule.unless, &rule.cond, steps)? {
+                let text = self.text(&rule.format, steps)?;
+                return named_backend(self.alloc, text, fallback);
+            }
+            rest = others;
+        }
+        copied(self.alloc, fallback)
+    }
 }

@@ -1,19 +1,19 @@
 ghost use Rattle.std.specs.Prelude.{◌≡◌, length, IfOk, OnErr, OnOk};
-ghost use Rattle.hx_acl.specs.Holds.{cond_holds, HasAclsHeads};
+ghost use Rattle.hx_acl.specs.Holds.{HasAclsHeads};
 ghost use Rattle.hx_sample.specs.Changes.{ChangeCountsLarge};
 ghost use Rattle.hx_rules.specs.Failures.{RulesAskFor, StandsAt};
-ghost use Rattle.hx_rules.specs.State.{table_view};
-ghost use Rattle.hx_rules.specs.EffectView.{IsEvaluation, effect_of, rule_effect, RuleAsksFor};
-ghost use Rattle.hx_rules.specs.Tables.{ChangesOneOf, HasHeads, HasLists, HasRuleHeads, HasWhenHeads};
-ghost use Rattle.hx_rules.specs.Verdicts.{evaluation, is_taken, start, verdict_at};
+ghost use Rattle.hx_rules.specs.EffectView.{evaluation_of, effect_of, rule_effect, RuleAsksFor};
+ghost use Rattle.hx_rules.specs.RequestView.{IsSameRequest, state_of};
+ghost use Rattle.hx_rules.specs.State.{in_state, table_view};
+ghost use Rattle.hx_rules.specs.Tables.{ChangesOneOf, HasHeads, HasLists, HasRuleHeads};
+ghost use Rattle.hx_rules.specs.Verdicts.{evaluation, start, verdict_at};
 
-use crate::actions::{Continuation, act};
-use crate::backends::{backend, redirected};
+use crate::actions::Continuation;
 use crate::program::{BuiltRule, Program};
-use crate::taking::is_taken;
+use crate::request::Request;
 use crate::verdict::Verdict;
 use hx_acl::AclSet;
-use hx_fetch::{Conn, World};
+use hx_fetch::Conn;
 use hx_http::Message;
 use hx_outside::ReMaker;
 use hx_pool::Steps;
@@ -22,167 +22,122 @@ use hx_text::NoMemory;
 use std::alloc::Global;
 use std::sync::ledger::Ledger;
 
-/// Whether the rule is taken in a world of these parts.
-fn takes<T: Tables, L: Ledger>(
-    alloc: Global,
-    acls: &AclSet,
-    rule: &BuiltRule,
-    message: &Message,
-    conn: &Conn,
-    vars: &Vars,
-    tables: &T,
-    steps: &mut Steps<L>,
-) -> Result<bool, NoMemory>
-    requires heads { HasWhenHeads (T.heads (T.state tables.now)) rule.now.cond }
-    requires acls { HasAclsHeads (T.heads (T.state tables.now)) acls.now }
-    ensures { IfOk result (λ taken. taken ≡ is_taken (cond_holds
-        (record { message = message.now; conn = conn.now; vars = vars.now })
-        (T.heads (T.state tables.now)) (T.lists (T.state tables.now)) acls.now) rule.now.unless
-        rule.now.cond) }
-{
-    let world = World {
-        message,
-        conn,
-        vars,
-    };
-    is_taken(alloc, rule.unless, &rule.cond, acls, &world, tables, steps)
-}
-
-/// Does what a rule of `http-request` says, if it is taken. Nothing is changed where that fails.
-fn apply_rule<T: Tables, M: ReMaker, L: Ledger>(
-    alloc: Global,
-    acls: &AclSet,
-    rule: &BuiltRule,
-    message: &mut Message,
-    conn: &Conn,
-    vars: &mut Vars,
-    tables: &mut T,
-    strict: &mut bool,
-    maker: &mut M,
-    steps: &mut Steps<L>,
-) -> Result<Continuation, TableFault>
-    requires acls { HasAclsHeads (T.heads (T.state tables.old)) acls.now }
-    requires heads { HasRuleHeads (T.heads (T.state tables.old)) rule.now }
-    requires list { ChangesOneOf (length (T.lists (T.state tables.old))) rule.now.action }
-    ensures ok { IfOk result (λ after. effect_of after (record {
-      message = message.new;
-      vars = vars.new;
-      tables = T.state tables.new;
-      strict = strict.new;
-    })
-        ≡ rule_effect (table_view T.heads T.lists T.after_change) conn.now acls.now
-        rule.now (record {
-          message = message.old;
-          vars = vars.old;
-          tables = T.state tables.old;
-          strict = strict.old;
-        })) }
-    ensures message { OnErr result (message.new ≡ message.old) }
-    ensures vars { OnErr result (vars.new ≡ vars.old) }
-    ensures tables { OnErr result (tables.new ≡ tables.old) }
-    ensures heads { T.heads (T.state tables.new) ≡ T.heads (T.state tables.old) }
-    ensures lists { length (T.lists (T.state tables.new)) ≡ length (T.lists (T.state tables.old)) }
-    ensures large { ChangeCountsLarge result
-        (RuleAsksFor (table_view T.heads T.lists T.after_change) conn.now acls.now
-        rule.now (record {
-          message = message.old;
-          vars = vars.old;
-          tables = T.state tables.old;
-          strict = strict.old;
-        }))
-        (M.state maker.old) (M.state maker.new) }
-{
-    if takes(alloc, acls, rule, message, conn, vars, tables, steps)? {
-        let action = &rule.action;
-        return act(
-            alloc, action, message, conn, vars, tables, strict, maker, steps,
-        );
-    }
-    Ok(Continuation::Goes)
-}
-
-/// Goes through the rules of `http-request`. The verdict of the first that gives one, if one does.
-fn apply_rules<T: Tables, M: ReMaker, L: Ledger>(
-    alloc: Global,
-    program: &Program,
-    message: &mut Message,
-    conn: &Conn,
-    vars: &mut Vars,
-    tables: &mut T,
-    maker: &mut M,
-    steps: &mut Steps<L>,
-) -> Result<Option<Verdict>, TableFault>
-    requires heads { HasHeads (T.heads (T.state tables.old)) program.now }
-    requires lists { HasLists (length (T.lists (T.state tables.old))) program.now }
-    ensures ok { IfOk result (λ given.
-        IsEvaluation (table_view T.heads T.lists T.after_change) conn.now program.now given
-        message.new vars.new (T.state tables.new)
-        (evaluation (table_view T.heads T.lists T.after_change) conn.now program.now
-        (start message.old vars.old (T.state tables.old)))) }
-    ensures stands { StandsAt (table_view T.heads T.lists T.after_change) conn.now program.now
-        (start message.old vars.old (T.state tables.old)) message.new vars.new
-        (T.state tables.new) }
-    ensures heads { T.heads (T.state tables.new) ≡ T.heads (T.state tables.old) }
-    ensures lists { length (T.lists (T.state tables.new)) ≡ length (T.lists (T.state tables.old)) }
-    ensures large { ChangeCountsLarge result
-        (RulesAskFor (table_view T.heads T.lists T.after_change) conn.now program.now
-        (start message.old vars.old (T.state tables.old)))
-        (M.state maker.old) (M.state maker.new) }
-{
-    let mut strict = true;
-    let acls = &program.acls;
-    let mut rest = program.rules.as_slice();
-    while let [rule, others @ ..] = rest {
-        match apply_rule(
-            alloc,
-            acls,
-            rule,
-            message,
-            conn,
-            vars,
-            tables,
-            &mut strict,
-            maker,
-            steps,
-        )? {
-            Continuation::Goes => {}
-            Continuation::Stops => return Ok(None),
-            Continuation::Ends(verdict) => return Ok(Some(verdict)),
+impl<T: Tables> Request<'_, T> {
+    /// Does what a rule of `http-request` says, if it is taken. Nothing is changed where that
+    /// fails.
+    fn apply_rule<M: ReMaker, L: Ledger>(
+        &mut self,
+        acls: &AclSet,
+        rule: &BuiltRule,
+        maker: &mut M,
+        steps: &mut Steps<L>,
+    ) -> Result<Continuation, TableFault>
+        requires acls { HasAclsHeads (T.heads (T.state self.old.tables.now)) acls.now }
+        requires heads { HasRuleHeads (T.heads (T.state self.old.tables.now)) rule.now }
+        requires list { ChangesOneOf (length (T.lists (T.state self.old.tables.now)))
+            rule.now.action }
+        ensures ok { IfOk result (λ after. effect_of after (state_of T.state self.new)
+            ≡ rule_effect (table_view T.heads T.lists T.after_change) self.old.conn.now acls.now
+            rule.now (state_of T.state self.old)) }
+        ensures kept { OnErr result (state_of T.state self.new ≡ state_of T.state self.old) }
+        ensures same { IsSameRequest T.state T.heads T.lists self.old self.new }
+        ensures large { ChangeCountsLarge result
+            (RuleAsksFor (table_view T.heads T.lists T.after_change) self.old.conn.now acls.now
+            rule.now (state_of T.state self.old))
+            (M.state maker.old) (M.state maker.new) }
+    {
+        if self.is_taken(acls, rule.unless, &rule.cond, steps)? {
+            return self.act(&rule.action, maker, steps);
         }
-        rest = others;
+        Ok(Continuation::Goes)
     }
-    Ok(None)
-}
 
-/// The verdict where the rules of `http-request` give none.
-fn later_verdict<T: Tables, L: Ledger>(
-    alloc: Global,
-    program: &Program,
-    message: &Message,
-    conn: &Conn,
-    vars: &Vars,
-    tables: &T,
-    steps: &mut Steps<L>,
-) -> Result<Verdict, NoMemory>
-    requires { HasHeads (T.heads (T.state tables.now)) program.now }
-    ensures { IfOk result (λ verdict. verdict ≡ verdict_at
-        (record { message = message.now; conn = conn.now; vars = vars.now })
-        (T.heads (T.state tables.now)) (T.lists (T.state tables.now)) program.now) }
-{
-    let world = World {
-        message,
-        conn,
-        vars,
-    };
-    let acls = &program.acls;
-    let redirects = program.redirects.as_slice();
-    if let Some(verdict) = redirected(alloc, redirects, acls, &world, tables, steps)? {
-        return Ok(verdict);
+    /// Goes through the rules of `http-request`. The verdict of the first that gives one, if one
+    /// does.
+    fn apply_rules<M: ReMaker, L: Ledger>(
+        &mut self,
+        program: &Program,
+        maker: &mut M,
+        steps: &mut Steps<L>,
+    ) -> Result<Option<Verdict>, TableFault>
+        requires heads { HasHeads (T.heads (T.state self.old.tables.now)) program.now }
+        requires lists { HasLists (length (T.lists (T.state self.old.tables.now))) program.now }
+        ensures ok { IfOk result (λ given.
+            evaluation (table_view T.heads T.lists T.after_change) self.old.conn.now program.now
+            (state_of T.state self.old)
+            ≡ evaluation_of (table_view T.heads T.lists T.after_change) self.old.conn.now
+            program.now given (state_of T.state self.new)) }
+        ensures stands { StandsAt (table_view T.heads T.lists T.after_change) self.old.conn.now
+            program.now (state_of T.state self.old) self.new.message.now self.new.vars.now
+            (T.state self.new.tables.now) }
+        ensures same { IsSameRequest T.state T.heads T.lists self.old self.new }
+        ensures large { ChangeCountsLarge result
+            (RulesAskFor (table_view T.heads T.lists T.after_change) self.old.conn.now program.now
+            (state_of T.state self.old))
+            (M.state maker.old) (M.state maker.new) }
+    {
+        let acls = &program.acls;
+        let mut rest = program.rules.as_slice();
+        while let [rule, others @ ..] = rest {
+            match self.apply_rule(acls, rule, maker, steps)? {
+                Continuation::Goes => {}
+                Continuation::Stops => return Ok(None),
+                Continuation::Ends(verdict) => return Ok(Some(verdict)),
+            }
+            rest = others;
+        }
+        Ok(None)
     }
-    let backends = program.backends.as_slice();
-    let fallback = &program.fallback;
-    let backend = backend(alloc, backends, fallback, acls, &world, tables, steps)?;
-    Ok(Verdict::Pass { backend })
+
+    /// The verdict where the rules of `http-request` give none.
+    fn later_verdict<L: Ledger>(
+        &self,
+        program: &Program,
+        steps: &mut Steps<L>,
+    ) -> Result<Verdict, NoMemory>
+        requires { HasHeads (T.heads (T.state self.now.tables.now)) program.now }
+        ensures { IfOk result (λ verdict. verdict
+            ≡ in_state verdict_at (table_view T.heads T.lists T.after_change) self.now.conn.now
+            (state_of T.state self.now) program.now) }
+    {
+        let acls = &program.acls;
+        let redirects = program.redirects.as_slice();
+        if let Some(verdict) = self.redirected(acls, redirects, steps)? {
+            return Ok(verdict);
+        }
+        let backends = program.backends.as_slice();
+        let fallback = &program.fallback;
+        let backend = self.backend(acls, backends, fallback, steps)?;
+        Ok(Verdict::Pass { backend })
+    }
+
+    /// The verdict of all rules.
+    fn verdict<M: ReMaker, L: Ledger>(
+        &mut self,
+        program: &Program,
+        maker: &mut M,
+        steps: &mut Steps<L>,
+    ) -> Result<Verdict, TableFault>
+        requires heads { HasHeads (T.heads (T.state self.old.tables.now)) program.now }
+        requires lists { HasLists (length (T.lists (T.state self.old.tables.now))) program.now }
+        ensures ok { IfOk result (λ verdict.
+            evaluation (table_view T.heads T.lists T.after_change) self.old.conn.now program.now
+            (state_of T.state self.old)
+            ≡ record { verdict = verdict; state = state_of T.state self.new }) }
+        ensures stands { OnErr result (StandsAt (table_view T.heads T.lists T.after_change)
+            self.old.conn.now program.now (state_of T.state self.old) self.new.message.now
+            self.new.vars.now (T.state self.new.tables.now)) }
+        ensures same { IsSameRequest T.state T.heads T.lists self.old self.new }
+        ensures large { ChangeCountsLarge result
+            (RulesAskFor (table_view T.heads T.lists T.after_change) self.old.conn.now program.now
+            (state_of T.state self.old))
+            (M.state maker.old) (M.state maker.new) }
+    {
+        if let Some(verdict) = self.apply_rules(program, maker, steps)? {
+            return Ok(verdict);
+        }
+        Ok(self.later_verdict(program, steps)?)
+    }
 }
 
 /// The verdict of the rules on a request (HAProxy configuration manual 2.4, section 4.2). The rules
@@ -236,9 +191,13 @@ pub fn evaluate<T: Tables, M: ReMaker, L: Ledger>(
         (start message.old vars.old (T.state tables.old)))
         (M.state maker.old) (M.state maker.new) }
 {
-    let given = apply_rules(alloc, program, message, conn, vars, tables, maker, steps)?;
-    if let Some(verdict) = given {
-        return Ok(verdict);
-    }
-    Ok(later_verdict(alloc, program, message, conn, vars, tables, steps)?)
+    let mut request = Request {
+        alloc,
+        conn,
+        message,
+        vars,
+        tables,
+        strict: true,
+    };
+    request.verdict(program, maker, steps)
 }

@@ -25,6 +25,7 @@ mod locations;
 mod pattern;
 mod program;
 mod replacing;
+mod request;
 mod rewrites;
 mod taking;
 mod typing;

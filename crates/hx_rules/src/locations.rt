@@ -1,17 +1,17 @@
 ghost use Rattle.std.specs.Prelude.{◌≡◌, ◌++◌, IfOk, OnOk};
-ghost use Rattle.hx_fetch.specs.World.{context_of};
-ghost use Rattle.hx_rules.specs.Formats.{format_text};
+ghost use Rattle.hx_rules.specs.Formats.{text_in};
 ghost use Rattle.hx_rules.specs.Locations.{host_of, location_of, redirect_verdict, target_rest};
+ghost use Rattle.hx_rules.specs.RequestView.{state_of};
+ghost use Rattle.hx_rules.specs.State.{table_view};
 ghost use Rattle.hx_rules.specs.Tables.{HasFormatHeads};
 
 use crate::action::BuiltRedirect;
-use crate::formats::format_text;
+use crate::request::Request;
 use crate::verdict::Verdict;
 use hx_ast::RedirectKind;
-use hx_fetch::{Conn, World};
 use hx_http::Message;
 use hx_pool::Steps;
-use hx_sample::{Tables, Vars};
+use hx_sample::Tables;
 use hx_text::{NoMemory, Octets, has_bad_value_byte};
 use std::alloc::Global;
 use std::sync::ledger::Ledger;
@@ -78,63 +78,27 @@ fn location(
     Ok(location)
 }
 
-/// The verdict of a redirect: `Error` where its location has CR, LF or NUL.
-pub(crate) fn redirect<'w, T: Tables, L: Ledger>(
-    alloc: Global,
-    redirect: &BuiltRedirect,
-    world: &World<'w>,
-    tables: &'w T,
-    steps: &mut Steps<L>,
-) -> Result<Verdict, NoMemory>
-    requires { HasFormatHeads (T.heads (T.state tables.now)) redirect.now.format }
-    ensures { IfOk result (λ verdict. verdict
-        ≡ redirect_verdict redirect.now.kind (format_text (context_of world.now)
-        (T.heads (T.state tables.now)) (T.lists (T.state tables.now)) redirect.now.format)
-        redirect.now.status
-        redirect.now.drop_query world.now.message.now) }
-{
-    let text = format_text(alloc, &redirect.format, world, tables, steps)?;
-    let location = location(
-        alloc,
-        redirect.kind,
-        text,
-        redirect.drop_query,
-        world.message,
-    )?;
-    if has_bad_value_byte(location.as_slice()) {
-        return Ok(Verdict::Error);
-    }
-    Ok(Verdict::Redirect {
-        code: redirect.status.unwrap_or(302),
-        location,
-    })
-}
-
-/// The same in a world of these parts.
-pub(crate) fn redirect_of<T: Tables, L: Ledger>(
-    alloc: Global,
-    asked: &BuiltRedirect,
-    message: &Message,
-    conn: &Conn,
-    vars: &Vars,
-    tables: &T,
-    steps: &mut Steps<L>,
-) -> Result<Verdict, NoMemory>
-    requires { HasFormatHeads (T.heads (T.state tables.now)) asked.now.format }
-    ensures { IfOk result (λ verdict. verdict
-        ≡ redirect_verdict asked.now.kind (format_text (record {
-          message = message.now;
-          conn = conn.now;
-          vars = vars.now;
+impl<T: Tables> Request<'_, T> {
+    /// The verdict of a redirect: `Error` where its location has CR, LF or NUL.
+    pub(crate) fn redirect<L: Ledger>(
+        &self,
+        asked: &BuiltRedirect,
+        steps: &mut Steps<L>,
+    ) -> Result<Verdict, NoMemory>
+        requires { HasFormatHeads (T.heads (T.state self.now.tables.now)) asked.now.format }
+        ensures { IfOk result (λ verdict. verdict
+            ≡ redirect_verdict asked.now.kind (text_in (table_view T.heads T.lists T.after_change)
+            self.now.conn.now (state_of T.state self.now) asked.now.format) asked.now.status
+            asked.now.drop_query self.now.message.now) }
+    {
+        let text = self.text(&asked.format, steps)?;
+        let location = location(self.alloc, asked.kind, text, asked.drop_query, self.message)?;
+        if has_bad_value_byte(location.as_slice()) {
+            return Ok(Verdict::Error);
+        }
+        Ok(Verdict::Redirect {
+            code: asked.status.unwrap_or(302),
+            location,
         })
-        (T.heads (T.state tables.now)) (T.lists (T.state tables.now)) asked.now.format)
-        asked.now.status
-        asked.now.drop_query message.now) }
-{
-    let world = World {
-        message,
-        conn,
-        vars,
-    };
-    redirect(alloc, asked, &world, tables, steps)
+    }
 }

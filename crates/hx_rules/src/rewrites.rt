@@ -1,19 +1,19 @@
 ghost use Rattle.std.specs.Prelude.{◌≡◌, IfErr, OnOk, OnErr, None};
 ghost use Rattle.hx_http.specs.Edits.{add_header_fault, set_header_fault, with_header, with_only_header, MayFail};
-ghost use Rattle.hx_rules.specs.Formats.{format_text};
+ghost use Rattle.hx_rules.specs.EffectView.{edit_in};
 ghost use Rattle.hx_rules.specs.ProgramView.{action_of_rewrite};
-ghost use Rattle.hx_rules.specs.Rewrites.{edit_of, named_fault};
+ghost use Rattle.hx_rules.specs.RequestView.{IsSameRequest, state_of};
+ghost use Rattle.hx_rules.specs.Rewrites.{named_fault};
+ghost use Rattle.hx_rules.specs.State.{table_view};
 ghost use Rattle.hx_rules.specs.Tables.{HasActionHeads};
 
 use crate::action::Rewrite;
-use crate::formats::text_of;
 use crate::replacing::replace_values;
+use crate::request::Request;
 use httparse::is_token;
-use hx_fetch::Conn;
 use hx_http::{EditFault, Message};
 use hx_pool::Steps;
-use hx_sample::{Tables, Vars};
-use std::alloc::Global;
+use hx_sample::Tables;
 use std::sync::ledger::Ledger;
 
 /// Sets the header line of a name, which is refused where the name is no token.
@@ -46,85 +46,79 @@ fn add_header(message: &mut Message, name: &[u8], value: &[u8]) -> Result<(), Ed
     message.add_header(name, value)
 }
 
-/// Rewrites the head of the request. What is refused is as for the edits of a message, and nothing
-/// is changed then; a header line whose name is no token is refused as `BadBytes`.
-pub(crate) fn rewrite<T: Tables, L: Ledger>(
-    alloc: Global,
-    rewrite: &Rewrite,
-    message: &mut Message,
-    conn: &Conn,
-    vars: &Vars,
-    tables: &T,
-    steps: &mut Steps<L>,
-) -> Result<(), EditFault>
-    requires { HasActionHeads (T.heads (T.state tables.now)) (action_of_rewrite rewrite.now) }
-    ensures ok { OnOk result (message.new ≡ (edit_of
-        (format_text (record { message = message.old; conn = conn.now; vars = vars.now })
-        (T.heads (T.state tables.now)) (T.lists (T.state tables.now)))
-        (action_of_rewrite rewrite.now)
-        message.old).head) }
-    ensures none { OnOk result ((edit_of
-        (format_text (record { message = message.old; conn = conn.now; vars = vars.now })
-        (T.heads (T.state tables.now)) (T.lists (T.state tables.now)))
-        (action_of_rewrite rewrite.now)
-        message.old).fault ≡ None) }
-    ensures refused { IfErr result (MayFail (edit_of
-        (format_text (record { message = message.old; conn = conn.now; vars = vars.now })
-        (T.heads (T.state tables.now)) (T.lists (T.state tables.now)))
-        (action_of_rewrite rewrite.now)
-        message.old).fault) }
-    ensures kept { OnErr result (message.new ≡ message.old) }
-{
-    match rewrite {
-        Rewrite::SetHeader(name, format) => {
-            let text = text_of(alloc, format, message, conn, vars, tables, steps)?;
-            set_header(message, name.as_slice(), text.as_slice())
-        }
-        Rewrite::AddHeader(name, format) => {
-            let text = text_of(alloc, format, message, conn, vars, tables, steps)?;
-            add_header(message, name.as_slice(), text.as_slice())
-        }
-        Rewrite::DelHeader(name) => {
-            message.del_header(name.as_slice());
-            Ok(())
-        }
-        Rewrite::ReplaceHeader(name, pattern, format) => {
-            let text = text_of(alloc, format, message, conn, vars, tables, steps)?;
-            replace_values(
-                alloc,
-                message,
-                name.as_slice(),
-                pattern,
-                text.as_slice(),
-                false,
-            )
-        }
-        Rewrite::ReplaceValue(name, pattern, format) => {
-            let text = text_of(alloc, format, message, conn, vars, tables, steps)?;
-            replace_values(
-                alloc,
-                message,
-                name.as_slice(),
-                pattern,
-                text.as_slice(),
-                true,
-            )
-        }
-        Rewrite::SetMethod(format) => {
-            let text = text_of(alloc, format, message, conn, vars, tables, steps)?;
-            message.set_method(text.as_slice())
-        }
-        Rewrite::SetUri(format) => {
-            let text = text_of(alloc, format, message, conn, vars, tables, steps)?;
-            message.set_uri(text.as_slice())
-        }
-        Rewrite::SetPath(format) => {
-            let text = text_of(alloc, format, message, conn, vars, tables, steps)?;
-            message.set_path(text.as_slice())
-        }
-        Rewrite::SetQuery(format) => {
-            let text = text_of(alloc, format, message, conn, vars, tables, steps)?;
-            message.set_query(text.as_slice())
+impl<T: Tables> Request<'_, T> {
+    /// Rewrites the head of the request. What is refused is as for the edits of a message, and
+    /// nothing is changed then; a header line whose name is no token is refused as `BadBytes`.
+    pub(crate) fn rewrite<L: Ledger>(
+        &mut self,
+        asked: &Rewrite,
+        steps: &mut Steps<L>,
+    ) -> Result<(), EditFault>
+        requires { HasActionHeads (T.heads (T.state self.old.tables.now))
+            (action_of_rewrite asked.now) }
+        ensures ok { OnOk result (state_of T.state self.new ≡ record (state_of T.state self.old) {
+          message = (edit_in (table_view T.heads T.lists T.after_change) self.old.conn.now asked.now
+              (state_of T.state self.old)).head;
+        }) }
+        ensures none { OnOk result ((edit_in (table_view T.heads T.lists T.after_change)
+            self.old.conn.now asked.now (state_of T.state self.old)).fault ≡ None) }
+        ensures refused { IfErr result (MayFail (edit_in
+            (table_view T.heads T.lists T.after_change) self.old.conn.now asked.now
+            (state_of T.state self.old)).fault) }
+        ensures kept { OnErr result (state_of T.state self.new ≡ state_of T.state self.old) }
+        ensures same { IsSameRequest T.state T.heads T.lists self.old self.new }
+    {
+        match asked {
+            Rewrite::SetHeader(name, format) => {
+                let text = self.text(format, steps)?;
+                set_header(self.message, name.as_slice(), text.as_slice())
+            }
+            Rewrite::AddHeader(name, format) => {
+                let text = self.text(format, steps)?;
+                add_header(self.message, name.as_slice(), text.as_slice())
+            }
+            Rewrite::DelHeader(name) => {
+                self.message.del_header(name.as_slice());
+                Ok(())
+            }
+            Rewrite::ReplaceHeader(name, pattern, format) => {
+                let text = self.text(format, steps)?;
+                replace_values(
+                    self.alloc,
+                    self.message,
+                    name.as_slice(),
+                    pattern,
+                    text.as_slice(),
+                    false,
+                )
+            }
+            Rewrite::ReplaceValue(name, pattern, format) => {
+                let text = self.text(format, steps)?;
+                replace_values(
+                    self.alloc,
+                    self.message,
+                    name.as_slice(),
+                    pattern,
+                    text.as_slice(),
+                    true,
+                )
+            }
+            Rewrite::SetMethod(format) => {
+                let text = self.text(format, steps)?;
+                self.message.set_method(text.as_slice())
+            }
+            Rewrite::SetUri(format) => {
+                let text = self.text(format, steps)?;
+                self.message.set_uri(text.as_slice())
+            }
+            Rewrite::SetPath(format) => {
+                let text = self.text(format, steps)?;
+                self.message.set_path(text.as_slice())
+            }
+            Rewrite::SetQuery(format) => {
+                let text = self.text(format, steps)?;
+                self.message.set_query(text.as_slice())
+            }
         }
     }
 }
