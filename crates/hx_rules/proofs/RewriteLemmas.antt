@@ -8,22 +8,24 @@ use Rattle.hx_http.specs.declared.fault.EditFault.{EditFault}
 use Rattle.hx_http.specs.Edits.{MayFail}
 use Rattle.hx_http.specs.Parts.{Parts}
 use Rattle.hx_rules.specs.ReplacingView.{replacement_of}
-use Rattle.hx_rules.specs.Rewrites.{Edit, edit_of, replacing_edit}
+use Rattle.hx_rules.specs.Rewrites.{Edit, edit_of, Replacement, replacing_edit}
 use Rattle.hx_rules.specs.State.{State}
 
-pub replace_header_is : (text : List Part → List ℕ) (asked : Action) (head : Parts) (name pattern given sub made : List ℕ) (format : List Part)
-    → asked ≡ action.ReplaceHeader name pattern format → given ≡ name → sub ≡ made → made ≡ text format
-    → replacing_edit given (replacement_of false pattern sub) head ≡ edit_of text asked head
-replace_header_is text asked head name pattern given sub made format is same_name same_sub same_text =
-    ap (λ (n : List ℕ). replacing_edit n (replacement_of false pattern sub) head) same_name
+pub replace_header_is : (text : List Part → List ℕ) (asked : Action) (head : Parts) (name pattern given sub made : List ℕ) (format : List Part) (replacement : Replacement)
+    → asked ≡ action.ReplaceHeader name pattern format → given ≡ name → sub ≡ made → made ≡ text format → replacement ≡ replacement_of false pattern sub
+    → replacing_edit given replacement head ≡ edit_of text asked head
+replace_header_is text asked head name pattern given sub made format replacement is same_name same_sub same_text same_replacement =
+    ap (λ (r : Replacement). replacing_edit given r head) same_replacement
+    ∙ ap (λ (n : List ℕ). replacing_edit n (replacement_of false pattern sub) head) same_name
     ∙ ap (λ (t : List ℕ). replacing_edit name (replacement_of false pattern t) head) (same_sub ∙ same_text)
     ∙ ap (λ (r : Action). edit_of text r head) (sym is)
 
-pub replace_value_is : (text : List Part → List ℕ) (asked : Action) (head : Parts) (name pattern given sub made : List ℕ) (format : List Part)
-    → asked ≡ action.ReplaceValue name pattern format → given ≡ name → sub ≡ made → made ≡ text format
-    → replacing_edit given (replacement_of true pattern sub) head ≡ edit_of text asked head
-replace_value_is text asked head name pattern given sub made format is same_name same_sub same_text =
-    ap (λ (n : List ℕ). replacing_edit n (replacement_of true pattern sub) head) same_name
+pub replace_value_is : (text : List Part → List ℕ) (asked : Action) (head : Parts) (name pattern given sub made : List ℕ) (format : List Part) (replacement : Replacement)
+    → asked ≡ action.ReplaceValue name pattern format → given ≡ name → sub ≡ made → made ≡ text format → replacement ≡ replacement_of true pattern sub
+    → replacing_edit given replacement head ≡ edit_of text asked head
+replace_value_is text asked head name pattern given sub made format replacement is same_name same_sub same_text same_replacement =
+    ap (λ (r : Replacement). replacing_edit given r head) same_replacement
+    ∙ ap (λ (n : List ℕ). replacing_edit n (replacement_of true pattern sub) head) same_name
     ∙ ap (λ (t : List ℕ). replacing_edit name (replacement_of true pattern t) head) (same_sub ∙ same_text)
     ∙ ap (λ (r : Action). edit_of text r head) (sym is)
 

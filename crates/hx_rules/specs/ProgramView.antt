@@ -1,11 +1,9 @@
 -- How the code keeps formats and actions that are ready to be evaluated, for the contracts of its
 -- private functions: each is seen as the syntax that it was built from.
-use Rattle.std.specs.Prelude.{ℕ, List}
 use Rattle.hx_ast.specs.declared.action.Action.{Action}
 use Rattle.hx_ast.specs.declared.action.Action.TheVariants as action
 use Rattle.hx_ast.specs.declared.action.Part.{Part}
 use Rattle.hx_ast.specs.declared.action.Part.TheVariants as part
-use Rattle.hx_sample.specs.Changes.{Addition, ListChange, NewValue, Removal}
 use Rattle.hx_rules.specs.declared.action.BuiltAction.{BuiltAction}
 use Rattle.hx_rules.specs.declared.action.BuiltAction.TheVariants as built
 use Rattle.hx_rules.specs.declared.action.BuiltRedirect.{BuiltRedirect}
@@ -52,10 +50,3 @@ action_of_built (built.UnsetVar name) = action.UnsetVar name
 action_of_built (built.Change change) = action_of_change change
 action_of_built (built.Redirect redirect) = action_of_redirect redirect
 action_of_built (built.StrictMode on) = action.StrictMode on
-
--- which list an action changes, by its position, and how, where `text` gives the texts of formats
-abbrev pub list_change : (List Part → List ℕ) → TableChange → ℕ × ListChange
-list_change text (change.AddAcl table key) = (table, Addition (text key))
-list_change text (change.DelAcl table key) = (table, Removal (text key))
-list_change text (change.DelMap table key) = (table, Removal (text key))
-list_change text (change.SetMap table key value) = (table, NewValue (text key) (text value))

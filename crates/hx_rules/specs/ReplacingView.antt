@@ -5,12 +5,18 @@ use Rattle.std.specs.List.{list_any}
 use Rattle.hx_conv_text.specs.Substitution.{expanded_of}
 use Rattle.hx_http.specs.declared.fault.EditFault.TheVariants.{BadBytes}
 use Rattle.hx_http.specs.Parts.{Parts}
+use Rattle.hx_rules.specs.declared.replacing.Replacer.{Replacer}
 use Rattle.hx_rules.specs.Rewrites.{each_replaced, Edit, edited, is_badly_replaced, line_after, Replacement}
 
 -- what replaces the value of a line: each of its values between commas, or the whole of it
 abbrev pub replacement_of : Bool → List ℕ → List ℕ → Replacement
 replacement_of true pattern text = each_replaced (expanded_of false pattern text)
 replacement_of false pattern text = expanded_of false pattern text
+
+-- what replaces the value of a line, as the code keeps it
+abbrev pub replacement_by : Replacer → Replacement
+replacement_by replacer =
+    replacement_of replacer.each replacer.pattern.now replacer.sub.now
 
 -- the list with its items from a position on changed
 abbrev pub map_from : {A : Type 0} → ℕ → (A → A) → List A → List A

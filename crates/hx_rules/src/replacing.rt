@@ -2,7 +2,7 @@ ghost use Rattle.std.specs.Prelude.{◌≡◌, ◌+◌, ◌<◌, ◌++◌, lengt
 ghost use Rattle.hx_conv_text.specs.Substitution.{expanded_of};
 ghost use Rattle.hx_http.specs.Edits.{MayFail};
 ghost use Rattle.hx_lists.specs.Blanks.{trim_blanks};
-ghost use Rattle.hx_rules.specs.ReplacingView.{replacement_of, replacing_from};
+ghost use Rattle.hx_rules.specs.ReplacingView.{replacement_by, replacement_of, replacing_from};
 ghost use Rattle.hx_rules.specs.Rewrites.{each_replaced, piece_after, replacing_edit};
 
 use crate::pattern::Pattern;
@@ -11,129 +11,125 @@ use hx_lists::{cut_blanks, first_hdr_piece};
 use hx_text::{NoMemory, Octets};
 use std::alloc::Global;
 
-/// What replaces the values of a line between commas, each in its place. None exactly where all
-/// stay.
-fn each_replaced(
+/// How values are replaced: what the regular expression finds in each value, or in each of its
+/// values between commas, becomes what `sub` makes of it.
+#[derive(Drop)]
+pub(crate) struct Replacer<'p> {
     alloc: Global,
-    pattern: &Pattern,
-    sub: &[u8],
-    line: &[u8],
-) -> Result<Option<Octets>, NoMemory>
-    ensures { IfOk result (λ made. made
-        ≡ each_replaced (expanded_of false pattern.now sub.now) line.now) }
-{
-    let mut text = Octets::from_vec(Vec::new(alloc));
-    let mut is_changed = false;
-    let mut rest = line;
-    loop {
-        let (piece, more) = first_hdr_piece(rest);
-        is_changed |= push_piece(alloc, &mut text, pattern, sub, piece)?;
-        let Some(more) = more else {
-            break;
+    pattern: &'p Pattern,
+    sub: &'p [u8],
+    each: bool,
+}
+
+impl<'p> Replacer<'p> {
+    pub(crate) fn new(
+        alloc: Global,
+        pattern: &'p Pattern,
+        sub: &'p [u8],
+        each: bool,
+    ) -> Replacer<'p>
+        ensures { replacement_by result ≡ replacement_of each pattern.now sub.now }
+    {
+        Replacer {
+            alloc,
+            pattern,
+            sub,
+            each,
+        }
+    }
+}
+
+impl Replacer<'_> {
+    /// What replaces the values of a line between commas, each in its place. None exactly where all
+    /// stay.
+    fn each_replaced(&self, line: &[u8]) -> Result<Option<Octets>, NoMemory>
+        ensures { IfOk result (λ made. made
+            ≡ each_replaced (expanded_of false self.now.pattern.now self.now.sub.now) line.now) }
+    {
+        let mut text = Octets::from_vec(Vec::new(self.alloc));
+        let mut is_changed = false;
+        let mut rest = line;
+        loop {
+            let (piece, more) = first_hdr_piece(rest);
+            is_changed |= self.push_piece(&mut text, piece)?;
+            let Some(more) = more else {
+                break;
+            };
+            text.push_all(b",")?;
+            rest = more;
+        }
+        Ok(if is_changed { Some(text) } else { None })
+    }
+
+    /// Appends a piece of a line with its value replaced. True where it is replaced.
+    fn push_piece(&self, text: &mut Octets, piece: &[u8]) -> Result<bool, NoMemory>
+        ensures text { OnOk result (text.new ≡ text.old
+            ++ piece_after (expanded_of false self.now.pattern.now self.now.sub.now) piece.now) }
+        ensures changed { IfOk result (λ changed. changed ≡ is_some
+            (expanded_of false self.now.pattern.now self.now.sub.now (trim_blanks piece.now))) }
+    {
+        let (first, value, last) = cut_blanks(piece);
+        let Some(new) = self.pattern.expand(self.alloc, self.sub, value)? else {
+            text.push_all(piece)?;
+            return Ok(false);
         };
-        text.push_all(b",")?;
-        rest = more;
+        text.push_all(first)?;
+        text.push_all(new.as_slice())?;
+        text.push_all(last)?;
+        Ok(true)
     }
-    Ok(if is_changed { Some(text) } else { None })
-}
 
-/// Appends a piece of a line with its value replaced. True where it is replaced.
-fn push_piece(
-    alloc: Global,
-    text: &mut Octets,
-    pattern: &Pattern,
-    sub: &[u8],
-    piece: &[u8],
-) -> Result<bool, NoMemory>
-    ensures text { OnOk result (text.new
-        ≡ text.old ++ piece_after (expanded_of false pattern.now sub.now) piece.now) }
-    ensures changed { IfOk result (λ changed. changed
-        ≡ is_some (expanded_of false pattern.now sub.now (trim_blanks piece.now))) }
-{
-    let (first, value, last) = cut_blanks(piece);
-    let Some(new) = pattern.expand(alloc, sub, value)? else {
-        text.push_all(piece)?;
-        return Ok(false);
-    };
-    text.push_all(first)?;
-    text.push_all(new.as_slice())?;
-    text.push_all(last)?;
-    Ok(true)
-}
+    /// What replaces the value of a line: each of its values between commas, or the whole of it.
+    fn replaced(&self, value: &[u8]) -> Result<Option<Octets>, NoMemory>
+        ensures { IfOk result (λ made. made ≡ replacement_by self.now value.now) }
+    {
+        if self.each {
+            self.each_replaced(value)
+        } else {
+            self.pattern.expand(self.alloc, self.sub, value)
+        }
+    }
 
-/// What replaces the value of a line: each of its values between commas, or the whole of it.
-fn replaced(
-    alloc: Global,
-    pattern: &Pattern,
-    sub: &[u8],
-    each: bool,
-    value: &[u8],
-) -> Result<Option<Octets>, NoMemory>
-    ensures { IfOk result (λ made. made ≡ replacement_of each pattern.now sub.now value.now) }
-{
-    if each {
-        each_replaced(alloc, pattern, sub, value)
-    } else {
-        pattern.expand(alloc, sub, value)
+    /// Replaces the value of the header line at the position `at`, where it has the name.
+    fn replace_line(&self, message: &mut Message, at: usize, name: &[u8]) -> Result<(), EditFault>
+        requires { at < length message.old.headers }
+        ensures ok { OnOk result (replacing_from (at + 1) name.now (replacement_by self.now)
+            message.new ≡ replacing_from at name.now (replacement_by self.now) message.old) }
+        ensures length { OnOk result (length message.new.headers ≡ length message.old.headers) }
+        ensures refused { IfErr result (MayFail (replacing_from at name.now
+            (replacement_by self.now) message.old).fault) }
+    {
+        let Some((line_name, value)) = message.header(at) else {
+            return Ok(());
+        };
+        if !line_name.eq_ignore_ascii_case(name) {
+            return Ok(());
+        }
+        match self.replaced(value)? {
+            Some(new) => message.replace_value(at, new.as_slice()),
+            None => Ok(()),
+        }
     }
-}
 
-/// Replaces the value of the header line at the position `at`, where it has the name.
-fn replace_line(
-    alloc: Global,
-    message: &mut Message,
-    at: usize,
-    name: &[u8],
-    pattern: &Pattern,
-    sub: &[u8],
-    each: bool,
-) -> Result<(), EditFault>
-    requires { at < length message.old.headers }
-    ensures ok { OnOk result (replacing_from (at + 1) name.now
-        (replacement_of each pattern.now sub.now) message.new
-        ≡ replacing_from at name.now (replacement_of each pattern.now sub.now) message.old) }
-    ensures length { OnOk result (length message.new.headers ≡ length message.old.headers) }
-    ensures refused { IfErr result (MayFail (replacing_from at name.now
-        (replacement_of each pattern.now sub.now) message.old).fault) }
-{
-    let Some((line_name, value)) = message.header(at) else {
-        return Ok(());
-    };
-    if !line_name.eq_ignore_ascii_case(name) {
-        return Ok(());
+    /// Replaces the values of the header lines of a name.
+    ///
+    /// `BadBytes` exactly where one of the new values has CR, LF or NUL. `NoMemory` where memory
+    /// runs out. No value is replaced then.
+    pub(crate) fn replace_values(&self, message: &mut Message, name: &[u8]) -> Result<(), EditFault>
+        ensures ok { OnOk result (message.new
+            ≡ (replacing_edit name.now (replacement_by self.now) message.old).head) }
+        ensures none { OnOk result
+            ((replacing_edit name.now (replacement_by self.now) message.old).fault ≡ None) }
+        ensures refused { IfErr result
+            (MayFail (replacing_edit name.now (replacement_by self.now) message.old).fault) }
+        ensures kept { OnErr result (message.new ≡ message.old) }
+    {
+        // All values are replaced or none is, so they are replaced in a copy.
+        let mut edited = message.copy()?;
+        for at in 0..message.len() {
+            self.replace_line(&mut edited, at, name)?;
+        }
+        *message = edited;
+        Ok(())
     }
-    match replaced(alloc, pattern, sub, each, value)? {
-        Some(new) => message.replace_value(at, new.as_slice()),
-        None => Ok(()),
-    }
-}
-
-/// Replaces the values of the header lines of a name: what the regular expression finds in each
-/// value, or in each of its values between commas, becomes what `sub` makes of it.
-///
-/// `BadBytes` exactly where one of the new values has CR, LF or NUL. `NoMemory` where memory runs
-/// out. No value is replaced then.
-pub(crate) fn replace_values(
-    alloc: Global,
-    message: &mut Message,
-    name: &[u8],
-    pattern: &Pattern,
-    sub: &[u8],
-    each: bool,
-) -> Result<(), EditFault>
-    ensures ok { OnOk result (message.new ≡ (replacing_edit name.now
-        (replacement_of each pattern.now sub.now) message.old).head) }
-    ensures none { OnOk result ((replacing_edit name.now
-        (replacement_of each pattern.now sub.now) message.old).fault ≡ None) }
-    ensures refused { IfErr result (MayFail (replacing_edit name.now
-        (replacement_of each pattern.now sub.now) message.old).fault) }
-    ensures kept { OnErr result (message.new ≡ message.old) }
-{
-    // All values are replaced or none is, so they are replaced in a copy.
-    let mut edited = message.copy()?;
-    for at in 0..message.len() {
-        replace_line(alloc, &mut edited, at, name, pattern, sub, each)?;
-    }
-    *message = edited;
-    Ok(())
 }

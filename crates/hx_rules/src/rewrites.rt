@@ -8,7 +8,7 @@ ghost use Rattle.hx_rules.specs.State.{table_view};
 ghost use Rattle.hx_rules.specs.Tables.{HasActionHeads};
 
 use crate::action::Rewrite;
-use crate::replacing::replace_values;
+use crate::replacing::Replacer;
 use crate::request::Request;
 use httparse::is_token;
 use hx_http::{EditFault, Message};
@@ -83,25 +83,13 @@ impl<T: Tables> Request<'_, T> {
             }
             Rewrite::ReplaceHeader(name, pattern, format) => {
                 let text = self.text(format, steps)?;
-                replace_values(
-                    self.alloc,
-                    self.message,
-                    name.as_slice(),
-                    pattern,
-                    text.as_slice(),
-                    false,
-                )
+                let replacer = Replacer::new(self.alloc, pattern, text.as_slice(), false);
+                replacer.replace_values(self.message, name.as_slice())
             }
             Rewrite::ReplaceValue(name, pattern, format) => {
                 let text = self.text(format, steps)?;
-                replace_values(
-                    self.alloc,
-                    self.message,
-                    name.as_slice(),
-                    pattern,
-                    text.as_slice(),
-                    true,
-                )
+                let replacer = Replacer::new(self.alloc, pattern, text.as_slice(), true);
+                replacer.replace_values(self.message, name.as_slice())
             }
             Rewrite::SetMethod(format) => {
                 let text = self.text(format, steps)?;

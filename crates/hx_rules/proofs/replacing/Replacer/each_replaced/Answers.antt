@@ -5,11 +5,11 @@ use Rattle.hx_base.specs.Bytes.{ascii}
 use Rattle.hx_conv_text.specs.Substitution.{expanded_of}
 use Rattle.hx_lists.specs.HeaderValues.{hdr_pieces}
 use Rattle.hx_rules.proofs.PieceLemmas.{any_replaced, changed_more, joined, text_more}
-use Rattle.hx_rules.proofs.replacing.each_replaced.Goals as goal
+use Rattle.hx_rules.proofs.replacing.Replacer.each_replaced.Goals as goal
 
 pub loop-text-preserved : goal.loop-text-preserved
 loop-text-preserved c =
-    let replacement = expanded_of false c.args.pattern.now c.args.sub.now in
+    let replacement = expanded_of false c.args.self.now.pattern.now c.args.self.now.sub.now in
     let piece = c.first_hdr_piece.result.0.now in
     let more = c.in-Some.more.now in
     let is : hdr_pieces c.loop-text.rest.now ≡ piece ∷ hdr_pieces more =
