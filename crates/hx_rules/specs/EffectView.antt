@@ -65,4 +65,7 @@ RuleAsksFor view conn acls rule state text =
 abbrev pub evaluation_of : {S : Type 0} → TableView S → Conn → Rules → Option Verdict → State S
     → Evaluation S
 evaluation_of view conn program given state =
-    record { verdict = unwrap_or given (in_state verdict_at view conn state program); state = state }
+    record {
+      verdict = unwrap_or given (in_state verdict_at view conn state program);
+      state = state;
+    }
