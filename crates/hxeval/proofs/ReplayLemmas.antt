@@ -207,8 +207,8 @@ replays_end program world s left left' old new gathered p at_end =
     let done : record_outcome program v.bytes ≡ after_answers (v.wrote ++ gathered) (ends_with Completed) =
     v.outcome ∙ ap (λ i. after_answers (v.wrote ++ gathered) (replay_outcome world i)) v.stand.0 in
     record {
-      bytes = v.bytes;
-      of_source = v.of_source;
+      outcome = record_outcome program v.bytes;
+      is_such = record { bytes = v.bytes; of_source = v.of_source; is = refl };
       wrote = v.wrote;
       appended = v.appended;
       answers = (ap (λ (o : Outcome). o.end) done, ap (λ (o : Outcome). o.answers) done ∙ append-nil (v.wrote ++ gathered));
@@ -221,8 +221,8 @@ pub replays_part : (what : Items → Items → Type 0) (program : Program) (worl
 replays_part what program world s left left' old new gathered p at_end fault undecided =
     let v = seen what program world s left left' old new gathered p at_end in
     record {
-      bytes = v.bytes;
-      of_source = v.of_source;
+      outcome = record_outcome program v.bytes;
+      is_such = record { bytes = v.bytes; of_source = v.of_source; is = refl };
       wrote = v.wrote;
       appended = v.appended;
       answers = rw undecided ((replay_outcome world v.before).answers, ap (λ (o : Outcome). o.answers) v.outcome);
@@ -238,8 +238,8 @@ replays_fault program world s left left' old new gathered (reader.Bad offset cod
     let done : record_outcome program v.bytes ≡ after_answers (v.wrote ++ gathered) (ends_with (RecordRefused offset code)) =
     v.outcome ∙ ap (λ i. after_answers (v.wrote ++ gathered) (replay_outcome world i)) v.stand.0 in
     record {
-      bytes = v.bytes;
-      of_source = v.of_source;
+      outcome = record_outcome program v.bytes;
+      is_such = record { bytes = v.bytes; of_source = v.of_source; is = refl };
       wrote = v.wrote;
       appended = v.appended;
       answers = (ap (λ (o : Outcome). o.end) done, ap (λ (o : Outcome). o.answers) done ∙ append-nil (v.wrote ++ gathered));
@@ -337,8 +337,8 @@ replays_lost program world s left left' old new new' gathered result p at_end pa
     ap (λ t. v.wrote ++ t) part.whole ∙ sym (append_assoc v.wrote part.prefix part.rest)
     ∙ ap (λ t. t ++ part.rest) (sym (append-nil (v.wrote ++ part.prefix))) in
     record {
-      bytes = v.bytes;
-      of_source = v.of_source;
+      outcome = record_outcome program v.bytes;
+      is_such = record { bytes = v.bytes; of_source = v.of_source; is = refl };
       wrote = v.wrote ++ part.prefix;
       appended = Appends-trans old new new' v.wrote part.prefix v.appended part.appended;
       answers = rw (failure_end fault failure) (shorter_prefix Undecided (record_outcome program v.bytes) (v.wrote ++ gathered)
@@ -382,8 +382,8 @@ event_part program world after s left left' old new new' placed gathered gathere
     append_assoc v.wrote gathered answer ∙ ap (λ t. v.wrote ++ t) passes.whole
     ∙ sym (append_assoc v.wrote passes.wrote (gathered' ++ rest)) ∙ sym (append_assoc (v.wrote ++ passes.wrote) gathered' rest) in
     record {
-      bytes = v.bytes;
-      of_source = v.of_source;
+      outcome = record_outcome program v.bytes;
+      is_such = record { bytes = v.bytes; of_source = v.of_source; is = refl };
       wrote = v.wrote ++ passes.wrote;
       appended = Appends-trans old new new' v.wrote passes.wrote v.appended passes.appended;
       answers = rw undecided (shorter_prefix Undecided (record_outcome program v.bytes) (v.wrote ++ gathered ++ answer)
@@ -412,8 +412,8 @@ replays_event program world after s left left' old new new' placed gathered gath
     ∙ ap (λ o. after_answers (v.wrote ++ gathered) o) (refused_by (refusal_of world placed.event) placed.offset code (answer_of world placed.event)
     (replay_outcome (world_after world placed.event) v.after) refused) in
     record {
-      bytes = v.bytes;
-      of_source = v.of_source;
+      outcome = record_outcome program v.bytes;
+      is_such = record { bytes = v.bytes; of_source = v.of_source; is = refl };
       wrote = v.wrote;
       appended = rw (append-nil v.wrote) at (Appends-trans old new new' v.wrote [] v.appended nothing);
       answers = (
@@ -476,8 +476,8 @@ sink_kinds sink.NoMemory no_sink no_memory = no_memory refl
 pub replays_written : (program : Program) (left old new new' : Option (List ℕ)) (gathered : List ℕ) (result : Result (Unit {0}) RunFault)
     → Replays program left old new gathered result → Appends new new' gathered → Replays program left old new' [] result
 replays_written program left old new new' gathered result r appended = record {
-  bytes = r.bytes;
-  of_source = r.of_source;
+  outcome = r.outcome;
+  is_such = r.is_such;
   wrote = r.wrote ++ gathered;
   appended = Appends-trans old new new' r.wrote gathered r.appended appended;
   answers = rw (append-nil (r.wrote ++ gathered)) r.answers;
@@ -492,11 +492,11 @@ replays_written_part program left old new new' gathered result r part fault =
     ap (λ t. r.wrote ++ t) part.whole ∙ sym (append_assoc r.wrote part.prefix part.rest)
     ∙ ap (λ t. t ++ part.rest) (sym (append-nil (r.wrote ++ part.prefix))) in
     record {
-      bytes = r.bytes;
-      of_source = r.of_source;
+      outcome = r.outcome;
+      is_such = r.is_such;
       wrote = r.wrote ++ part.prefix;
       appended = Appends-trans old new new' r.wrote part.prefix r.appended part.appended;
-      answers = rw (failure_end (sink_fault fault) (sink_failure fault)) (shorter_prefix (result_end result) (record_outcome program r.bytes) (r.wrote ++ gathered)
+      answers = rw (failure_end (sink_fault fault) (sink_failure fault)) (shorter_prefix (result_end result) r.outcome (r.wrote ++ gathered)
           (r.wrote ++ part.prefix ++ []) part.rest r.answers whole);
     }
 

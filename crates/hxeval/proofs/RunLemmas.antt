@@ -79,7 +79,7 @@ unknown s old fault undecided =
     let outcome = outcome_of s.env s.task (files_in s.held) (config_in s.held s.name) (unwrap_or s.left []) in
     record {
       outcome = outcome;
-      of_setting = record {
+      is_such = record {
         config = config_in s.held s.name;
         files = files_in s.held;
         bytes = unwrap_or s.left [];
@@ -122,7 +122,7 @@ unloaded_here : (s : Setting) (items : List ℕ) (old : Option (List ℕ)) (faul
 unfolding outcome_of
 unloaded_here s items old (load.Refused line code) config l = record {
   outcome = ends_with (ConfigRefused line code);
-  of_setting = record {
+  is_such = record {
     config = Some items;
     files = l.files;
     bytes = unwrap_or s.left [];
@@ -154,7 +154,7 @@ loaded_accepts s items rules refs config l =
       config = items;
       files = l.files;
       of_files = holds s.held s.name l.files (Some items) l.of_files config;
-      loads = subst (λ (said : Loading). Loads s.env usual_limits l.files items said) is (loads s.env usual_limits l.files items);
+      is = subst (λ (said : Loading). Loads s.env usual_limits l.files items said) is (loads s.env usual_limits l.files items);
     }
 
 -- its outcome
@@ -169,18 +169,18 @@ replayed_here : (s : Setting) (items : List ℕ) (rules : Rules) (refs : RefsSta
     → s.task ≡ task.Replay → IsConfig s.held s.name (Some items) → LoadsHeld s.held s.env usual_limits items (Ok (rules, refs))
     → Replays (program_of rules refs.content) s.left old new [] r → Attempted s old new r
 replayed_here s items rules refs old new r asked config l replays = record {
-  outcome = record_outcome (program_of rules refs.content) replays.bytes;
-  of_setting = record {
+  outcome = replays.outcome;
+  is_such = record {
     config = Some items;
     files = l.files;
-    bytes = replays.bytes;
+    bytes = replays.is_such.bytes;
     of_files = holds s.held s.name l.files (Some items) l.of_files config;
-    of_source = replays.of_source;
-    is = accepted_is s items rules refs replays.bytes task.Replay asked l;
+    of_source = replays.is_such.of_source;
+    is = replays.is_such.is ∙ accepted_is s items rules refs replays.is_such.bytes task.Replay asked l;
   };
   wrote = replays.wrote;
   appended = replays.appended;
-  answers = rw (append-nil replays.wrote) at replays.answers;
+  answers = replays.answers;
 }
 
 -- a record that was replayed
@@ -197,7 +197,7 @@ checked_here : (s : Setting) (items : List ℕ) (rules : Rules) (refs : RefsStat
     → Appends old new (check_line rules refs.content) → Attempted s old new (Ok tt)
 checked_here s items rules refs old new asked config l appended = record {
   outcome = accepted_outcome task.Check (program_of rules refs.content) (unwrap_or s.left []);
-  of_setting = record {
+  is_such = record {
     config = Some items;
     files = l.files;
     bytes = unwrap_or s.left [];
@@ -207,7 +207,7 @@ checked_here s items rules refs old new asked config l appended = record {
   };
   wrote = check_line rules refs.content;
   appended = appended;
-  answers = (refl, refl);
+  answers = (refl, sym (append-nil (check_line rules refs.content)));
 }
 
 -- a configuration that was checked
@@ -228,7 +228,7 @@ unchecked_here : (s : Setting) (items : List ℕ) (rules : Rules) (refs : RefsSt
     → AppendsPrefix old new (check_line rules refs.content) → Attempted s old new (Err (sink_fault fault))
 unchecked_here s items rules refs old new fault asked config l part = record {
   outcome = accepted_outcome task.Check (program_of rules refs.content) (unwrap_or s.left []);
-  of_setting = record {
+  is_such = record {
     config = Some items;
     files = l.files;
     bytes = unwrap_or s.left [];
@@ -238,7 +238,7 @@ unchecked_here s items rules refs old new fault asked config l part = record {
   };
   wrote = part.prefix;
   appended = part.appended;
-  answers = rw (uncheckable fault) (part.rest, part.whole);
+  answers = rw (uncheckable fault, append-nil part.prefix) (part.rest, part.whole);
 }
 
 -- one that was checked, where its line couldn't be written
@@ -253,12 +253,8 @@ unchecked_run s now limits items text rules refs old new fault asked read l part
 source_fails_here : (s : Setting) (items : List ℕ) (rules : Rules) (refs : RefsState) (left' old new : Option (List ℕ))
     → s.task ≡ task.Replay → IsConfig s.held s.name (Some items) → LoadsHeld s.held s.env usual_limits items (Ok (rules, refs))
     → WritesDecided (program_of rules refs.content) s.left left' old new → SourceFails s left' old new
-source_fails_here s items rules refs left' old new asked config l written = record {
-  task = asked;
-  program = program_of rules refs.content;
-  accepted = loaded_accepts s items rules refs config l;
-  written = written;
-}
+source_fails_here s items rules refs left' old new asked config l written =
+    (asked, record { program = program_of rules refs.content; accepted = loaded_accepts s items rules refs config l; is = written })
 
 -- a replay that the source ended
 pub source_fails : (s : Setting) (now : Option NamedBytes) (limits : Limits) (items text : List ℕ) (rules : Rules) (refs : RefsState) (left' old new : Option (List ℕ))
@@ -272,12 +268,8 @@ source_fails s now limits items text rules refs left' old new asked read l writt
 asks_here : (s : Setting) (items : List ℕ) (rules : Rules) (refs : RefsState) (large : Option ExpressionText)
     → s.task ≡ task.Replay → IsConfig s.held s.name (Some items) → LoadsHeld s.held s.env usual_limits items (Ok (rules, refs))
     → ReplayAsksLast (program_of rules refs.content) s.left large → RunAsksLast s large
-asks_here s items rules refs large asked config l asks = record {
-  task = asked;
-  program = program_of rules refs.content;
-  accepted = loaded_accepts s items rules refs config l;
-  asks = asks;
-}
+asks_here s items rules refs large asked config l asks =
+    (asked, record { program = program_of rules refs.content; accepted = loaded_accepts s items rules refs config l; is = asks })
 
 -- a text for which an event asks
 pub run_asks : (s : Setting) (now : Option NamedBytes) (limits : Limits) (items text : List ℕ) (rules : Rules) (refs : RefsState) (large : Option ExpressionText)
@@ -312,7 +304,7 @@ comes_to : (s : Setting) (items : List ℕ) (files : NamedBytes) (last : Option 
     → IsSomeAnd last (ReadsFile s.env usual_limits files items) → IsSomeAnd last (RunReads s)
 comes_to s items files None config of_files reads = absurd reads
 comes_to s items files (Some name) config of_files reads =
-    inr (record { config = items; files = files; of_files = holds s.held s.name files (Some items) of_files config; reads = reads })
+    inr (record { config = items; files = files; of_files = holds s.held s.name files (Some items) of_files config; is = reads })
 
 pub load_reads : (s : Setting) (now : Option NamedBytes) (limits : Limits) (items text : List ℕ) (last : Option (List ℕ))
     → ReadsConfig s now limits items text → LoadReadsLast now s.env limits text last → IsSomeAnd last (RunReads s)
@@ -343,7 +335,7 @@ load_judges s now limits items text large read l =
       config = items;
       files = there.files;
       of_files = holds s.held s.name there.files (Some items) there.of_files read.config;
-      judged = there.judged;
+      is = there.judged;
     }
 
 -- which fault of a part it was
@@ -365,18 +357,20 @@ load_large load.NoMemory is = cc
 
 -- it stays so where nothing more is written
 pub source_moved : (s : Setting) (left' old mid new : Option (List ℕ)) → SourceFails s left' old mid → Appends mid new [] → SourceFails s left' old new
-source_moved s left' old mid new f nothing = record {
-  task = f.task;
-  program = f.program;
-  accepted = f.accepted;
-  written = record {
-    took = f.written.took;
-    consumed = f.written.consumed;
-    going_on = f.written.going_on;
-    written = rw (append-nil (decided_outcome f.program f.written.took).answers) at
-        (Appends-trans old mid new (decided_outcome f.program f.written.took).answers [] f.written.written nothing);
-  };
-}
+source_moved s left' old mid new (asked, a) nothing = (
+  asked,
+  record {
+    program = a.program;
+    accepted = a.accepted;
+    is = record {
+      took = a.is.took;
+      consumed = a.is.consumed;
+      going_on = a.is.going_on;
+      written = rw (append-nil (decided_outcome a.program a.is.took).answers) at
+          (Appends-trans old mid new (decided_outcome a.program a.is.took).answers [] a.is.written nothing);
+    };
+  },
+)
 
 -- a replay refuses no configuration, and reads no file
 pub no_config : (r : Result (Unit {0}) RunFault) (line code : ℕ) → IfErr r IsReplayFault → r ≡ Err (run.ConfigRefused line code) → ⊥

@@ -111,7 +111,7 @@ accepts s outcome config program o config_is is = record {
   config = config;
   files = o.files;
   of_files = rw config_is at o.of_files;
-  loads = subst (λ (l : Loading). Loads s.env usual_limits o.files config l) is (loads s.env usual_limits o.files config);
+  is = subst (λ (l : Loading). Loads s.env usual_limits o.files config l) is (loads s.env usual_limits o.files config);
 }
 
 headline_of : (s : Setting) (old new : Option (List ℕ)) (wrote : List ℕ) (outcome : Outcome) (config : Option (List ℕ)) (o : HasOutcome s outcome)
@@ -137,7 +137,7 @@ headline_of s old new wrote outcome (Some config) o asked is appended end answer
 -- a replay that is completed
 pub headline : (s : Setting) (old new : Option (List ℕ)) → s.task ≡ task.Replay → Attempted s old new (Ok tt) → Headline s old new
 headline s old new asked a =
-    headline_of s old new a.wrote a.outcome a.of_setting.config a.of_setting asked refl a.appended a.answers.0 a.answers.1
+    headline_of s old new a.wrote a.outcome a.is_such.config a.is_such asked refl a.appended a.answers.0 (a.answers.1 ∙ append-nil a.wrote)
 
 checked_of : (s : Setting) (old new : Option (List ℕ)) (wrote : List ℕ) (outcome : Outcome) (config : Option (List ℕ)) (o : HasOutcome s outcome)
     → s.task ≡ task.Check → o.config ≡ config → Appends old new wrote → outcome.end ≡ Completed → outcome.answers ≡ wrote → Checked s old new
@@ -150,13 +150,13 @@ checked_of s old new wrote outcome (Some config) o asked is appended end answers
     record {
       program = a.program;
       accepted = accepts s outcome config a.program o is a.is;
-      written = rw (← all) appended;
+      is = rw (← all) appended;
     }
 
 -- a check that is completed
 pub checked : (s : Setting) (old new : Option (List ℕ)) → s.task ≡ task.Check → Attempted s old new (Ok tt) → Checked s old new
 checked s old new asked a =
-    checked_of s old new a.wrote a.outcome a.of_setting.config a.of_setting asked refl a.appended a.answers.0 a.answers.1
+    checked_of s old new a.wrote a.outcome a.is_such.config a.is_such asked refl a.appended a.answers.0 (a.answers.1 ∙ append-nil a.wrote)
 
 -- all answers of an outcome, and then what is written of its end
 wrote_all : (outcome : Outcome) (end : End) (wrote line : List ℕ) → outcome.end ≡ end → outcome.answers ≡ wrote → line ≡ last_line end
@@ -165,10 +165,10 @@ wrote_all outcome end wrote line is answers last = rw (answers, is, last) refl
 
 pub ran_completed : (s : Setting) (old new : Option (List ℕ)) → Attempted s old new (Ok tt) → Ran s old new 0
 ran_completed s old new a =
-    let text : text_of a.outcome ≡ a.wrote ++ [] = wrote_all a.outcome Completed a.wrote [] a.answers.0 a.answers.1 refl in
+    let text : text_of a.outcome ≡ a.wrote ++ [] = wrote_all a.outcome Completed a.wrote [] a.answers.0 (a.answers.1 ∙ append-nil a.wrote) refl in
     record {
       outcome = a.outcome;
-      of_setting = a.of_setting;
+      of_setting = a.is_such;
       written = record { prefix = a.wrote; rest = []; whole = text; appended = a.appended };
       whole = λ _. (ap status_of a.answers.0, rw (text ∙ append-nil a.wrote) a.appended);
     }
@@ -194,7 +194,7 @@ ran_refused s old mid new fault status a is answers decided (inl (same, line)) =
     let appended = Appends-trans old mid new a.wrote (last_line (fault_end fault)) a.appended line in
     record {
       outcome = a.outcome;
-      of_setting = a.of_setting;
+      of_setting = a.is_such;
       written = record {
         prefix = a.wrote ++ last_line (fault_end fault);
         rest = [];
@@ -208,7 +208,7 @@ ran_refused s old mid new fault status a is answers decided (inr (late, part)) =
     wrote_all a.outcome (fault_end fault) a.wrote (last_line (fault_end fault)) is answers refl in
     record {
       outcome = a.outcome;
-      of_setting = a.of_setting;
+      of_setting = a.is_such;
       written = record {
         prefix = a.wrote ++ part.prefix;
         rest = part.rest;
@@ -241,21 +241,21 @@ ran_prefix s old new outcome wrote rest status of_setting is appended large = re
 ran_failed : (s : Setting) (old mid new : Option (List ℕ)) (fault : RunFault) (status : ℕ) (a : Attempted s old mid (Err fault))
     → last_line (fault_end fault) ≡ [] → 5 ≤ fault_status fault → Finishes fault mid new status → Ran s old new status
 ran_failed s old mid new fault status a none large (inl (same, line)) =
-    let (rest, is) = prefix_of (fault_end fault) a.outcome a.wrote a.answers in
-    ran_prefix s old new a.outcome a.wrote rest status a.of_setting is
+    let (rest, is) = prefix_of (fault_end fault) a.outcome a.wrote (rw (append-nil a.wrote) at a.answers) in
+    ran_prefix s old new a.outcome a.wrote rest status a.is_such is
     (rw (append-nil a.wrote) at (Appends-trans old mid new a.wrote [] a.appended (rw none at line))) (omega (arith, large, same))
 ran_failed s old mid new fault status a none large (inr (late, part)) =
-    let (rest, is) = prefix_of (fault_end fault) a.outcome a.wrote a.answers in
+    let (rest, is) = prefix_of (fault_end fault) a.outcome a.wrote (rw (append-nil a.wrote) at a.answers) in
     let empty : part.prefix ≡ [] = nil_of_append part.prefix part.rest (sym part.whole ∙ none) in
-    ran_prefix s old new a.outcome a.wrote rest status a.of_setting is
+    ran_prefix s old new a.outcome a.wrote rest status a.is_such is
     (rw (append-nil a.wrote) at (Appends-trans old mid new a.wrote [] a.appended (rw empty at part.appended))) (omega (arith, late_large status late))
 
 pub ran_finished : (s : Setting) (old mid new : Option (List ℕ)) (fault : RunFault) (status : ℕ)
     → Attempted s old mid (Err fault) → Finishes fault mid new status → Ran s old new status
 ran_finished s old mid new (run.ConfigRefused line code) status a f =
-    ran_refused s old mid new (run.ConfigRefused line code) status a a.answers.0 a.answers.1 refl f
+    ran_refused s old mid new (run.ConfigRefused line code) status a a.answers.0 (a.answers.1 ∙ append-nil a.wrote) refl f
 ran_finished s old mid new (run.RecordRefused offset code) status a f =
-    ran_refused s old mid new (run.RecordRefused offset code) status a a.answers.0 a.answers.1 refl f
+    ran_refused s old mid new (run.RecordRefused offset code) status a a.answers.0 (a.answers.1 ∙ append-nil a.wrote) refl f
 ran_finished s old mid new run.Files status a f = ran_failed s old mid new run.Files status a refl (omega arith) f
 ran_finished s old mid new run.Source status a f = ran_failed s old mid new run.Source status a refl (omega arith) f
 ran_finished s old mid new run.Sink status a f = ran_failed s old mid new run.Sink status a refl (omega arith) f

@@ -7,21 +7,25 @@ use Rattle.hx_core.specs.Steps.{refusal_of, world_after, answer_of}
 use Rattle.hx_core.specs.World.{World}
 use Rattle.hx_core.specs.declared.fault.StepFault.{StepFault}
 use Rattle.hx_core.specs.declared.fault.StepFault.TheVariants as step
+use Rattle.hxeval.specs.Outcome.{Outcome}
 use Rattle.hxeval.specs.Replay.{IsRecord, record_outcome, refusal_code}
 use Rattle.hxeval.specs.Program.{Program}
-use Rattle.hxeval.specs.RunFault.{AreAnswersTo, result_end}
+use Rattle.hxeval.specs.RunFault.{WritesOutcome}
 use Rattle.hxeval.specs.declared.run_fault.RunFault.{RunFault}
 use Rattle.hxeval.specs.declared.run_fault.RunFault.TheVariants.{ConfigRefused, RecordRefused, Files, TooLarge}
 
--- A replay of the record that a source has left: the answers were written, but for the last ones,
--- which are gathered.
-pub record Replays (program : Program) (left old new : Option (List ℕ)) (gathered : List ℕ)
-    (result : Result (Unit {0}) RunFault) : Type 0 where
+-- this is what a program answers to the record that a source has left
+pub record IsOfRecord (program : Program) (left : Option (List ℕ)) (outcome : Outcome)
+    : Type 0 where
   pub bytes : List ℕ
   pub of_source : IsRecord left bytes
-  pub wrote : List ℕ
-  pub appended : Appends old new wrote
-  pub answers : AreAnswersTo (result_end result) (record_outcome program bytes) (wrote ++ gathered)
+  pub is : outcome ≡ record_outcome program bytes
+
+-- a replay of the record that a source has left
+abbrev pub Replays : Program → (left old new : Option (List ℕ)) → (gathered : List ℕ)
+    → Result (Unit {0}) RunFault → Type 0
+Replays program left old new gathered result =
+    WritesOutcome (IsOfRecord program left) old new gathered result
 
 -- of a text the first bytes were written, the next are gathered, and the rest is lost
 pub record Passes (old new : Option (List ℕ)) (text gathered rest : List ℕ) : Type 0 where

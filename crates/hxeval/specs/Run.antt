@@ -134,12 +134,24 @@ pub record HasStatus (s : Setting) (status : ℕ) : Type 0 where
   pub of_setting : HasOutcome s outcome
   pub is : status_of outcome.end ≡ Some status
 
--- the configuration of a setting is accepted as this program
-pub record Accepts (s : Setting) (program : Program) : Type 0 where
+-- The files of a setting hold a configuration of which this is so, under what they hold besides, as
+-- far as it is known.
+pub record HoldsConfig (s : Setting) (P : NamedBytes → List ℕ → Type 0) : Type 0 where
   pub config : List ℕ
   pub files : NamedBytes
   pub of_files : HasConfig s files (Some config)
-  pub loads : GivesProgram s.env usual_limits files config program.rules program.references
+  pub is : P files config
+
+-- the configuration of a setting is accepted as this program
+abbrev pub Accepts : Setting → Program → Type 0
+Accepts s program = HoldsConfig s (λ files config.
+    GivesProgram s.env usual_limits files config program.rules program.references)
+
+-- the configuration of a setting is accepted as a program of which this is so
+pub record AcceptsSome (s : Setting) (P : Program → Type 0) : Type 0 where
+  pub program : Program
+  pub accepted : Accepts s program
+  pub is : P program
 
 -- The headline. The configuration was accepted, the record was read to its end, each of its events
 -- stood where it may, and exactly the answers to its events in order were written.
@@ -154,42 +166,30 @@ pub record Headline (s : Setting) (old new : Option (List ℕ)) : Type 0 where
   pub written : Appends old new (answers_to (initial_world program) events)
 
 -- A check: the configuration was accepted, and its line was written.
-pub record Checked (s : Setting) (old new : Option (List ℕ)) : Type 0 where
-  pub program : Program
-  pub accepted : Accepts s program
-  pub written : Appends old new (check_line program.rules program.references)
+abbrev pub Checked : Setting → (old new : Option (List ℕ)) → Type 0
+Checked s old new = AcceptsSome s (λ program.
+    Appends old new (check_line program.rules program.references))
 
 -- The source failed: the files hold a configuration that is accepted, and exactly the answers were
 -- written to the events that the bytes taken from the source decide.
-pub record SourceFails (s : Setting) (left' old new : Option (List ℕ)) : Type 0 where
-  pub task : s.task ≡ Replay
-  pub program : Program
-  pub accepted : Accepts s program
-  pub written : WritesDecided program s.left left' old new
+abbrev pub SourceFails : Setting → (left' old new : Option (List ℕ)) → Type 0
+SourceFails s left' old new =
+    (s.task ≡ Replay) × AcceptsSome s (λ program. WritesDecided program s.left left' old new)
 
 -- The last text that was too large for the maker is one that is read as a regular expression when
 -- the configuration is loaded.
-pub record RunJudgesLast (s : Setting) (large : Option ExpressionText) : Type 0 where
-  pub config : List ℕ
-  pub files : NamedBytes
-  pub of_files : HasConfig s files (Some config)
-  pub judged : IsSomeAnd large (Judges s.env usual_limits files config)
+abbrev pub RunJudgesLast : Setting → Option ExpressionText → Type 0
+RunJudgesLast s large = HoldsConfig s (λ files config.
+    IsSomeAnd large (Judges s.env usual_limits files config))
 
 -- The last text that was too large for the maker is one for which a rule or a command asks, at an
 -- event of the record.
-pub record RunAsksLast (s : Setting) (large : Option ExpressionText) : Type 0 where
-  pub task : s.task ≡ Replay
-  pub program : Program
-  pub accepted : Accepts s program
-  pub asks : ReplayAsksLast program s.left large
+abbrev pub RunAsksLast : Setting → Option ExpressionText → Type 0
+RunAsksLast s large =
+    (s.task ≡ Replay) × AcceptsSome s (λ program. ReplayAsksLast program s.left large)
 
--- a file is one to which the configuration comes when it is loaded, with no fault before it
-pub record ComesTo (s : Setting) (name : List ℕ) : Type 0 where
-  pub config : List ℕ
-  pub files : NamedBytes
-  pub of_files : HasConfig s files (Some config)
-  pub reads : ReadsFile s.env usual_limits files config name
-
--- the files that a run reads: the configuration, and those to which that comes
+-- the files that a run reads: the configuration, and those to which it comes when it is loaded, with
+-- no fault before them
 abbrev pub RunReads : Setting → List ℕ → Type 0
-RunReads s name = (name ≡ s.name) ⊎ ComesTo s name
+RunReads s name = (name ≡ s.name)
+    ⊎ HoldsConfig s (λ files config. ReadsFile s.env usual_limits files config name)

@@ -67,14 +67,19 @@ abbrev pub AreAnswersTo : End → Outcome → List ℕ → Type 0
 AreAnswersTo Undecided outcome answers = (rest : List ℕ) × (outcome.answers ≡ answers ++ rest)
 AreAnswersTo end outcome answers = (outcome.end ≡ end) × (outcome.answers ≡ answers)
 
--- a run up to the line that is written of its fault
-pub record Attempted (s : Setting) (old new : Option (List ℕ)) (result : Result (Unit {0}) RunFault)
-    : Type 0 where
+-- A run, or a part of one, up to its end or a fault. It has an outcome of this kind, of whose answers
+-- the first are written and the next are gathered: all of them where it ends as the outcome does.
+pub record WritesOutcome (IsSuch : Outcome → Type 0) (old new : Option (List ℕ)) (gathered : List ℕ)
+    (result : Result (Unit {0}) RunFault) : Type 0 where
   pub outcome : Outcome
-  pub of_setting : HasOutcome s outcome
+  pub is_such : IsSuch outcome
   pub wrote : List ℕ
   pub appended : Appends old new wrote
-  pub answers : AreAnswersTo (result_end result) outcome wrote
+  pub answers : AreAnswersTo (result_end result) outcome (wrote ++ gathered)
+
+-- a run up to the line that is written of its fault
+abbrev pub Attempted : Setting → (old new : Option (List ℕ)) → Result (Unit {0}) RunFault → Type 0
+Attempted s old new result = WritesOutcome (HasOutcome s) old new [] result
 
 -- the end of a run: the line that tells the fault was written, and the status is the fault's, or
 -- the sink failed or memory ran out before
