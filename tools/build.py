@@ -172,6 +172,9 @@ def build(names):
                 # processors that nothing else waits for search with the last crates
                 jobs = max(1, (lanes - len(running)) // len(ready))
                 _, name = heapq.heappop(ready)
+                # the end waits for the crate with the longest way up, so it searches with all
+                if behind[name] == max(behind[it] for it in (*waiting, *running)):
+                    jobs = lanes
                 waiting.remove(name)
                 running[name] = jobs
                 threading.Thread(target=work, args=(name, jobs, rooms)).start()
