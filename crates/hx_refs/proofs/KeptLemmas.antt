@@ -1,8 +1,8 @@
 -- What the code keeps of references stays as it is kept, and is shown as it is changed.
-use Rattle.std.proofs.Common.{◌≡◌, ◌≢◌, ℕ, zero, suc, ◌-◌, ◌<◌, ◌==◌, Bool, true, false, List, [], ◌∷◌, ◌++◌, length, take, drop, All, refl, ap, subst, ◌∙◌, arith, inl, inr, length-append, length-set}
-use Rattle.std.specs.Prelude.{Option, None, Some, is_some, option_map, slice_get, slice_index_or, slice_set}
-use Rattle.std.proofs.lemmas.Bool.{cases_Bool, eqb-true, eqb-false, cases_lt}
-use Rattle.std.proofs.lemmas.List.{map-set, take_all}
+use Rattle.std.proofs.Common.{◌≡◌, ◌≢◌, ℕ, zero, suc, ◌-◌, ◌<◌, ◌==◌, Bool, true, false, List, [], ◌∷◌, ◌++◌, length, take, drop, All, refl, ap, subst, sym, ◌∙◌, arith, inl, inr, length-append, length-set}
+use Rattle.std.specs.Prelude.{Option, None, Some, Result, Ok, Err, OnOk, OnErr, IfSome, is_some, option_map, slice_get, slice_index_or, slice_set}
+use Rattle.std.proofs.lemmas.Bool.{cases_Bool, cases_eq, eqb-true, eqb-false, cases_lt}
+use Rattle.std.proofs.lemmas.List.{map-append, map-set, set-get_or, take_all}
 use Rattle.std.proofs.Math.Seq.{map-set_same}
 use Rattle.std.proofs.lemmas.Option.{slice_get-map, slice_get_past, slice_get_read, get_or_from_slice_get}
 use Rattle.hx_text.specs.declared.kinds.By.{By}
@@ -21,6 +21,7 @@ use Rattle.hx_refs.specs.Versions.{versions_between, AreReadEach, IsKept}
 use Rattle.hx_refs.specs.declared.stored.Stored.{Stored}
 use Rattle.hx_refs.specs.declared.versions.KeptVersion.{KeptVersion}
 use Rattle.hx_refs.proofs.ListLemmas.{get_last, get_more, get_past, get_set_other, get_set_same}
+use Rattle.hx_refs.proofs.NameLemmas.{own_names_more, own_names_stay, KeepsNames}
 use Rattle.hx_refs.proofs.VersionLemmas.{all_empty, have_none, HaveNone}
 use Rattle.hx_refs.proofs.UseLemmas.{known_use, use_is, uses_of_more, uses_of_others}
 
@@ -158,10 +159,14 @@ no_use heads kept r k method ci all within read none =
 -- ---- one more reference, one more use
 
 pub kept_with_new : (heads : List TableHead) (kept : List Kept) (new : Kept) → length kept < 65536 → new.uses ≡ []
+    → All (λ reference. reference.id ≢ new.shown.id) (shown_references kept)
+    → IfSome new.shown.file (λ name. All (λ reference. reference.file ≢ Some name) (shown_references kept))
     → AreKept heads kept → AreKept heads (kept ++ new ∷ [])
-kept_with_new heads kept new few none all = record {
+kept_with_new heads kept new few none number file all = record {
   few = rw (length-append kept (new ∷ [])) (omega arith);
   uses = uses;
+  names = rw (map-append (λ k. k.shown) kept (new ∷ []))
+      (own_names_more (shown_references kept) new.shown number file all.names);
 }
   where
     uses : (r : ℕ) → uses_of heads r ≡ kept_uses (kept ++ new ∷ []) r
@@ -178,12 +183,13 @@ kept_with_new heads kept new few none all = record {
 
 pub kept_after_use : (heads : List TableHead) (kept : List Kept) (r : ℕ) (k new : Kept) (method : By) (ci : Bool)
     → r < length kept → k ≡ slice_index_or kept r k
-    → new.uses ≡ k.uses ++ record { by = method; ci = ci; head = length heads } ∷ []
+    → new.uses ≡ k.uses ++ record { by = method; ci = ci; head = length heads } ∷ [] → new.shown ≡ k.shown
     → AreKept heads kept
     → AreKept (heads ++ record { by = method; ci = ci; list = r } ∷ []) (slice_set kept r new)
-kept_after_use heads kept r k new method ci within is more all = record {
+kept_after_use heads kept r k new method ci within is more same all = record {
   few = rw (length-set kept r new) all.few;
   uses = uses;
+  names = rw (shown_same kept r k new is same) all.names;
 }
   where
     found : slice_get kept r ≡ Some k
@@ -198,6 +204,48 @@ kept_after_use heads kept r k new method ci within is more all = record {
           rw (uses_of_others heads (record { by = method; ci = ci; list = r }) q other, get_set_other kept r q new (eqb-false r q other))
           (all.uses q)
     ]
+
+-- ---- a change of a reference
+
+-- one that leaves its uses, its number and its file
+pub kept_after_change : (heads : List TableHead) (kept : List Kept) (r : ℕ) (k new : Kept) (change : Reference → Reference)
+    → KeepsNames change → r < length kept → k ≡ slice_index_or kept r k → new ≡ record k { shown = change k.shown }
+    → AreKept heads kept → AreKept heads (slice_set kept r new)
+kept_after_change heads kept r k new change keeps within is same all = record {
+  few = rw (length-set kept r new) all.few;
+  uses = uses;
+  names = rw (changed_shown kept r k new change within is (ap (λ l. l.shown) same))
+      (own_names_stay (shown_references kept) r change keeps all.names);
+}
+  where
+    found : slice_get kept r ≡ Some k
+    found = slice_get_read kept (length kept) r k refl within is
+
+    same_uses : new.uses ≡ k.uses
+    same_uses = ap (λ l. l.uses) same
+
+    uses : (q : ℕ) → uses_of heads q ≡ kept_uses (slice_set kept r new) q
+    uses q = elim (cases_eq r q) [
+      | inl here ↦ rw (← here, get_set_same kept r k new found) (rw found at (all.uses r) ∙ sym same_uses)
+      | inr apart ↦ rw (get_set_other kept r q new apart) (all.uses q)
+    ]
+
+-- one that changes nothing
+pub kept_unchanged : (heads : List TableHead) (kept : List Kept) (r : ℕ) (k new : Kept) → k ≡ slice_index_or kept r k
+    → new ≡ k → AreKept heads kept → AreKept heads (slice_set kept r new)
+kept_unchanged heads kept r k new is same all =
+    let stays : slice_set kept r new ≡ kept = ap (λ l. slice_set kept r l) (same ∙ is) ∙ set-get_or kept r k in
+    rw stays all
+
+-- the one where it is answered that it is done, else the other
+pub kept_after_answer : {T E : Type 0} (answer : Result T E) (heads : List TableHead) (kept : List Kept) (r : ℕ) (k new : Kept)
+    (change : Reference → Reference) → KeepsNames change → r < length kept → k ≡ slice_index_or kept r k
+    → OnOk answer (new ≡ record k { shown = change k.shown }) → OnErr answer (new ≡ k) → AreKept heads kept
+    → AreKept heads (slice_set kept r new)
+kept_after_answer (Ok x) heads kept r k new change keeps within is done stays all =
+    kept_after_change heads kept r k new change keeps within is done all
+kept_after_answer (Err e) heads kept r k new change keeps within is done stays all =
+    kept_unchanged heads kept r k new is stays all
 
 -- ---- what holds of each reference
 

@@ -1,16 +1,28 @@
 -- The numbers and the files of references stay distinct.
 use Rattle.std.proofs.Common.{◌≡◌, ◌≢◌, ℕ, List, [], ◌∷◌, ◌++◌, length, All, refl, sym, ◌∙◌, arith, inl, inr}
-use Rattle.std.specs.Prelude.{None, Some, IfSome, ◌⊎◌, slice_get, slice_set}
+use Rattle.std.specs.Prelude.{◌+◌, Option, None, Some, IfSome, ◌⊎◌, slice_get, slice_set, unwrap_or}
+use Rattle.std.specs.Option.{option_map_or}
 use Rattle.std.proofs.lemmas.Bool.{cases_eq, cases_lt}
 use Rattle.std.proofs.lemmas.Option.{same_Some, slice_get_cases}
+use Rattle.hx_sample.specs.Find.{Entry}
+use Rattle.hx_refs.specs.Additions.{new_entries, with_pairs, Pair}
+use Rattle.hx_refs.specs.Changes.{with_entries, with_version}
 use Rattle.hx_refs.specs.Numbers.{file_at, number_at, HaveOwnNames}
-use Rattle.hx_refs.specs.References.{changed_at, Reference}
+use Rattle.hx_refs.specs.References.{changed_at, version_place, Reference, Version}
 use Rattle.hx_refs.proofs.ListLemmas.{get_last, get_more, get_past, get_set_other, get_set_same}
 
--- ---- one more reference
+-- ---- no reference
 
 nothing : {A : Type 0} → (x : A) → None ≡ Some x → ⊥
 nothing x is = cc
+
+pub no_names : HaveOwnNames []
+no_names = record {
+  numbers = λ r other number first second. absurd (nothing number first);
+  files = λ r other file first second. absurd (nothing file first);
+}
+
+-- ---- one more reference
 
 -- the number and the file of a reference, where there is one more
 number_of_more : (xs : List Reference) (y : Reference) (p n : ℕ) → number_at (xs ++ y ∷ []) p ≡ Some n
@@ -97,8 +109,11 @@ file_stays xs r q x y found same = elim (cases_eq r q) [
   | inr apart ↦ rw (get_set_other xs r q y apart) refl
 ]
 
-pub own_names_stay : (xs : List Reference) (r : ℕ) (change : Reference → Reference)
-    → ((x : Reference) → ((change x).id ≡ x.id) × ((change x).file ≡ x.file))
+-- a change leaves the number of each reference, and its file
+abbrev pub KeepsNames : (Reference → Reference) → Type 0
+KeepsNames change = (x : Reference) → ((change x).id ≡ x.id) × ((change x).file ≡ x.file)
+
+pub own_names_stay : (xs : List Reference) (r : ℕ) (change : Reference → Reference) → KeepsNames change
     → HaveOwnNames xs → HaveOwnNames (changed_at r change xs)
 own_names_stay xs r change keeps names = elim (slice_get_cases xs r).1 [
   | inl w ↦
@@ -113,3 +128,26 @@ own_names_stay xs r change keeps names = elim (slice_get_cases xs r).1 [
       })
   | inr past ↦ rw past.1 names
 ]
+
+-- ---- changes that leave them
+
+pub version_keeps : (number : Option ℕ) (change : Version → Version) → KeepsNames (with_version number change)
+version_keeps number change x = go (version_place x number)
+  where
+    go : (found : Option ℕ)
+        → ((option_map_or (λ (place : ℕ). record x { versions = changed_at place change x.versions }) found x).id ≡ x.id)
+        × ((option_map_or (λ (place : ℕ). record x { versions = changed_at place change x.versions }) found x).file ≡ x.file)
+    go None = (refl, refl)
+    go (Some place) = (refl, refl)
+
+pub entries_keep : (number : Option ℕ) (change : List Entry → List Entry) → KeepsNames (with_entries number change)
+entries_keep number change x = version_keeps number (λ version. record version { entries = change version.entries }) x
+
+pub pairs_keep : (number : Option ℕ) (pairs : List Pair) → KeepsNames (with_pairs number pairs)
+pairs_keep number pairs x =
+    version_keeps number
+    (λ old. record {
+      serial = old.serial + length pairs;
+      entries = old.entries ++ new_entries (unwrap_or number x.curr) old.serial pairs;
+    })
+    x

@@ -12,6 +12,7 @@ use Rattle.hx_refs.specs.Additions.{new_entries, pairs_fault, Demands, Pair}
 use Rattle.hx_refs.specs.declared.fault.RefFault.{RefFault}
 use Rattle.hx_refs.specs.declared.fault.RefFault.TheVariants.{BadPattern, BadVersion}
 use Rattle.hx_refs.specs.declared.limits.Limits.{Limits}
+use Rattle.hx_refs.specs.Numbers.{HaveOwnNames}
 use Rattle.hx_refs.specs.References.{version_of, Reference, Version}
 use Rattle.hx_refs.specs.Uses.{Use, uses_of}
 use Rattle.hx_refs.specs.declared.searching.Search.{Search}
@@ -74,10 +75,11 @@ shown_references kept = map (λ k. k.shown) kept
 abbrev pub kept_uses : List Kept → ℕ → List Use
 kept_uses kept r = option_map_or (λ k. k.uses) (slice_get kept r) []
 
--- each reference keeps the uses that the heads give it
+-- each reference keeps the uses that the heads give it, and has a number and a file of its own
 pub record AreKept (heads : List TableHead) (kept : List Kept) : Type 0 where
   pub few : length kept ≤ 65536
   pub uses : (r : ℕ) → uses_of heads r ≡ kept_uses kept r
+  pub names : HaveOwnNames (shown_references kept)
 
 -- ---- additions
 

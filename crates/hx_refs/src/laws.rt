@@ -62,6 +62,13 @@ pub fn numbers_rise(refs: &Refs)
     refs.are_numbered();
 }
 
+/// No two references have the same number, and no two the same file.
+pub fn names_are_distinct(refs: &Refs)
+    ensures { HaveOwnNames refs.now.content.references }
+{
+    refs.have_own_names();
+}
+
 /// Where no two references have the same number, and no two the same file, it stays so: with one
 /// more that has a number and a file of its own, and after a change of one that leaves both.
 pub fn names_stay_distinct()

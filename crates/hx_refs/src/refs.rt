@@ -4,7 +4,7 @@ ghost use Rattle.hx_refs.specs.Additions.{addition_fault, after_addition, Additi
 ghost use Rattle.hx_refs.specs.Changes.{after_change_of_value, after_clearing, after_commit, after_deletion, after_preparation, answer, commit_fault, deletion_fault, fault_at, has_number, preparation_fault, prepared_version, value_fault, MayFail};
 ghost use Rattle.hx_sample.specs.Changes.{has_key};
 ghost use Rattle.hx_refs.specs.Naming.{resolution};
-ghost use Rattle.hx_refs.specs.Numbers.{HasVersionsInOrder, NumbersRise};
+ghost use Rattle.hx_refs.specs.Numbers.{HasVersionsInOrder, HaveOwnNames, NumbersRise};
 ghost use Rattle.hx_refs.specs.References.{after_output, after_tidying, entries_in, file_of, info_of, no_references, no_slots, with_new, HasHadNone};
 ghost use Rattle.hx_refs.specs.TableChanges.{is_key_of};
 ghost use Rattle.hx_refs.specs.Uses.{after_use, head_for, use_parts, uses_in_order, uses_of, KeepsToCase};
@@ -582,5 +582,12 @@ impl Refs {
             reference.is_numbered();
             rest = others;
         }
+    }
+
+    /// Does nothing. No two references have the same number, and no two the same file.
+    pub(crate) fn have_own_names(&self)
+        ensures { HaveOwnNames self.now.content.references }
+    {
+        let _references = &self.references;
     }
 }

@@ -1,8 +1,16 @@
-use Rattle.std.proofs.Common.{ap}
+use Rattle.std.proofs.Common.{ap, refl}
 use Rattle.std.proofs.lemmas.List.{length-map}
 use Rattle.hx_refs.specs.References.{with_output}
-use Rattle.hx_refs.proofs.KeptLemmas.{changed_shown}
+use Rattle.hx_refs.proofs.KeptLemmas.{changed_shown, kept_after_change}
 use Rattle.hx_refs.proofs.refs.Refs.add_out.Goals as goal
+
+pub invariant_of-self : goal.invariant_of-self
+invariant_of-self c =
+    let kept = c.self.inside.references.items in
+    let within = rw (length-map kept (λ k. k.shown)) at (rw (← c.self.view_is) at c.requires.r) in
+    kept_after_change c.self.inside.heads.items kept c.args.r c.index_mut-reference.result.now c.add_out.new.self
+    (λ reference. record reference { outputs = with_output c.args.out reference.outputs }) (λ x. (refl, refl)) within c.index_mut-reference.ensures.value
+    c.add_out.ensures c.self.invariant
 
 pub returns-clause-ok : goal.returns-clause-ok
 returns-clause-ok c =

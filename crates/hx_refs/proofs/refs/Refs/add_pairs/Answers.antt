@@ -5,8 +5,17 @@ use Rattle.hx_refs.specs.Additions.{with_pairs, VersionAsksFor}
 use Rattle.hx_refs.specs.Kept.{kept_demands}
 use Rattle.hx_refs.specs.References.{version_of}
 use Rattle.hx_refs.proofs.AdditionLemmas.{asked_at, asked_wider, fault_at}
-use Rattle.hx_refs.proofs.KeptLemmas.{changed_shown}
+use Rattle.hx_refs.proofs.KeptLemmas.{changed_shown, kept_after_answer}
+use Rattle.hx_refs.proofs.NameLemmas.{pairs_keep}
 use Rattle.hx_refs.proofs.refs.Refs.add_pairs.Goals as goal
+
+pub invariant_of-self : goal.invariant_of-self
+invariant_of-self g c =
+    let kept = c.self.inside.references.items in
+    let within = rw (length-map kept (λ k. k.shown)) at (rw (← c.self.view_is) at c.requires) in
+    kept_after_answer c.add.result c.self.inside.heads.items kept c.args.r c.index_mut-reference.result.now c.add.new.self
+    (with_pairs c.args.ver c.args.pairs.now) (pairs_keep c.args.ver c.args.pairs.now) within c.index_mut-reference.ensures.value
+    c.add.ensures.ok c.add.ensures.kept c.self.invariant
 
 pub returns-clause-ok : goal.returns-clause-ok
 returns-clause-ok g c =

@@ -13,7 +13,8 @@ invariant_of-self-2 c =
     rw (c.in-Ok-push.ensures.items, c.reserve.ensures.items)
     (kept_after_use heads kept c.args.r c.index_mut-reference.result.now c.push_use.new.self c.args.by c.args.ci
     within c.index_mut-reference.ensures.value
-    (rw len at (ap (λ k. k.uses) c.in_ok-push_use.ensures.ok)) c.self.invariant)
+    (rw len at (ap (λ k. k.uses) c.in_ok-push_use.ensures.ok)) (ap (λ k. k.shown) c.in_ok-push_use.ensures.ok)
+    c.self.invariant)
 
 pub returns-clause-head : goal.returns-clause-head
 returns-clause-head c =
