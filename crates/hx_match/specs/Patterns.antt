@@ -1,12 +1,11 @@
 -- Which texts are patterns of a match method, and why the others are none (HAProxy configuration
 -- manual 2.4, section 7.1).
-use Rattle.std.specs.Prelude.{◌≡◌, ℕ, int_lt, Bool, List, Option, None, Some, is_some, IsUtf8, Result, Err, ⊤, if◌then◌else◌}
+use Rattle.std.specs.Prelude.{◌≡◌, ℕ, int_lt, Bool, true, false, List, Option, None, Some, is_some, IsUtf8, Result, Err, ⊤, if◌then◌else◌}
 use Rattle.std.specs.Result.{result_ok}
 use Rattle.std.specs.Str.{is_utf8}
 use Rattle.hex.specs.Hex.{decode_of}
-use Rattle.hx_outside.specs.Count.{Rose}
 use Rattle.hx_outside.specs.Expressions.{expression}
-use Rattle.hx_outside.specs.Makers.{ExpressionText, MakerState}
+use Rattle.hx_outside.specs.Makers.{CountsLarge, ExpressionText, MakerState}
 use Rattle.hx_outside.specs.declared.pattern_fault.PatFault.{PatFault}
 use Rattle.hx_outside.specs.declared.pattern_fault.PatFault.TheVariants.{BadInt, BadRange, BadAddress, BadHex, BadRegex, TooLarge, NotUtf8, NoMemory}
 use Rattle.hx_text.specs.declared.kinds.By.{By}
@@ -61,12 +60,9 @@ MayCome own Asked TooLarge = Asked
 MayCome own Asked NoMemory = ⊤
 MayCome own Asked fault = own ≡ Some fault
 
--- What a maker of regular expressions knows before and after the text `asked` was read. With
--- `TooLarge` its count of texts that were too large rose, and the last of them is this one. With
--- any other answer both stay.
-abbrev pub CountsLarge :
+-- what a maker of regular expressions knows before and after the text `asked` was read
+abbrev pub PatternCountsLarge :
     {T : Type 0} → Result T PatFault → ExpressionText → MakerState → MakerState → Type 0
-CountsLarge (Err TooLarge) asked before now =
-    Rose before.too_large now.too_large × (now.large ≡ Some asked)
-CountsLarge _ asked before now =
-    (now.too_large ≡ before.too_large) × (now.large ≡ before.large)
+PatternCountsLarge (Err TooLarge) asked before now =
+    CountsLarge true (λ text. text ≡ asked) before now
+PatternCountsLarge _ asked before now = CountsLarge false (λ text. text ≡ asked) before now

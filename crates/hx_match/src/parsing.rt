@@ -3,7 +3,7 @@ ghost use Rattle.std.specs.Result.{result_ok};
 ghost use Rattle.hex.specs.Hex.{decode_of};
 ghost use Rattle.hx_text.specs.Network.{net_of};
 ghost use Rattle.hx_sample.specs.Keys.{range_of, trimmed};
-ghost use Rattle.hx_match.specs.Patterns.{fault_without, range_fault, text_fault, AsksMaker, CountsLarge, MayCome};
+ghost use Rattle.hx_match.specs.Patterns.{fault_without, range_fault, text_fault, AsksMaker, MayCome, PatternCountsLarge};
 ghost use Rattle.hx_match.specs.Read.{by_of, by_of_text, is_delim, range_of_bounds, IsKeyExpression, IsNetwork, IsRead, IsTextRead};
 
 use crate::components::{Delims, trim};
@@ -44,7 +44,7 @@ pub fn parse<M: ReMaker>(
     ensures read { OnOk result (text_fault by ci text.now ≡ None) }
     ensures refused { IfErr result
         (MayCome (text_fault by ci text.now) (AsksMaker by text.now)) }
-    ensures large { CountsLarge result (record { text = text.now; ci = ci })
+    ensures large { PatternCountsLarge result (record { text = text.now; ci = ci })
         (M.state maker.old) (M.state maker.new) }
 {
     let form = match by {
@@ -163,7 +163,7 @@ fn made_regex<M: ReMaker>(
     ensures made { IfOk result (λ re. IsKeyExpression ci text.now re.value) }
     ensures refused { IfErr result
         (MayCome (text_fault By.Reg ci text.now) (AsksMaker By.Reg text.now)) }
-    ensures large { CountsLarge result (record { text = text.now; ci = ci })
+    ensures large { PatternCountsLarge result (record { text = text.now; ci = ci })
         (M.state maker.old) (M.state maker.new) }
 {
     match std::str::from_utf8(text) {
