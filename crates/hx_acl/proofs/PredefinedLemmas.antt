@@ -1,7 +1,6 @@
 -- The table of the code is that of the definition.
-use Rattle.std.proofs.Common.{◌≡◌, ℕ, Bool, true, false, cond, List, [], ◌∷◌, map, Option, Some, refl, ◌||◌, is_some}
+use Rattle.std.proofs.Common.{◌≡◌, ℕ, Bool, true, false, cond, List, [], ◌∷◌, map, Option, Some, refl}
 use Rattle.std.specs.Prelude.{option_map}
-use Rattle.std.specs.List.{list_any}
 use Rattle.std.specs.Str.{bytes_eq}
 use Rattle.hx_acl.specs.declared.predefined.TheConstants.{PREDEFINED}
 use Rattle.hx_ast.specs.Predefined.{predefined_acls}
@@ -29,17 +28,3 @@ pub predefined_row : (name : List ℕ)
     ≡ option_map keyed_acl (entry_at (map (λ row. (row.0.now, row.1)) PREDEFINED) name)
 unfolding predefined_acls
 predefined_row name = entry_at_map keyed_acl (map (λ row. (row.0.now, row.1)) PREDEFINED) name
-
-known_or : {A : Type 0} (b : Bool) (x : A) (o : Option A) (known : Bool) → is_some o ≡ known
-    → is_some (cond b (Some x) o) ≡ (b || known)
-known_or true x o known same = refl
-known_or false x o known same = same
-
--- a name has a row exactly where it is one of the names of the rows
-pub named_row : {A : Type 0} (rows : List (List ℕ × A)) (name : List ℕ)
-    → is_some (entry_at rows name)
-    ≡ list_any (λ known. bytes_eq known name) (map (λ row. row.0) rows)
-named_row [] name = refl
-named_row (row ∷ rows) name =
-    known_or (bytes_eq row.0 name) row.1 (entry_at rows name)
-    (list_any (λ known. bytes_eq known name) (map (λ r. r.0) rows)) (named_row rows name)

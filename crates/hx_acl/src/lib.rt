@@ -24,5 +24,4 @@ mod typing;
 
 pub use acl_set::AclSet;
 pub use condition::Condition;
-pub use predefined::is_predefined;
 pub use typing::{is_cond_typed, is_decl_typed};

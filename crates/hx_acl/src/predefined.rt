@@ -1,8 +1,6 @@
-ghost use Rattle.std.specs.Prelude.{◌≡◌, [], ◌∷◌, codes, is_some, map, option_map};
-ghost use Rattle.std.specs.List.{list_any};
-ghost use Rattle.std.specs.Str.{bytes_eq};
+ghost use Rattle.std.specs.Prelude.{◌≡◌, [], ◌∷◌, codes, map, option_map};
 ghost use Rattle.hx_acl.specs.Predefined.{keyed_matches, predefined_matches};
-ghost use Rattle.hx_ast.specs.Predefined.{is_method, predefined_acls, predefined_names};
+ghost use Rattle.hx_ast.specs.Predefined.{is_method, predefined_acls};
 ghost use Rattle.hx_base.specs.Pairs.{entry_at};
 ghost use Rattle.hx_acl.specs.PredefinedView.{keyed_acl, method_acl};
 ghost use Rattle.hx_fetch.specs.World.{context_of};
@@ -74,15 +72,6 @@ fn predefined_named(name: &[u8]) -> Option<Predefined>
     ensures { entry_at predefined_acls name.now ≡ option_map keyed_acl result }
 {
     entry_at(&PREDEFINED, name)
-}
-
-/// Whether an ACL of this name is known without being declared (HAProxy configuration manual 2.4,
-/// section 7.4).
-pub fn is_predefined(name: &[u8]) -> bool
-    ensures known { result ≡ is_some (entry_at predefined_acls name.now) }
-    ensures listed { result ≡ list_any (λ known. bytes_eq known name.now) predefined_names }
-{
-    predefined_named(name).is_some()
 }
 
 /// Whether the predefined ACL of this name holds in `world`; that of another name doesn't.
