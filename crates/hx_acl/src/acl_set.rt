@@ -1,9 +1,9 @@
-ghost use Rattle.std.specs.Prelude.{◌≡◌, ◌↔◌, [], ◌∷◌, ◌++◌, OnOk, OnErr, IfOk, IsErrOf, true, false};
+ghost use Rattle.std.specs.Prelude.{◌≡◌, ◌↔◌, [], ◌∷◌, ◌++◌, Contains, OnOk, OnErr, IfOk, IsErrOf, true, false};
 ghost use Rattle.hx_acl.specs.Expressions.{has_expressions};
 ghost use Rattle.hx_acl.specs.Holds.{HasAclsHeads, name_holds};
 ghost use Rattle.hx_acl.specs.Typing.{is_decl_typed};
 ghost use Rattle.hx_expr.specs.Expressions.{expression_texts};
-ghost use Rattle.hx_expr.specs.Faults.{CompileCountsLarge, CompileNamesLarge};
+ghost use Rattle.hx_expr.specs.Faults.{CompileCountsLarge};
 ghost use Rattle.hx_fetch.specs.World.{context_of};
 
 use crate::predefined::predefined_matches;
@@ -71,10 +71,8 @@ impl AclSet {
         ensures expressions { OnOk result (has_expressions decl.now.expr ≡ true) }
         ensures bad_pattern { IsErrOf result PlanFault.BadPattern →
             has_expressions decl.now.expr ≡ false }
-        ensures counted { CompileCountsLarge result (M.state maker.old).too_large
-            (M.state maker.new).too_large }
-        ensures large { CompileNamesLarge result (expression_texts decl.now.expr)
-            (M.state maker.old).large (M.state maker.new).large }
+        ensures large { CompileCountsLarge result (Contains (expression_texts decl.now.expr))
+            (M.state maker.old) (M.state maker.new) }
     {
         if !is_decl_typed(decl) {
             return Err(PlanFault::BadType);

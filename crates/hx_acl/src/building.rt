@@ -1,10 +1,10 @@
-ghost use Rattle.std.specs.Prelude.{◌≡◌, IfOk, OnOk, IsErrOf, true, false};
+ghost use Rattle.std.specs.Prelude.{◌≡◌, Contains, IfOk, OnOk, IsErrOf, true, false};
 ghost use Rattle.std.specs.List.{list_all};
 ghost use Rattle.hx_ast.specs.Acls.{use_passes};
 ghost use Rattle.hx_acl.specs.Expressions.{cond_has_expressions, cond_texts, conj_texts, has_expressions, use_texts};
 ghost use Rattle.hx_acl.specs.TermView.{use_of};
 ghost use Rattle.hx_acl.specs.Typing.{is_cond_typed, is_decl_typed};
-ghost use Rattle.hx_expr.specs.Faults.{CompileCountsLarge, CompileNamesLarge};
+ghost use Rattle.hx_expr.specs.Faults.{CompileCountsLarge};
 
 use crate::term::{TermAcl, TestTerm};
 use crate::test::build_test;
@@ -23,10 +23,8 @@ fn build_acl<M: ReMaker>(alloc: Global, acl: &AclUse, maker: &mut M) -> Result<T
     ensures typed { ¬ (IsErrOf result PlanFault.BadType) }
     ensures bad { IsErrOf result PlanFault.BadPattern →
         use_passes (λ decl. has_expressions decl.expr) acl.now ≡ false }
-    ensures counted { CompileCountsLarge result (M.state maker.old).too_large
-        (M.state maker.new).too_large }
-    ensures large { CompileNamesLarge result (use_texts acl.now) (M.state maker.old).large
-        (M.state maker.new).large }
+    ensures large { CompileCountsLarge result (Contains (use_texts acl.now))
+        (M.state maker.old) (M.state maker.new) }
 {
     match acl {
         AclUse::Named(name) => Ok(TermAcl::Named(Octets::copy(alloc, name.as_slice())?)),
@@ -47,10 +45,8 @@ fn build_conj<M: ReMaker>(
     ensures typed { ¬ (IsErrOf result PlanFault.BadType) }
     ensures bad { IsErrOf result PlanFault.BadPattern → list_all
         (λ term. use_passes (λ decl. has_expressions decl.expr) term.acl) conj.now ≡ false }
-    ensures counted { CompileCountsLarge result (M.state maker.old).too_large
-        (M.state maker.new).too_large }
-    ensures large { CompileNamesLarge result (conj_texts conj.now) (M.state maker.old).large
-        (M.state maker.new).large }
+    ensures large { CompileCountsLarge result (Contains (conj_texts conj.now))
+        (M.state maker.old) (M.state maker.new) }
 {
     let mut built = Items::new(alloc);
     for term in conj {
@@ -74,10 +70,8 @@ pub(crate) fn build_cond<M: ReMaker>(
     ensures expressions { OnOk result (cond_has_expressions cond.now ≡ true) }
     ensures typed { ¬ (IsErrOf result PlanFault.BadType) }
     ensures bad { IsErrOf result PlanFault.BadPattern → cond_has_expressions cond.now ≡ false }
-    ensures counted { CompileCountsLarge result (M.state maker.old).too_large
-        (M.state maker.new).too_large }
-    ensures large { CompileNamesLarge result (cond_texts cond.now) (M.state maker.old).large
-        (M.state maker.new).large }
+    ensures large { CompileCountsLarge result (Contains (cond_texts cond.now))
+        (M.state maker.old) (M.state maker.new) }
 {
     let mut built = Items::new(alloc);
     for conj in cond {

@@ -1,10 +1,10 @@
-ghost use Rattle.std.specs.Prelude.{◌≡◌, ◌↔◌, OnOk, IfOk, IsErrOf, true, false};
+ghost use Rattle.std.specs.Prelude.{◌≡◌, ◌↔◌, Contains, OnOk, IfOk, IsErrOf, true, false};
 ghost use Rattle.std.specs.List.{All, list_all};
 ghost use Rattle.hx_acl.specs.Expressions.{cond_has_expressions, cond_texts};
 ghost use Rattle.hx_acl.specs.Holds.{HasAclHeads, HasAclsHeads, HasCondHeads, acl_holds, cond_holds, term_holds};
 ghost use Rattle.hx_acl.specs.TermView.{use_of};
 ghost use Rattle.hx_acl.specs.Typing.{is_cond_typed};
-ghost use Rattle.hx_expr.specs.Faults.{CompileCountsLarge, CompileNamesLarge};
+ghost use Rattle.hx_expr.specs.Faults.{CompileCountsLarge};
 ghost use Rattle.hx_fetch.specs.World.{context_of};
 
 use crate::acl_set::AclSet;
@@ -59,10 +59,8 @@ impl Condition {
         ensures expressions { OnOk result (cond_has_expressions cond.now ≡ true) }
         ensures bad_pattern { IsErrOf result PlanFault.BadPattern →
             cond_has_expressions cond.now ≡ false }
-        ensures counted { CompileCountsLarge result (M.state maker.old).too_large
-            (M.state maker.new).too_large }
-        ensures large { CompileNamesLarge result (cond_texts cond.now) (M.state maker.old).large
-            (M.state maker.new).large }
+        ensures large { CompileCountsLarge result (Contains (cond_texts cond.now))
+            (M.state maker.old) (M.state maker.new) }
     {
         if !is_cond_typed(cond.as_slice()) {
             return Err(PlanFault::BadType);

@@ -1,8 +1,8 @@
-ghost use Rattle.std.specs.Prelude.{◌≡◌, IfOk, OnOk, IsErrOf, true, false};
+ghost use Rattle.std.specs.Prelude.{◌≡◌, Contains, IfOk, OnOk, IsErrOf, true, false};
 ghost use Rattle.hx_acl.specs.Expressions.{has_expressions};
 ghost use Rattle.hx_acl.specs.Typing.{is_decl_typed};
 ghost use Rattle.hx_expr.specs.Expressions.{expression_texts};
-ghost use Rattle.hx_expr.specs.Faults.{CompileCountsLarge, CompileNamesLarge};
+ghost use Rattle.hx_expr.specs.Faults.{CompileCountsLarge};
 
 use hx_ast::{Decl, Heads, Items, Texts};
 use hx_expr::{Plan, PlanFault, compile};
@@ -67,11 +67,8 @@ pub(crate) fn build_test<M: ReMaker>(
     ensures expressions { OnOk result (has_expressions decl.now.expr ≡ true) }
     ensures typed { ¬ (IsErrOf result PlanFault.BadType) }
     ensures bad { IsErrOf result PlanFault.BadPattern → has_expressions decl.now.expr ≡ false }
-    ensures counted { CompileCountsLarge result (M.state maker.old).too_large
-        (M.state maker.new).too_large }
-    ensures large { CompileNamesLarge result (expression_texts decl.now.expr)
-        (M.state maker.old).large
-        (M.state maker.new).large }
+    ensures large { CompileCountsLarge result (Contains (expression_texts decl.now.expr))
+        (M.state maker.old) (M.state maker.new) }
 {
     let plan = compile(alloc, &decl.expr, maker)?;
     let heads = copied_heads(alloc, decl.heads.as_slice())?;

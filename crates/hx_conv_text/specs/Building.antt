@@ -1,10 +1,9 @@
 -- What building a converter of texts says of the text that it reads as a regular expression.
-use Rattle.std.specs.Prelude.{◌≡◌, ℕ, Option, Some, None, IsSome, IsUtf8, Result, Err, ⊤}
+use Rattle.std.specs.Prelude.{◌≡◌, true, false, Option, Some, None, IsSome, IsUtf8, Result, Err, ⊤}
 use Rattle.hx_ast.specs.declared.conv.Conv.{Conv}
 use Rattle.hx_ast.specs.declared.conv.Conv.TheVariants as conv
-use Rattle.hx_outside.specs.Count.{Rose}
 use Rattle.hx_outside.specs.Expressions.{expression}
-use Rattle.hx_outside.specs.Makers.{ExpressionText}
+use Rattle.hx_outside.specs.Makers.{CountsLarge, ExpressionText, MakerState}
 use Rattle.hx_outside.specs.declared.pattern_fault.PatFault.{PatFault}
 use Rattle.hx_outside.specs.declared.pattern_fault.PatFault.TheVariants.{BadRegex, TooLarge, NotUtf8, NoMemory}
 
@@ -31,14 +30,8 @@ IsExpressionFault NotUtf8 = ⊤
 IsExpressionFault NoMemory = ⊤
 IsExpressionFault _ = ⊥
 
--- a maker's count of texts that were too large, before and after: it rose with `TooLarge`, and
--- stays with any other answer
-abbrev pub BuildCountsLarge : {T : Type 0} → Result T PatFault → ℕ → ℕ → Type 0
-BuildCountsLarge (Err TooLarge) before now = Rose before now
-BuildCountsLarge _ before now = now ≡ before
-
--- the last text that was too large for a maker, after this answer for the text `asked`
-abbrev pub large_after : {T : Type 0} → Result T PatFault → Option ExpressionText
-    → Option ExpressionText → Option ExpressionText
-large_after (Err TooLarge) asked last = asked
-large_after _ asked last = last
+-- what a maker of regular expressions knows before and after such a text is read
+abbrev pub BuildCountsLarge :
+    {T : Type 0} → Result T PatFault → (ExpressionText → Type 0) → MakerState → MakerState → Type 0
+BuildCountsLarge (Err TooLarge) Asked before now = CountsLarge true Asked before now
+BuildCountsLarge _ Asked before now = CountsLarge false Asked before now

@@ -3,7 +3,7 @@ ghost use Rattle.hx_ast.specs.Types.{input_kind};
 ghost use Rattle.hx_ast.specs.declared.conv.Conv.TheVariants as conv;
 ghost use Rattle.hx_outside.specs.Expressions.{expression, IsExpression};
 ghost use Rattle.hx_sample.specs.Seen.{value_of, occurrence_value};
-ghost use Rattle.hx_conv_text.specs.Building.{expression_text, large_after, BuildCountsLarge, IsExpressionFault, IsNoRegex, IsRegex};
+ghost use Rattle.hx_conv_text.specs.Building.{expression_text, BuildCountsLarge, IsExpressionFault, IsNoRegex, IsRegex};
 ghost use Rattle.hx_conv_text.specs.Converters.{has_lent_bytes, is_part_conv, is_text_conv, text_conv_of};
 
 use crate::applying::content;
@@ -57,10 +57,8 @@ pub fn build_text<M: ReMaker>(
         → IsSomeAnd (expression_text conv.now) IsNoRegex }
     ensures large { IsErrOf result PatFault.TooLarge → IsSome (expression_text conv.now) }
     ensures other { IfErr result IsExpressionFault }
-    ensures counted { BuildCountsLarge result (M.state maker.old).too_large
-        (M.state maker.new).too_large }
-    ensures last { (M.state maker.new).large
-        ≡ large_after result (expression_text conv.now) (M.state maker.old).large }
+    ensures counted { BuildCountsLarge result (λ asked. expression_text conv.now ≡ Some asked)
+        (M.state maker.old) (M.state maker.new) }
 {
     match conv {
         Conv::Regsub(text, sub, each, ci) => {
@@ -179,11 +177,8 @@ pub fn made_regex<M: ReMaker>(
     ensures bad { IsErrOf result PatFault.BadRegex
         → IsNoRegex (record { text = text.now; ci = ci }) }
     ensures other { IfErr result IsExpressionFault }
-    ensures counted { BuildCountsLarge result (M.state maker.old).too_large
-        (M.state maker.new).too_large }
-    ensures last { (M.state maker.new).large
-        ≡ large_after result (Some (record { text = text.now; ci = ci }))
-        (M.state maker.old).large }
+    ensures counted { BuildCountsLarge result (λ asked. asked ≡ record { text = text.now; ci = ci })
+        (M.state maker.old) (M.state maker.new) }
 {
     match std::str::from_utf8(text) {
         Ok(text) => match maker.make(alloc, text, ci) {

@@ -2,3 +2,4 @@ pub mod ValueLemmas
 pub mod ExpressionLemmas
 pub mod HeadLemmas
 pub mod ExpressionTextLemmas
+pub mod CountLemmas

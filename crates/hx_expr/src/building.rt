@@ -1,8 +1,8 @@
-ghost use Rattle.std.specs.Prelude.{◌≡◌, [], ◌∷◌, IfOk, OnOk, IsErrOf, true, false};
+ghost use Rattle.std.specs.Prelude.{◌≡◌, [], ◌∷◌, Contains, IfOk, OnOk, IsErrOf, true, false};
 ghost use Rattle.std.specs.List.{list_all};
 ghost use Rattle.hx_conv_text.specs.Converters.{is_text_conv};
 ghost use Rattle.hx_conv_val.specs.Converters.{is_value_conv};
-ghost use Rattle.hx_expr.specs.Faults.{CompileCountsLarge, CompileNamesLarge};
+ghost use Rattle.hx_expr.specs.Faults.{CompileCountsLarge};
 ghost use Rattle.hx_expr.specs.Expressions.{has_expression, texts_of};
 
 use crate::copying::copied_text;
@@ -34,10 +34,8 @@ fn built_text<M: ReMaker>(alloc: Global, conv: &Conv, maker: &mut M) -> Result<T
     ensures read { OnOk result (has_expression conv.now ≡ true) }
     ensures typed { ¬ (IsErrOf result PlanFault.BadType) }
     ensures bad { IsErrOf result PlanFault.BadPattern → has_expression conv.now ≡ false }
-    ensures counted { CompileCountsLarge result (M.state maker.old).too_large
-        (M.state maker.new).too_large }
-    ensures large { CompileNamesLarge result (texts_of (conv.now ∷ [])) (M.state maker.old).large
-        (M.state maker.new).large }
+    ensures large { CompileCountsLarge result (Contains (texts_of (conv.now ∷ [])))
+        (M.state maker.old) (M.state maker.new) }
 {
     match build_text(alloc, conv, maker) {
         Ok(text) => Ok(text),
@@ -55,10 +53,8 @@ fn build<M: ReMaker>(alloc: Global, conv: &Conv, maker: &mut M) -> Result<PlanCo
     ensures read { OnOk result (has_expression conv.now ≡ true) }
     ensures typed { ¬ (IsErrOf result PlanFault.BadType) }
     ensures bad { IsErrOf result PlanFault.BadPattern → has_expression conv.now ≡ false }
-    ensures counted { CompileCountsLarge result (M.state maker.old).too_large
-        (M.state maker.new).too_large }
-    ensures large { CompileNamesLarge result (texts_of (conv.now ∷ [])) (M.state maker.old).large
-        (M.state maker.new).large }
+    ensures large { CompileCountsLarge result (Contains (texts_of (conv.now ∷ [])))
+        (M.state maker.old) (M.state maker.new) }
 {
     if is_text_conv(conv) {
         let text = built_text(alloc, conv, maker)?;
@@ -86,10 +82,8 @@ pub(crate) fn build_all<M: ReMaker>(
     ensures typed { ¬ (IsErrOf result PlanFault.BadType) }
     ensures bad { IsErrOf result PlanFault.BadPattern →
         list_all has_expression convs.now ≡ false }
-    ensures counted { CompileCountsLarge result (M.state maker.old).too_large
-        (M.state maker.new).too_large }
-    ensures large { CompileNamesLarge result (texts_of convs.now) (M.state maker.old).large
-        (M.state maker.new).large }
+    ensures large { CompileCountsLarge result (Contains (texts_of convs.now))
+        (M.state maker.old) (M.state maker.new) }
 {
     let mut built = Items::new(alloc);
     for conv in convs {

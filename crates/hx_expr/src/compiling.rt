@@ -1,6 +1,6 @@
-ghost use Rattle.std.specs.Prelude.{◌≡◌, ◌↔◌, IfOk, OnOk, IsErrOf, true, false};
+ghost use Rattle.std.specs.Prelude.{◌≡◌, ◌↔◌, Contains, IfOk, OnOk, IsErrOf, true, false};
 ghost use Rattle.std.specs.List.{list_all};
-ghost use Rattle.hx_expr.specs.Faults.{CompileCountsLarge, CompileNamesLarge};
+ghost use Rattle.hx_expr.specs.Faults.{CompileCountsLarge};
 ghost use Rattle.hx_expr.specs.Expressions.{has_expression, expression_texts};
 ghost use Rattle.hx_expr.specs.Types.{is_typed};
 
@@ -30,10 +30,8 @@ pub fn compile<M: ReMaker>(alloc: Global, expr: &Expr, maker: &mut M) -> Result<
     ensures expressions { OnOk result (list_all has_expression expr.now.convs ≡ true) }
     ensures bad_pattern { IsErrOf result PlanFault.BadPattern →
         list_all has_expression expr.now.convs ≡ false }
-    ensures counted { CompileCountsLarge result (M.state maker.old).too_large
-        (M.state maker.new).too_large }
-    ensures large { CompileNamesLarge result (expression_texts expr.now) (M.state maker.old).large
-        (M.state maker.new).large }
+    ensures large { CompileCountsLarge result (Contains (expression_texts expr.now))
+        (M.state maker.old) (M.state maker.new) }
 {
     if !is_typed(expr) {
         return Err(PlanFault::BadType);

@@ -1,10 +1,10 @@
 -- Faults of parts are faults of the statements that they stand in.
 use Rattle.std.proofs.Common.{◌≡◌, ◌↔◌, ℕ, Bool, true, false, inl, inr, List, Option, None, Some, Result, Ok, Err, refl, sym, ◌∙◌, subst, IsSomeAnd, Contains, IsErrOf}
-use Rattle.hx_expr.specs.Faults.{CompileCountsLarge, CompileNamesLarge}
+use Rattle.hx_expr.specs.Faults.{CompileCountsLarge}
 use Rattle.hx_expr.specs.declared.PlanFault.{PlanFault}
 use Rattle.hx_expr.specs.declared.PlanFault.TheVariants as plan
 use Rattle.hx_outside.specs.Count.{Rose}
-use Rattle.hx_outside.specs.Makers.{ExpressionText, MakerState}
+use Rattle.hx_outside.specs.Makers.{ExpressionText, LastIsAsked, MakerState}
 use Rattle.hx_load.specs.Judging.{FaultOf, IsCodeFor, JudgedAs, StaysSmall}
 use Rattle.hx_load.specs.Loading.{fault_of_plan}
 use Rattle.hx_load.specs.declared.line_fault.LineFault.{LineFault}
@@ -69,26 +69,25 @@ pattern_not_type is = cc is
 large_not_type : {T : Type 0} → IsErrOf {T = T} (Err plan.TooLarge) plan.BadType → ⊥
 large_not_type is = cc is
 
-large_text : (texts : List ExpressionText) (P : ExpressionText → Type 0)
-    (large : Option ExpressionText) → ((text : ExpressionText) → Contains texts text → P text)
-    → IsSomeAnd large (Contains texts) → IsSomeAnd large P
-large_text texts P large reads is = some_as (Contains texts) P large reads is
+large_text : (texts : List ExpressionText) (P : ExpressionText → Type 0) (state : MakerState)
+    → ((text : ExpressionText) → Contains texts text → P text)
+    → LastIsAsked (Contains texts) state → IsSomeAnd state.large P
+large_text texts P state reads last = rw last.is (reads last.text last.asked)
 
 -- types that don't fit, and a text that is no expression
 pub plan_fault : {T : Type 0} (typed expressions readable : Bool) (texts : List ExpressionText)
     (P : ExpressionText → Type 0) (fault : PlanFault) (before now : MakerState)
     → ((IsErrOf {T = T} (Err fault) plan.BadType) ↔ (typed ≡ false))
     → (IsErrOf {T = T} (Err fault) plan.BadPattern → expressions ≡ false)
-    → CompileCountsLarge {T = T} (Err fault) before.too_large now.too_large
-    → CompileNamesLarge {T = T} (Err fault) texts before.large now.large
+    → CompileCountsLarge {T = T} (Err fault) (Contains texts) before now
     → (expressions ≡ false → readable ≡ false)
     → ((text : ExpressionText) → Contains texts text → P text)
     → FaultOf typed readable P before now (fault_of_plan fault)
-plan_fault typed expressions readable texts P plan.BadType before now types bad count last none reads =
-    (inl (types.0 refl, refl), record { count = count; last = last })
-plan_fault typed expressions readable texts P plan.BadPattern before now types bad count last none reads =
-    (inr (not_false typed (λ wrong. pattern_not_type (types.1 wrong)), none (bad refl), refl), record { count = count; last = last })
-plan_fault typed expressions readable texts P plan.TooLarge before now types bad count last none reads =
-    (not_false typed (λ wrong. large_not_type (types.1 wrong)), count, large_text texts P now.large reads last)
-plan_fault typed expressions readable texts P plan.NoMemory before now types bad count last none reads =
-    record { count = count; last = last }
+plan_fault typed expressions readable texts P plan.BadType before now types bad counts none reads =
+    (inl (types.0 refl, refl), record { count = counts.0; last = counts.1 })
+plan_fault typed expressions readable texts P plan.BadPattern before now types bad counts none reads =
+    (inr (not_false typed (λ wrong. pattern_not_type (types.1 wrong)), none (bad refl), refl), record { count = counts.0; last = counts.1 })
+plan_fault typed expressions readable texts P plan.TooLarge before now types bad counts none reads =
+    (not_false typed (λ wrong. large_not_type (types.1 wrong)), counts.0, large_text texts P now reads counts.1)
+plan_fault typed expressions readable texts P plan.NoMemory before now types bad counts none reads =
+    record { count = counts.0; last = counts.1 }

@@ -1,7 +1,7 @@
 -- What the parts of a statement, and those of a line, say of the whole.
-use Rattle.std.proofs.Common.{◌≡◌, ◌≢◌, ◌↔◌, ◌&&◌, ℕ, Bool, true, false, inl, inr, List, Result, Ok, Err, refl, sym, ap, ◌∙◌, IsErrOf, OnOk}
+use Rattle.std.proofs.Common.{◌≡◌, ◌≢◌, ◌↔◌, ◌&&◌, ℕ, Bool, true, false, inl, inr, List, Result, Ok, Err, refl, sym, ap, ◌∙◌, Contains, IsErrOf, OnOk}
 use Rattle.hx_ast.specs.declared.Statement.{Statement}
-use Rattle.hx_expr.specs.Faults.{CompileCountsLarge, CompileNamesLarge}
+use Rattle.hx_expr.specs.Faults.{CompileCountsLarge}
 use Rattle.hx_expr.specs.declared.PlanFault.{PlanFault}
 use Rattle.hx_expr.specs.declared.PlanFault.TheVariants as plan
 use Rattle.hx_outside.specs.Makers.{MakerState}
@@ -35,14 +35,13 @@ no_expressions said is = ap (λ (b : Bool). b && statement_has_patterns said) is
 pub push_fault : {T : Type 0} (said : Statement) (fault : PlanFault) (before now : MakerState)
     → ((IsErrOf {T = T} (Err fault) plan.BadType) ↔ (is_statement_typed said ≡ false))
     → (IsErrOf {T = T} (Err fault) plan.BadPattern → statement_has_expressions said ≡ false)
-    → CompileCountsLarge {T = T} (Err fault) before.too_large now.too_large
-    → CompileNamesLarge {T = T} (Err fault) (statement_texts said) before.large now.large
+    → CompileCountsLarge {T = T} (Err fault) (Contains (statement_texts said)) before now
     → FaultOf (is_statement_typed said) (is_statement_readable said) (StatementReads said) before now
     (fault_of_plan fault)
-push_fault said fault before now types bad count last =
+push_fault said fault before now types bad counts =
     plan_fault (is_statement_typed said) (statement_has_expressions said)
     (is_statement_readable said) (statement_texts said) (StatementReads said) fault before now types
-    bad count last (no_expressions said) (λ text is. inl is)
+    bad counts (no_expressions said) (λ text is. inl is)
 
 -- the expressions of a statement have none, and its inline patterns are judged after them
 pub patterns_judged : {T : Type 0} (said : Statement) (before mid now : MakerState)

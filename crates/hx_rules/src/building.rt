@@ -1,9 +1,9 @@
-ghost use Rattle.std.specs.Prelude.{◌≡◌, ◌&&◌, IfOk, OnOk, IsErrOf, true, false};
+ghost use Rattle.std.specs.Prelude.{◌≡◌, ◌&&◌, Contains, IfOk, OnOk, IsErrOf, true, false};
 ghost use Rattle.std.specs.List.{list_all};
 ghost use Rattle.std.specs.Option.{option_map_or};
 ghost use Rattle.hx_acl.specs.Expressions.{cond_has_expressions, has_expressions};
 ghost use Rattle.hx_acl.specs.Typing.{is_cond_typed};
-ghost use Rattle.hx_expr.specs.Faults.{CompileCountsLarge, CompileNamesLarge};
+ghost use Rattle.hx_expr.specs.Faults.{CompileCountsLarge};
 ghost use Rattle.hx_expr.specs.Types.{is_typed};
 ghost use Rattle.hx_rules.specs.ActionView.{are_expressions, is_change, is_rewrite};
 ghost use Rattle.hx_rules.specs.Building.{action_exprs, action_texts, are_typed, backend_rule, backend_texts, exprs_texts, format_exprs, part_exprs, rule_has_expressions, rule_texts, when_texts};
@@ -43,10 +43,8 @@ fn build_part<M: ReMaker>(alloc: Global, part: &Part, maker: &mut M) -> Result<B
     ensures typed { ¬ (IsErrOf result PlanFault.BadType) }
     ensures bad { IsErrOf result PlanFault.BadPattern
         → list_all has_expressions (part_exprs part.now) ≡ false }
-    ensures counted { CompileCountsLarge result (M.state maker.old).too_large
-        (M.state maker.new).too_large }
-    ensures large { CompileNamesLarge result (exprs_texts (part_exprs part.now))
-        (M.state maker.old).large (M.state maker.new).large }
+    ensures large { CompileCountsLarge result (Contains (exprs_texts (part_exprs part.now)))
+        (M.state maker.old) (M.state maker.new) }
 {
     match part {
         Part::Text(bytes) => Ok(BuiltPart {
@@ -71,10 +69,8 @@ fn build_format<M: ReMaker>(
     ensures typed { ¬ (IsErrOf result PlanFault.BadType) }
     ensures bad { IsErrOf result PlanFault.BadPattern
         → list_all has_expressions (format_exprs format.now) ≡ false }
-    ensures counted { CompileCountsLarge result (M.state maker.old).too_large
-        (M.state maker.new).too_large }
-    ensures large { CompileNamesLarge result (exprs_texts (format_exprs format.now))
-        (M.state maker.old).large (M.state maker.new).large }
+    ensures large { CompileCountsLarge result (Contains (exprs_texts (format_exprs format.now)))
+        (M.state maker.old) (M.state maker.new) }
 {
     let mut built = Items::new(alloc);
     for part in format.as_slice() {
@@ -95,10 +91,8 @@ fn build_rewrite<M: ReMaker>(
     ensures expressions { OnOk result (are_expressions action.now ≡ true) }
     ensures typed { ¬ (IsErrOf result PlanFault.BadType) }
     ensures bad { IsErrOf result PlanFault.BadPattern → are_expressions action.now ≡ false }
-    ensures counted { CompileCountsLarge result (M.state maker.old).too_large
-        (M.state maker.new).too_large }
-    ensures large { CompileNamesLarge result (action_texts action.now) (M.state maker.old).large
-        (M.state maker.new).large }
+    ensures large { CompileCountsLarge result (Contains (action_texts action.now))
+        (M.state maker.old) (M.state maker.new) }
 {
     match action {
         Action::SetHeader(name, format) => {
@@ -150,10 +144,8 @@ fn build_change<M: ReMaker>(
     ensures expressions { OnOk result (are_expressions action.now ≡ true) }
     ensures typed { ¬ (IsErrOf result PlanFault.BadType) }
     ensures bad { IsErrOf result PlanFault.BadPattern → are_expressions action.now ≡ false }
-    ensures counted { CompileCountsLarge result (M.state maker.old).too_large
-        (M.state maker.new).too_large }
-    ensures large { CompileNamesLarge result (action_texts action.now) (M.state maker.old).large
-        (M.state maker.new).large }
+    ensures large { CompileCountsLarge result (Contains (action_texts action.now))
+        (M.state maker.old) (M.state maker.new) }
 {
     match action {
         Action::AddAcl(table, key) => {
@@ -188,10 +180,8 @@ fn build_action<M: ReMaker>(
     ensures expressions { OnOk result (are_expressions action.now ≡ true) }
     ensures typed { ¬ (IsErrOf result PlanFault.BadType) }
     ensures bad { IsErrOf result PlanFault.BadPattern → are_expressions action.now ≡ false }
-    ensures counted { CompileCountsLarge result (M.state maker.old).too_large
-        (M.state maker.new).too_large }
-    ensures large { CompileNamesLarge result (action_texts action.now) (M.state maker.old).large
-        (M.state maker.new).large }
+    ensures large { CompileCountsLarge result (Contains (action_texts action.now))
+        (M.state maker.old) (M.state maker.new) }
 {
     match action {
         Action::Allow => Ok(BuiltAction::Allow),
@@ -235,10 +225,8 @@ fn build_when<M: ReMaker>(
     ensures typed { ¬ (IsErrOf result PlanFault.BadType) }
     ensures bad { IsErrOf result PlanFault.BadPattern
         → option_map_or cond_has_expressions cond.now true ≡ false }
-    ensures counted { CompileCountsLarge result (M.state maker.old).too_large
-        (M.state maker.new).too_large }
-    ensures large { CompileNamesLarge result (when_texts cond.now) (M.state maker.old).large
-        (M.state maker.new).large }
+    ensures large { CompileCountsLarge result (Contains (when_texts cond.now))
+        (M.state maker.old) (M.state maker.new) }
 {
     match cond {
         Some(cond) => Ok(Some(Condition::build(alloc, cond, maker)?)),
@@ -257,10 +245,8 @@ pub(crate) fn build_rule<M: ReMaker>(
     ensures expressions { OnOk result (rule_has_expressions rule.now ≡ true) }
     ensures typed { ¬ (IsErrOf result PlanFault.BadType) }
     ensures bad { IsErrOf result PlanFault.BadPattern → rule_has_expressions rule.now ≡ false }
-    ensures counted { CompileCountsLarge result (M.state maker.old).too_large
-        (M.state maker.new).too_large }
-    ensures large { CompileNamesLarge result (rule_texts rule.now) (M.state maker.old).large
-        (M.state maker.new).large }
+    ensures large { CompileCountsLarge result (Contains (rule_texts rule.now))
+        (M.state maker.old) (M.state maker.new) }
 {
     let action = build_action(alloc, &rule.action, maker)?;
     let cond = build_when(alloc, &rule.cond, maker)?;
@@ -289,10 +275,8 @@ pub(crate) fn build_backend<M: ReMaker>(
     ensures bad { IsErrOf result PlanFault.BadPattern
         → (list_all has_expressions (format_exprs format.now)
         && option_map_or cond_has_expressions cond.now true) ≡ false }
-    ensures counted { CompileCountsLarge result (M.state maker.old).too_large
-        (M.state maker.new).too_large }
-    ensures large { CompileNamesLarge result (backend_texts format.now cond.now)
-        (M.state maker.old).large (M.state maker.new).large }
+    ensures large { CompileCountsLarge result (Contains (backend_texts format.now cond.now))
+        (M.state maker.old) (M.state maker.new) }
 {
     let format = build_format(alloc, format, maker)?;
     let cond = build_when(alloc, cond, maker)?;

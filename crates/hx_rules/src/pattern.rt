@@ -1,6 +1,6 @@
-ghost use Rattle.std.specs.Prelude.{◌≡◌, ◌∷◌, [], true, false, is_some, IfOk, OnOk, IsErrOf};
+ghost use Rattle.std.specs.Prelude.{◌≡◌, ◌∷◌, [], Contains, true, false, is_some, IfOk, OnOk, IsErrOf};
 ghost use Rattle.hx_conv_text.specs.Substitution.{expanded_of};
-ghost use Rattle.hx_expr.specs.Faults.{CompileCountsLarge, CompileNamesLarge};
+ghost use Rattle.hx_expr.specs.Faults.{CompileCountsLarge};
 ghost use Rattle.hx_sample.specs.Keys.{key_expression};
 
 use hx_conv_text::{expand, made_regex};
@@ -43,10 +43,9 @@ impl Pattern {
         ensures typed { ¬ (IsErrOf result PlanFault.BadType) }
         ensures bad { IsErrOf result PlanFault.BadPattern
             → is_some (key_expression false text.now) ≡ false }
-        ensures counted { CompileCountsLarge result (M.state maker.old).too_large
-            (M.state maker.new).too_large }
-        ensures large { CompileNamesLarge result (record { text = text.now; ci = false } ∷ [])
-            (M.state maker.old).large (M.state maker.new).large }
+        ensures large { CompileCountsLarge result
+            (Contains (record { text = text.now; ci = false } ∷ []))
+            (M.state maker.old) (M.state maker.new) }
     {
         let regex = match made_regex(alloc, text, false, maker) {
             Ok(regex) => regex,

@@ -1,5 +1,5 @@
-ghost use Rattle.std.specs.Prelude.{◌≡◌, ◌↔◌, OnOk, OnErr, IsErrOf, true, false};
-ghost use Rattle.hx_expr.specs.Faults.{CompileCountsLarge, CompileNamesLarge};
+ghost use Rattle.std.specs.Prelude.{◌≡◌, ◌↔◌, Contains, OnOk, OnErr, IsErrOf, true, false};
+ghost use Rattle.hx_expr.specs.Faults.{CompileCountsLarge};
 ghost use Rattle.hx_rules.specs.Building.{is_statement_typed, statement_has_expressions, statement_texts, with_statement};
 ghost use Rattle.hx_rules.specs.Programs.{no_rules, rule_count};
 
@@ -131,10 +131,8 @@ impl Program {
         ensures expressions { OnOk result (statement_has_expressions statement.now ≡ true) }
         ensures bad_pattern { IsErrOf result PlanFault.BadPattern →
             statement_has_expressions statement.now ≡ false }
-        ensures counted { CompileCountsLarge result (M.state maker.old).too_large
-            (M.state maker.new).too_large }
-        ensures large { CompileNamesLarge result (statement_texts statement.now)
-            (M.state maker.old).large (M.state maker.new).large }
+        ensures large { CompileCountsLarge result (Contains (statement_texts statement.now))
+            (M.state maker.old) (M.state maker.new) }
     {
         if !is_statement_typed(statement) {
             return Err(PlanFault::BadType);
@@ -155,10 +153,8 @@ impl Program {
         ensures expressions { OnOk result (statement_has_expressions statement.now ≡ true) }
         ensures bad { IsErrOf result PlanFault.BadPattern →
             statement_has_expressions statement.now ≡ false }
-        ensures counted { CompileCountsLarge result (M.state maker.old).too_large
-            (M.state maker.new).too_large }
-        ensures large { CompileNamesLarge result (statement_texts statement.now)
-            (M.state maker.old).large (M.state maker.new).large }
+        ensures large { CompileCountsLarge result (Contains (statement_texts statement.now))
+            (M.state maker.old) (M.state maker.new) }
     {
         let alloc = self.alloc;
         // No memory holds as many rules as a `u64` can't count.

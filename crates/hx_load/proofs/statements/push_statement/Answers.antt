@@ -8,11 +8,11 @@ returns-in_err-push-clause-judged g c =
     let said = c.in_err-push.ensures in
     rw (p.1, p.2)
     (push_fault c.args.statement.now c.in_err-push.field-0.0 _ _ said.bad_type said.bad_pattern
-    said.counted said.large)
+    said.large)
 
 pub returns-clause-judged : goal.returns-clause-judged
 returns-clause-judged g c =
     let said = c.in_ok-push.ensures in
     patterns_judged c.args.statement.now _ _ _ c.judge_statement.result said.types
-    said.expressions (record { count = said.counted; last = said.large })
+    said.expressions (record { count = said.large.0; last = said.large.1 })
     c.judge_statement.ensures
