@@ -25,3 +25,5 @@ mod RootLemmas
 mod LaterLemmas
 mod RemoveSteps
 mod WalkLemmas
+mod PlaceLemmas
+pub mod DistinctLemmas

@@ -6,6 +6,7 @@ mod bits;
 mod chain_tests;
 mod insert;
 mod key;
+pub mod laws;
 mod longest;
 mod node;
 mod parts;

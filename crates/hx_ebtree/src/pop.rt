@@ -26,7 +26,7 @@ fn node(down: Down) -> usize
 
 impl Tree {
     /// Takes one node out of the tree and answers its number, or none where the tree has no nodes.
-    /// At most sixteen steps.
+    /// At most sixteen steps, and none where it has no nodes.
     pub fn pop_any<V, L: Ledger>(
         &mut self,
         pool: &mut Pool<Node<V>>,
@@ -48,6 +48,7 @@ impl Tree {
             → Stands pool.old self.old pairs → LiesIn links_of pool.old c xs
             → ((k : ℕ) → IsIn k xs → IsOff k pairs) → LiesIn links_of pool.new c xs }
         ensures cost { steps.new ≤ steps.old + 16 }
+        ensures free { result ≡ None → steps.new ≡ steps.old }
     {
         match self.root {
             Some(down) => {

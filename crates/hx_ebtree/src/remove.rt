@@ -1,13 +1,14 @@
 //! Nodes are taken out of a tree.
-ghost use Rattle.std.specs.Prelude.{◌≡◌, ◌≢◌, ◌+◌, ◌≤◌, ◌++◌, [], ◌∷◌, ℕ, List, Option, Some, None};
+ghost use Rattle.std.specs.Prelude.{◌≡◌, ◌≢◌, ◌+◌, ◌*◌, ◌≤◌, ◌++◌, length, [], ◌∷◌, ℕ, Bool, List, Option, Some, None};
 ghost use Rattle.std.specs.Option.{ForSome};
 ghost use Rattle.hx_pool.specs.Pool.{get, IsLive};
 ghost use Rattle.hx_pool.specs.Chain.{IsIn, LiesAt, LiesIn};
 ghost use Rattle.hx_pool.specs.declared.chain.Chain.{Chain as LinkChain};
 ghost use Rattle.hx_ebtree.specs.declared.tree.Tree.{Tree as Other};
-ghost use Rattle.hx_ebtree.specs.Node.{links_of};
+ghost use Rattle.hx_ebtree.specs.Node.{key_of, links_of};
+ghost use Rattle.hx_ebtree.specs.declared.node.Node.{Node as Entry};
 ghost use Rattle.hx_ebtree.specs.declared.node.Up.{Up as Place};
-ghost use Rattle.hx_ebtree.specs.KeyList.{KeyList, IsOff, Lists, without};
+ghost use Rattle.hx_ebtree.specs.KeyList.{KeyList, exact_of, IsOff, Lists, without};
 ghost use Rattle.hx_ebtree.specs.Shape.{Shape, LeafPart, links_in};
 ghost use Rattle.hx_ebtree.specs.Tree.{leaves_of, forks_of, KeepsNodes, Stands};
 ghost use Rattle.hx_ebtree.specs.Change.{node_of};
@@ -282,7 +283,9 @@ impl Tree {
         self.move_branch(pool, id, next, steps);
     }
 
-    /// Takes the node `id` out of the tree. The others of its key stay in their order.
+    /// Takes the node `id` out of the tree. The others of its key stay in their order. At most two
+    /// steps for each bit of its key, and sixteen more; for the oldest node of a key at most
+    /// sixteen.
     pub fn remove<V, L: Ledger>(
         &mut self,
         pool: &mut Pool<Node<V>>,
@@ -301,6 +304,10 @@ impl Tree {
         ensures chains { (pairs : KeyList) (c : LinkChain) (xs : List ℕ)
             → Stands pool.old self.old pairs → Lists pairs id → LiesIn links_of pool.old c xs
             → ((k : ℕ) → IsIn k xs → IsOff k pairs) → LiesIn links_of pool.new c xs }
+        ensures cost { (node : Entry V) → get pool.old id ≡ Some node
+            → steps.new ≤ steps.old + 2 * length (key_of node) + 16 }
+        ensures first { (pairs : KeyList) (key : List Bool) → Stands pool.old self.old pairs
+            → exact_of pairs key ≡ Some id → steps.new ≤ steps.old + 16 }
     {
         let node = pool.get(id, steps);
         match node.links().prev {

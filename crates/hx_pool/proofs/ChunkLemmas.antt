@@ -105,7 +105,7 @@ module _ {X : Type 0} where
       (read, omega (arith, packed_length cs n (n / 64) c p read))
 
   -- a chunk that holds nothing, after the others
-  pub one_more : (cs ds : List (List X)) (n : ℕ) → AreChunks cs n → length cs < 2 ^ 32 → ds ≡ cs ++ [] ∷ [] → AreChunks ds n
+  pub one_more : (cs ds : List (List X)) (n : ℕ) → AreChunks cs n → length cs < 2 ^ 26 → ds ≡ cs ++ [] ∷ [] → AreChunks ds n
   one_more cs ds n are few e = rw e (record { packed = packed_empty cs n are.packed; few = omega (arith, length-append cs ([] ∷ [])) })
 
   pub one_more_view : (cs ds : List (List X)) (n : ℕ) → AreChunks cs n → ds ≡ cs ++ [] ∷ [] → (let after : List X × ℕ = (flat ds, length ds * 64 - n) in after ≡ (flat cs, length cs * 64 - n + 64))

@@ -7,3 +7,4 @@ mod ChainSteps
 mod MemoryLemmas
 mod PlaceLemmas
 pub mod LyingLemmas
+pub mod ListLemmas

@@ -1,6 +1,6 @@
 -- Chains: lists of numbers of a pool, kept in the links of their values.
-use Rattle.std.specs.Prelude.{◌≡◌, ℕ, List, [], ◌∷◌, Option, Some, None, ◌⊎◌}
-use Rattle.std.specs.Option.{option_map}
+use Rattle.std.specs.Prelude.{◌≡◌, ℕ, zero, suc, List, [], ◌∷◌, Option, Some, None, ◌⊎◌}
+use Rattle.std.specs.Option.{option_map, option_and_then}
 use Rattle.hx_pool.specs.declared.links.Links.{Links}
 use Rattle.hx_pool.specs.declared.chain.Chain.{Chain}
 use Rattle.hx_pool.specs.Pool.{Pool, get, live_count}
@@ -47,6 +47,17 @@ links_at links_of p id = option_map links_of (get p id)
 -- the chain lies in the pool for the list
 abbrev pub LiesIn : {T : Type 0} → (T → Links) → Pool T → Chain → List ℕ → Type 0
 LiesIn links_of p c xs = LiesAt (links_at links_of p) c xs
+
+-- the first `count` numbers along the links, from a number on
+abbrev pub numbers_from : (ℕ → Option Links) → ℕ → Option ℕ → List ℕ
+numbers_from f zero at = []
+numbers_from f (suc count) None = []
+numbers_from f (suc count) (Some id) =
+    id ∷ numbers_from f count (option_and_then (λ (links : Links). links.next) (f id))
+
+-- the first `count` numbers of the list for which the chain lies in the pool
+abbrev pub numbers_in : {T : Type 0} → (T → Links) → Pool T → Chain → ℕ → List ℕ
+numbers_in links_of p c count = numbers_from (links_at links_of p) count c.first
 
 -- no value on both sides, or two that are the same but for their links
 abbrev pub IsSameSlot : {T : Type 0} → (T → T → Type 0) → Option T → Option T → Type 0

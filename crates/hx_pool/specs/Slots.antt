@@ -14,10 +14,10 @@ module _ {X : Type 0} where
   IsPacked [] n = n ≡ 0
   IsPacked (xs ∷ xss) n = (length xs ≡ min n 64) × IsPacked xss (n - 64)
 
-  -- so many items in so many chunks that their count times 64 is a `usize`
+  -- so many items, in chunks that have at most 2^32 places
   pub record AreChunks (xss : List (List X)) (n : ℕ) : Type 0 where
     pub packed : IsPacked xss n
-    pub few : length xss ≤ 2 ^ 32
+    pub few : length xss ≤ 2 ^ 26
 
 module _ {T : Type 0} where
   -- the value of a slot, if it has one
@@ -35,4 +35,4 @@ module _ {T : Type 0} where
   pub record IsPool (slots : List (Slot T)) (spare : ℕ) (first : Option ℕ) : Type 0 where
     pub counted : count_by is_some (map value_of slots) + spare ≡ length slots
     pub linked : IsFreeList slots spare first
-    pub few : length slots ≤ 2 ^ 38
+    pub few : length slots ≤ 2 ^ 32

@@ -1,4 +1,4 @@
-ghost use Rattle.std.specs.Prelude.{◌≡◌, ◌+◌, ◌^◌, ◌<◌, ◌≤◌, ◌++◌, [], ◌∷◌, OnErr, OnOk, Some, length, slice_get};
+ghost use Rattle.std.specs.Prelude.{◌≡◌, ◌+◌, ◌^◌, ◌<◌, ◌≤◌, ◌++◌, [], ◌∷◌, IsErr, IsTrue, OnErr, OnOk, Some, length, slice_get, ◌↔◌};
 ghost use Rattle.std.specs.Borrow.{sem};
 
 use crate::chunk::{CHUNK, Chunk};
@@ -7,7 +7,10 @@ use std::alloc::{AllocError, Global};
 use std::marker::Model;
 
 /// More chunks than this are refused, as where memory runs out.
-const MOST_CHUNKS: usize = 0x1_0000_0000;
+const MOST_CHUNKS: usize = 0x400_0000;
+
+/// How many slots that many chunks have.
+const MOST_SLOTS: usize = 0x1_0000_0000;
 
 /// Slots in chunks. Contracts see them as a list, and how many more there is memory for. No slot
 /// moves when more memory is taken.
@@ -67,17 +70,29 @@ impl<T> Chunks<T> {
     /// How many slots there is memory for.
     fn room(&self) -> usize
         ensures value { result ≡ self.now.1 }
-        ensures few { length self.now.0 + result ≤ 2 ^ 38 }
+        ensures few { length self.now.0 + result ≤ 2 ^ 32 }
     {
         self.chunks.len() * CHUNK - self.len
     }
 
-    /// Takes memory until there is some for `more` slots.
+    /// Whether there may be so many slots more.
+    fn may_have(&self, more: usize) -> bool
+        ensures { IsTrue result ↔ length self.now.0 + more ≤ 2 ^ 32 }
+    {
+        more <= MOST_SLOTS && self.len() <= MOST_SLOTS - more
+    }
+
+    /// Takes memory until there is some for `more` slots. More than there may be are refused before
+    /// any memory is taken.
     pub(crate) fn reserve(&mut self, more: usize) -> Result<(), AllocError>
         ensures slots { self.new.0 ≡ self.old.0 }
         ensures ok { OnOk result (more ≤ self.new.1) }
-        ensures few { length self.new.0 + self.new.1 ≤ 2 ^ 38 }
+        ensures few { OnOk result (length self.new.0 + self.new.1 ≤ 2 ^ 32) }
+        ensures many { 2 ^ 32 < length self.old.0 + more → IsErr result }
     {
+        if !self.may_have(more) {
+            return Err(AllocError);
+        }
         while self.room() < more {
             self.add_chunk()?;
         }

@@ -19,6 +19,7 @@
 mod chain;
 mod chunk;
 mod chunks;
+pub mod laws;
 mod links;
 mod memory;
 mod pool;

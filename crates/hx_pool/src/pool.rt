@@ -1,4 +1,4 @@
-ghost use Rattle.std.specs.Prelude.{◌≡◌, ◌+◌, ◌<◌, ◌≤◌, ◌++◌, ℕ, [], None, OnErr, OnOk, Option, Some, IsOk, IsTrue, length, map, replicate, ◌↔◌};
+ghost use Rattle.std.specs.Prelude.{◌≡◌, ◌+◌, ◌<◌, ◌≤◌, ◌++◌, ◌^◌, ℕ, [], None, OnErr, OnOk, Option, Some, IsErr, IsOk, IsTrue, length, map, replicate, ◌↔◌};
 ghost use Rattle.std.specs.Borrow.{sem};
 ghost use Rattle.hx_pool.specs.Pool.{get, IsLive, live_count, total, SameValues, Updates};
 ghost use Rattle.hx_pool.specs.Slots.{value_of, IsFreeList};
@@ -73,13 +73,16 @@ impl<T> Pool<T> {
         }
     }
 
-    /// Takes memory until `count` slots are spare. Where memory runs out, nothing changes.
+    /// Takes memory until `count` slots are spare. Where memory runs out, nothing changes. A pool has
+    /// at most 2^32 slots: where more are asked for, it takes no memory, and answers as where memory
+    /// runs out.
     pub fn reserve(&mut self, count: usize) -> Result<(), NoMemory>
         ensures ok { OnOk result (count ≤ self.new.spare) }
         ensures values { SameValues self.old self.new }
         ensures live { live_count self.new ≡ live_count self.old }
         ensures total { total self.old ≤ total self.new }
         ensures enough { count ≤ self.old.spare → IsOk result × (self.new ≡ self.old) }
+        ensures many { 2 ^ 32 < live_count self.old + count → IsErr result }
         ensures err { OnErr result (self.new ≡ self.old) }
     {
         if count <= self.spare {
@@ -164,6 +167,13 @@ impl<T> Pool<T> {
         ensures value { get self.old id ≡ Some result.now }
     {
         self.slots.get_mut(id).value_mut()
+    }
+
+    /// How many slots have a value.
+    pub fn live_count(&self) -> usize
+        ensures { result ≡ live_count self.now }
+    {
+        self.slots.len() - self.spare
     }
 
     /// Whether `id` is the number of a value.

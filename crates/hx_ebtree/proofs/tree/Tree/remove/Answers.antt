@@ -3,6 +3,7 @@ use Rattle.hx_ebtree.specs.Bits.{bits_of}
 use Rattle.hx_ebtree.specs.Tree.{leaves_of, forks_of}
 use Rattle.hx_ebtree.proofs.DetachLemmas.{leaf_live}
 use Rattle.hx_ebtree.proofs.FrameLemmas.{tree_frame, chain_frame}
+use Rattle.hx_ebtree.proofs.PlaceLemmas.{not_later}
 use Rattle.hx_ebtree.proofs.RemoveSteps.{node_live, is_first, exact_some, is_later}
 use Rattle.hx_ebtree.proofs.tree.Tree.remove.Goals as goal
 
@@ -67,3 +68,7 @@ returns-in-Some-exact-clause-other_trees g c pairs others t stands listed there 
 pub returns-in-Some-exact-clause-chains : goal.returns-in-Some-exact-clause-chains
 returns-in-Some-exact-clause-chains g c pairs chain xs stands listed lies apart =
     chain_frame c.args.pool.now c.shorten.new.pool chain xs (λ k p. returns-in-Some-exact-clause-others g c pairs stands listed k (apart k p)) lies
+
+pub returns-in-Some-exact-clause-first : goal.returns-in-Some-exact-clause-first
+returns-in-Some-exact-clause-first g c pairs key stands e =
+    absurd (not_later c.args.pool.now c.args.self.now pairs c.args.id c.get-node.result.now c.get-node.ensures.value c.links.result c.links.ensures stands key c.in-Some.field-0 c.in-Some.is e)
