@@ -27,3 +27,5 @@ mod RemoveSteps
 mod WalkLemmas
 mod PlaceLemmas
 pub mod DistinctLemmas
+mod SplitLemmas
+mod CommonLemmas

@@ -1,5 +1,5 @@
 -- Keys as lists of bits, and the codes of which none is a prefix of another.
-use Rattle.std.specs.Prelude.{◌≡◌, ℕ, zero, suc, ◌+◌, ◌-◌, ◌/◌, ◌%◌, ◌^◌, ◌==◌, Bool, true, false, if◌then◌else◌, List, [], ◌∷◌, ◌++◌, Option, Some, None, slice_index_or}
+use Rattle.std.specs.Prelude.{◌≡◌, ℕ, zero, suc, ◌+◌, ◌-◌, ◌/◌, ◌%◌, ◌^◌, ◌==◌, ◌<◌, ◌≤◌, Bool, true, false, if◌then◌else◌, List, [], ◌∷◌, ◌++◌, Option, Some, None, slice_index_or}
 use Rattle.std.specs.Option.{option_map}
 
 -- bit i of the bytes, the highest bit of each byte first
@@ -13,6 +13,12 @@ bits_from bytes i (suc count) = bit_of bytes i ∷ bits_from bytes (i + 1) count
 -- the first `count` bits of the bytes
 unfoldable pub bits_of : List ℕ → ℕ → List Bool
 bits_of bytes count = bits_from bytes 0 count
+
+-- two keys, which are the first bits of their bytes, have their first `count` bits in common
+pub record HaveInCommon (a : List ℕ) (a_bits : ℕ) (b : List ℕ) (b_bits count : ℕ) : Type 0 where
+  pub first : count ≤ a_bits
+  pub second : count ≤ b_bits
+  pub bits : (i : ℕ) → i < count → bit_of a i ≡ bit_of b i
 
 -- a bit that says whether a bit of the key follows, before each bit, and one that says that none
 -- does

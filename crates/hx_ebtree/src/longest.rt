@@ -1,13 +1,13 @@
 //! The longest prefix of a key.
 ghost use Rattle.std.specs.Prelude.{◌≡◌, ◌+◌, ◌*◌, ◌≤◌, length};
-ghost use Rattle.hx_ebtree.specs.Bits.{bits_of, split_of};
+ghost use Rattle.hx_ebtree.specs.Bits.{bits_of};
 ghost use Rattle.hx_ebtree.specs.KeyList.{KeyList, longest_of};
 ghost use Rattle.hx_ebtree.specs.Tree.{leaves_of, forks_of, Stands};
-ghost use Rattle.hx_ebtree.specs.Seat.{split_before_of, side_of, better_of, leaf_longest_of};
+ghost use Rattle.hx_ebtree.specs.Seat.{side_of, better_of, leaf_longest_of};
 
-use crate::bits::{code_bit, split};
+use crate::bits::{code_bit, split, split_before};
 use crate::node::{Branch, Down, Node};
-use crate::seek::{side, split_before};
+use crate::seek::side;
 use crate::tree::Tree;
 use hx_pool::{Pool, Steps};
 use std::sync::ledger::Ledger;
@@ -69,7 +69,8 @@ impl Tree {
             match at {
                 Down::Leaf(id) => {
                     let node = pool.get(id, steps);
-                    let found = split(node.key.bytes(), node.key.len(), key, bits);
+                    let from = (depth / 2) as usize;
+                    let found = split(node.key.bytes(), node.key.len(), key, bits, from);
                     return leaf_longest(id, node.key.len(), found, best);
                 }
                 Down::Branch(id) => {
@@ -78,11 +79,13 @@ impl Tree {
                         Some(branch) => branch,
                         None => unreachable!(),
                     };
+                    let from = (depth / 2) as usize;
                     let found = split_before(
                         key,
                         bits,
                         node.key.bytes(),
                         node.key.len(),
+                        from,
                         branch.bit,
                     );
                     match found {

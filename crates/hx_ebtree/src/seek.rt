@@ -1,12 +1,12 @@
 //! The way down to a key.
 ghost use Rattle.std.specs.Prelude.{◌≡◌, ◌+◌, ◌*◌, ◌<◌, ◌≤◌, List, Bool, ℕ, None, length};
 ghost use Rattle.std.specs.Option.{ForSome};
-ghost use Rattle.hx_ebtree.specs.Bits.{bits_of, split_of};
+ghost use Rattle.hx_ebtree.specs.Bits.{bits_of};
 ghost use Rattle.hx_ebtree.specs.KeyList.{KeyList};
 ghost use Rattle.hx_ebtree.specs.Tree.{leaves_of, forks_of, Stands};
-ghost use Rattle.hx_ebtree.specs.Seat.{split_before_of, side_of, leaf_seat_of, IsSeat};
+ghost use Rattle.hx_ebtree.specs.Seat.{side_of, leaf_seat_of, IsSeat};
 
-use crate::bits::{code_bit, split};
+use crate::bits::{code_bit, split, split_before};
 use crate::node::{Branch, Down, Node, Up};
 use crate::tree::Tree;
 use hx_pool::{Pool, Steps};
@@ -24,25 +24,6 @@ pub(crate) enum Seat {
         bit: u128,
         right: bool,
     },
-}
-
-/// Where the codes of two keys part, if it is before `limit`.
-pub(crate) fn split_before(
-    a: &[u8],
-    a_bits: usize,
-    b: &[u8],
-    b_bits: usize,
-    limit: u128,
-) -> Option<u128>
-    requires a { a_bits ≤ 8 * length a.now }
-    requires b { b_bits ≤ 8 * length b.now }
-    ensures { result
-        ≡ split_before_of limit (split_of (bits_of a.now a_bits) (bits_of b.now b_bits)) }
-{
-    match split(a, a_bits, b, b_bits) {
-        Some(at) => { if at < limit { Some(at) } else { None } }
-        None => None,
-    }
 }
 
 /// What a side of a branch points to.
@@ -96,7 +77,8 @@ impl Tree {
             match at {
                 Down::Leaf(id) => {
                     let node = pool.get(id, steps);
-                    let found = split(key, bits, node.key.bytes(), node.key.len());
+                    let from = (depth / 2) as usize;
+                    let found = split(key, bits, node.key.bytes(), node.key.len(), from);
                     return Some(leaf_seat(key, bits, id, up, found));
                 }
                 Down::Branch(id) => {
@@ -105,11 +87,13 @@ impl Tree {
                         Some(branch) => branch,
                         None => unreachable!(),
                     };
+                    let from = (depth / 2) as usize;
                     let found = split_before(
                         key,
                         bits,
                         node.key.bytes(),
                         node.key.len(),
+                        from,
                         branch.bit,
                     );
                     match found {

@@ -1,24 +1,27 @@
-use Rattle.std.proofs.Common.{arith, sym, ◌∙◌}
-use Rattle.hx_ebtree.proofs.BitLemmas.{split_start, split_on, split_here, differ_at, agree_at}
+use Rattle.std.proofs.Common.{arith, sym}
+use Rattle.hx_ebtree.proofs.SplitLemmas.{same_before, splits_here, splits_none, splits_at_end}
 use Rattle.hx_ebtree.proofs.bits.split.Goals as goal
 
-pub loop-index-init : goal.loop-index-init
-loop-index-init c = record {
-  first = omega arith;
-  second = omega arith;
-  left = split_start c.args.a.now c.args.b.now c.args.a_bits c.args.b_bits;
-}
+pub returns-then-at-end : goal.returns-then-at-end
+returns-then-at-end c =
+    let least = c.min-end.ensures in let here = c.if-at-end.true in
+    let at = c.first_difference-at.result in
+    sym (splits_here c.args.a.now c.args.b.now c.args.a_bits c.args.b_bits at (omega arith) (omega arith)
+    (same_before c.args.a.now c.args.b.now c.args.a_bits c.args.b_bits c.args.from at c.requires.from c.first_difference-at.ensures.same)
+    (omega arith) (omega arith) (c.first_difference-at.ensures.differs here))
 
-pub returns-then-bit : goal.returns-then-bit
-returns-then-bit c =
-    let differ = differ_at c.args.a.now c.args.b.now c.loop-index.index c.bit.result c.bit-in-loop-index.result c.bit.ensures c.bit-in-loop-index.ensures c.if-bit.true in
-    sym (c.loop-index.invariant.left ∙ split_here c.args.a.now c.args.b.now c.args.a_bits c.args.b_bits c.loop-index.index c.loop-index-test.true c.if-index-b_bits.true differ)
+pub returns-then-a_bits-b_bits : goal.returns-then-a_bits-b_bits
+returns-then-a_bits-b_bits c =
+    let least = c.min-end.ensures in let past = c.if-at-end.false in let same = c.if-a_bits-b_bits.true in
+    let end = c.min-end.result in
+    sym (splits_none c.args.a.now c.args.b.now c.args.a_bits c.args.b_bits end (omega arith) (omega arith)
+    (same_before c.args.a.now c.args.b.now c.args.a_bits c.args.b_bits c.args.from end c.requires.from (λ i ge lt. c.first_difference-at.ensures.same i ge (omega arith)))
+    (omega arith) (omega arith))
 
-pub loop-index-preserved : goal.loop-index-preserved
-loop-index-preserved c =
-    let agree = agree_at c.args.a.now c.args.b.now c.loop-index.index c.bit.result c.bit-in-loop-index.result c.bit.ensures c.bit-in-loop-index.ensures c.if-bit.false in
-    record {
-      first = omega arith;
-      second = omega arith;
-      left = c.loop-index.invariant.left ∙ split_on c.args.a.now c.args.b.now c.args.a_bits c.args.b_bits c.loop-index.index c.loop-index-test.true c.if-index-b_bits.true agree;
-    }
+pub returns : goal.returns
+returns c =
+    let least = c.min-end.ensures in let past = c.if-at-end.false in let other = c.if-a_bits-b_bits.false in
+    let end = c.min-end.result in
+    sym (splits_at_end c.args.a.now c.args.b.now c.args.a_bits c.args.b_bits end (omega arith) (omega arith)
+    (same_before c.args.a.now c.args.b.now c.args.a_bits c.args.b_bits c.args.from end c.requires.from (λ i ge lt. c.first_difference-at.ensures.same i ge (omega arith)))
+    (λ lm ln. omega arith) other)

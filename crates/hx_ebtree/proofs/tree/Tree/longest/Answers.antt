@@ -7,6 +7,8 @@ use Rattle.hx_ebtree.proofs.BitLemmas.{bits_length}
 use Rattle.hx_ebtree.proofs.SeekLemmas.{key_seen, bits_seen, leaf_is_live, fork_is_live, fork_has, fork_read, parts_at, goes_on}
 use Rattle.hx_ebtree.proofs.LongestLemmas.{longest_is}
 use Rattle.hx_ebtree.proofs.LongestSteps.{IsOnWay, way_start, way_none, step_way, end_at_leaf, end_at_split}
+use Rattle.hx_ebtree.proofs.SplitLemmas.{in_common_back}
+use Rattle.hx_ebtree.proofs.CommonLemmas.{leaf_common, fork_common, fork_deep}
 use Rattle.hx_ebtree.proofs.tree.Tree.longest.Goals as goal
 
 pub returns-in-None-clause-found : goal.returns-in-None-clause-found
@@ -121,3 +123,24 @@ loop-at-preserved g c =
       depth = omega arith;
       cost = omega arith;
     }
+
+pub split-found-requires-clause-from : goal.split-found-requires-clause-from
+split-found-requires-clause-from g c =
+    let s = c.requires.stands in
+    let w : IsOnWay (leaves_of c.args.pool.now) (forks_of c.args.pool.now) c.args.self.now.root s.0 (bits_of c.args.key.now c.args.bits) (Leaf c.in-Leaf.id) c.loop-at.depth c.loop-at.best = rw c.in-Leaf.is at (c.loop-at.invariant.reached s.0 s.1) in
+    in_common_back _ _ _ _ _ (leaf_common c.args.pool.now c.args.self.now.root s.0 c.args.key.now c.args.bits w.up c.in-Leaf.id c.loop-at.depth c.get-node.result.now c.get-node.ensures.value
+    c.bytes.result.now c.len.result c.bytes.ensures.bits c.len.ensures w.reach)
+
+pub split_before-found-requires-clause-from : goal.split_before-found-requires-clause-from
+split_before-found-requires-clause-from g c =
+    let s = c.requires.stands in
+    let w : IsOnWay (leaves_of c.args.pool.now) (forks_of c.args.pool.now) c.args.self.now.root s.0 (bits_of c.args.key.now c.args.bits) (Branch c.in-Branch.id) c.loop-at.depth c.loop-at.best = rw c.in-Branch.is at (c.loop-at.invariant.reached s.0 s.1) in
+    fork_common c.args.pool.now c.args.self.now.root s.0 c.args.key.now c.args.bits w.up c.in-Branch.id c.loop-at.depth c.get-node-in-Branch.result.now c.get-node-in-Branch.ensures.value
+    c.bytes-in-Branch.result.now c.len-in-Branch.result c.bytes-in-Branch.ensures.bits c.len-in-Branch.ensures w.reach c.in-Some-branch.branch c.in-Some-branch.is
+
+pub split_before-found-requires-clause-limit : goal.split_before-found-requires-clause-limit
+split_before-found-requires-clause-limit g c =
+    let s = c.requires.stands in
+    let w : IsOnWay (leaves_of c.args.pool.now) (forks_of c.args.pool.now) c.args.self.now.root s.0 (bits_of c.args.key.now c.args.bits) (Branch c.in-Branch.id) c.loop-at.depth c.loop-at.best = rw c.in-Branch.is at (c.loop-at.invariant.reached s.0 s.1) in
+    let deep = fork_deep c.args.pool.now c.args.self.now.root s.0 c.args.key.now c.args.bits w.up c.in-Branch.id c.loop-at.depth c.get-node-in-Branch.result.now c.get-node-in-Branch.ensures.value w.reach c.in-Some-branch.branch c.in-Some-branch.is in
+    omega arith

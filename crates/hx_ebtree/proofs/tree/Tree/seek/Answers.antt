@@ -5,6 +5,7 @@ use Rattle.hx_ebtree.specs.Tree.{leaves_of, forks_of}
 use Rattle.hx_ebtree.specs.Seat.{Reaches}
 use Rattle.hx_ebtree.proofs.BitLemmas.{bits_length}
 use Rattle.hx_ebtree.proofs.SeekLemmas.{key_seen, bits_seen, before_some, split_fits, leaf_is_live, fork_is_live, fork_has, reach_root, seat_at_root, seat_at_leaf, seat_at_fork, fork_read, parts_at, goes_on, step_down}
+use Rattle.hx_ebtree.proofs.CommonLemmas.{leaf_common, fork_common, fork_deep}
 use Rattle.hx_ebtree.proofs.tree.Tree.seek.Goals as goal
 
 pub loop-at-init : goal.loop-at-init
@@ -128,3 +129,22 @@ loop-at-preserved g c =
       depth = omega arith;
       cost = omega arith;
     }
+
+pub split-found-requires-clause-from : goal.split-found-requires-clause-from
+split-found-requires-clause-from g c =
+    let s = c.requires.stands in
+    leaf_common c.args.pool.now c.args.self.now.root s.0 c.args.key.now c.args.bits c.loop-at.up c.in-Leaf.id c.loop-at.depth c.get-node.result.now c.get-node.ensures.value
+    c.bytes.result.now c.len.result c.bytes.ensures.bits c.len.ensures (rw c.in-Leaf.is at (c.loop-at.invariant.reached s.0 s.1))
+
+pub split_before-found-requires-clause-from : goal.split_before-found-requires-clause-from
+split_before-found-requires-clause-from g c =
+    let s = c.requires.stands in
+    fork_common c.args.pool.now c.args.self.now.root s.0 c.args.key.now c.args.bits c.loop-at.up c.in-Branch.id c.loop-at.depth c.get-node-in-Branch.result.now c.get-node-in-Branch.ensures.value
+    c.bytes-in-Branch.result.now c.len-in-Branch.result c.bytes-in-Branch.ensures.bits c.len-in-Branch.ensures (rw c.in-Branch.is at (c.loop-at.invariant.reached s.0 s.1)) c.in-Some-branch.branch c.in-Some-branch.is
+
+pub split_before-found-requires-clause-limit : goal.split_before-found-requires-clause-limit
+split_before-found-requires-clause-limit g c =
+    let s = c.requires.stands in
+    let deep = fork_deep c.args.pool.now c.args.self.now.root s.0 c.args.key.now c.args.bits c.loop-at.up c.in-Branch.id c.loop-at.depth c.get-node-in-Branch.result.now c.get-node-in-Branch.ensures.value
+    (rw c.in-Branch.is at (c.loop-at.invariant.reached s.0 s.1)) c.in-Some-branch.branch c.in-Some-branch.is in
+    omega arith
