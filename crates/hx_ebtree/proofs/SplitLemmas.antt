@@ -1,11 +1,14 @@
 -- Where two keys differ first, from a bit on before which they don't.
-use Rattle.std.proofs.Common.{◌≡◌, ◌≢◌, ◌⊎◌, ℕ, zero, suc, ◌+◌, ◌-◌, ◌*◌, ◌/◌, ◌<◌, ◌≤◌, Bool, true, false, cond, nat_lt, List, [], ◌∷◌, ◌++◌, length, get_or, Option, Some, None, refl, sym, ap, ◌∙◌, inl, inr, arith}
+use Rattle.std.proofs.Common.{◌≡◌, ◌≢◌, ◌⊎◌, ℕ, zero, suc, ◌+◌, ◌-◌, ◌*◌, ◌/◌, ◌<◌, ◌≤◌, Bool, true, false, cond, nat_lt, is_some, List, [], ◌∷◌, ◌++◌, length, get_or, Option, Some, None, refl, sym, ap, ◌∙◌, inl, inr, arith}
+use mathlib.Core.Bool.{not}
 use Rattle.std.proofs.lemmas.Bool.Decides.{nat_tests}
 use Rattle.std.specs.Option.{option_map}
 use Rattle.hx_ebtree.specs.Bits.{bit_of, bits_from, bits_of, code_of, IsPrefix, is_same_bit, split_of, HaveInCommon}
 use Rattle.hx_ebtree.specs.Seat.{split_before_of}
 use Rattle.hx_ebtree.proofs.BitLemmas.{bits_length, bits_get, code_odd, code_length, split_from, split_start, split_on, split_here, split_none, split_end}
-use Rattle.hx_ebtree.proofs.CodeLemmas.{prefix_length}
+use Rattle.hx_ebtree.specs.KeyList.{is_same_key}
+use Rattle.hx_ebtree.proofs.CodeLemmas.{prefix_length, split_same}
+use Rattle.hx_ebtree.proofs.PairLemmas.{key_self, key_differs}
 
 -- bytes that are the same have the same bits
 pub same_byte : (a b : List ℕ) (i j x y : ℕ) → j / 8 ≡ i / 8 → x ≡ get_or a (i / 8) 0 → y ≡ get_or b (i / 8) 0 → x ≡ y → bit_of a j ≡ bit_of b j
@@ -125,3 +128,20 @@ have_in_common p a m b n depth deep qa qb =
 
 pub in_common_back : (a : List ℕ) (m : ℕ) (b : List ℕ) (n k : ℕ) → HaveInCommon a m b n k → HaveInCommon b n a m k
 in_common_back a m b n k s = record { first = s.second; second = s.first; bits = λ i lt. sym (s.bits i lt) }
+
+split_self : (x : List Bool) → split_of x x ≡ None
+split_self [] = refl
+split_self (b ∷ x) = rw (self_same b, split_self x)
+
+-- two keys are the same where their codes don't split
+pub same_by_split : (x y : List Bool) (o : Option ℕ) (none : Bool) → o ≡ split_of x y → is_some o ≡ not none → none ≡ is_same_key x y
+same_by_split x y None true e is = rw (← split_same x y (sym e)) (sym (key_self x))
+same_by_split x y None false e is = cc
+same_by_split x y (Some at) true e is = cc
+same_by_split x y (Some at) false e is = sym (key_differs x y (λ same. some_none at (e ∙ ap (split_of x) (sym same) ∙ split_self x)))
+  where
+    some_none : (at : ℕ) → Some at ≡ None → ⊥
+    some_none at e = cc
+
+pub other_lengths : (a b : List ℕ) (m n : ℕ) → m ≢ n → false ≡ is_same_key (bits_of a m) (bits_of b n)
+other_lengths a b m n d = sym (key_differs (bits_of a m) (bits_of b n) (λ same. d (sym (bits_length a m) ∙ ap length same ∙ bits_length b n)))

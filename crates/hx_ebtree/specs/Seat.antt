@@ -8,8 +8,8 @@ use Rattle.hx_ebtree.specs.declared.node.Branch.{Branch as Fork}
 use Rattle.hx_ebtree.specs.declared.seek.Seat.{Seat}
 use Rattle.hx_ebtree.specs.declared.seek.Seat.TheVariants.{Same, Beside}
 use Rattle.hx_ebtree.specs.Bits.{code_of, IsPrefix}
-use Rattle.hx_ebtree.specs.KeyList.{KeyList}
-use Rattle.hx_ebtree.specs.Shape.{Shape, leaf, IsKeyed, Leaves, Forks, HangsAt}
+use Rattle.hx_ebtree.specs.KeyList.{KeyList, numbers_of}
+use Rattle.hx_ebtree.specs.Shape.{Shape, leaf, pairs_of, IsKeyed, Leaves, Forks, HangsAt}
 use Rattle.hx_ebtree.specs.ShapeContext.{ShapeContext, plug, hole_up, hole_shared, SurroundsAt}
 use Rattle.hx_ebtree.specs.Tree.{StandsAs}
 
@@ -70,10 +70,16 @@ IsSeat f g root pairs key (Some (Same front)) = IsSame f g root pairs key front
 IsSeat f g root pairs key (Some (Beside at up bit right)) =
     IsBeside f g root pairs key at up bit right
 
-abbrev pub seat_id : Option Seat → Option ℕ
-seat_id None = None
-seat_id (Some (Same front)) = Some front
-seat_id (Some (Beside at up bit right)) = None
+-- the way down to a key came to a shape in which all pairs with the key are
+pub record IsOnWayTo (f : Leaves) (g : Forks) (pairs : KeyList) (key : List Bool) (at : Down)
+    (depth : ℕ) : Type 0 where
+  pub up : Option Up
+  pub here : Shape
+  pub shared : List Bool
+  pub hangs : HangsAt f g up here at
+  pub keyed : IsKeyed shared here
+  pub deep : depth ≡ length shared
+  pub same : numbers_of key pairs ≡ numbers_of key (pairs_of here)
 
 -- the number of a leaf that is on the left, or the best so far
 abbrev pub left_leaf : Down → Option ℕ → Option ℕ

@@ -4,6 +4,7 @@
 mod bits;
 #[cfg(test)]
 mod chain_tests;
+mod exact;
 mod insert;
 mod key;
 pub mod laws;
