@@ -1,0 +1,15 @@
+pub mod NumberLemmas
+pub mod ItemLemmas
+pub mod HoldingLemmas
+pub mod ChangeLemmas
+pub mod TakingLemmas
+pub mod NodeUseLemmas
+pub mod WalkLemmas
+pub mod FoundItemLemmas
+pub mod TextKeyLemmas
+pub mod NearestLemmas
+pub mod AddressKeyLemmas
+pub mod AddressFoundLemmas
+pub mod NetworkFitLemmas
+pub mod FindingLemmas
+pub mod PrefixLemmas
