@@ -1,23 +1,23 @@
 -- What an index stands for once a node went into one of its parts, or out of it.
-use Rattle.std.proofs.Common.{◌≡◌, ◌≢◌, ℕ, Bool, not, List, [], ◌∷◌, ◌++◌, Option, Some, None, refl, sym, ap, subst, ◌∙◌, inl, inr}
+use Rattle.std.proofs.Common.{◌≡◌, ◌≢◌, ℕ, Bool, List, [], ◌∷◌, ◌++◌, Some, sym, ap, subst, ◌∙◌, inl, inr}
 use Rattle.hx_pool.specs.declared.chain.Chain.{Chain}
 use Rattle.hx_pool.specs.Pool.{get}
-use Rattle.hx_pool.specs.Chain.{IsIn, AreDistinct, LiesIn, Relinked, first_or}
+use Rattle.hx_pool.specs.Chain.{IsIn, LiesIn, Relinked}
 use Rattle.hx_ebtree.specs.declared.node.Node.{Node}
 use Rattle.hx_ebtree.specs.declared.tree.Tree.{Tree}
 use Rattle.hx_ebtree.specs.Node.{key_of, links_of, IsSameNode}
-use Rattle.hx_ebtree.specs.KeyList.{KeyList, IsOff, Lists, ids_of, without}
+use Rattle.hx_ebtree.specs.KeyList.{KeyList, IsOff, Lists, without}
 use Rattle.hx_ebtree.specs.Tree.{KeepsNodes, Stands}
 use Rattle.hx_index.proofs.HoldingLemmas.{kept_relinked}
 use Rattle.hx_match.specs.Patterns.{PatternText}
 use Rattle.hx_index.specs.declared.index.Index.{Index}
 use Rattle.hx_index.specs.declared.part.Part.{Part}
-use Rattle.hx_index.specs.declared.part.Part.TheVariants.{Listed, Keyed, Wide}
+use Rattle.hx_index.specs.declared.part.Part.TheVariants.{Listed}
 use Rattle.hx_index.specs.Items.{Item, nodes_of, without_node}
 use Rattle.hx_index.specs.Parts.{pattern_key}
-use Rattle.hx_index.specs.Index.{HasNode, Holds, HoldsPart, NodePool, ignores_case, in_part, key_pairs, method_of}
+use Rattle.hx_index.specs.Index.{Holds, HoldsPart, NodePool, ignores_case, in_part, key_pairs, method_of}
 use Rattle.hx_index.specs.Search.{IsNewItem}
-use Rattle.hx_index.proofs.NumberLemmas.{Around, around, less, less_around}
+use Rattle.hx_index.proofs.NumberLemmas.{Around, around, less_around}
 use Rattle.hx_index.proofs.ItemLemmas.{ids_are, nodes_without, pairs_without}
 use Rattle.hx_index.proofs.HoldingLemmas.{KeepsOtherParts, attached, detached, listed_alone, nodes_end, of_part, pairs_end}
 

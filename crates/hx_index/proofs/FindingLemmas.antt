@@ -1,9 +1,7 @@
 -- The entry that is found among the items of an index, by what its parts answer.
-use Rattle.std.proofs.Common.{◌≡◌, ℕ, zero, suc, ◌*◌, ◌<◌, ◌≤◌, ◌^◌, ◌&&◌, slice_index, slice_index_or, Bool, true, false, List, [], ◌∷◌, map, filter, find, length, take, nat_eq, All, Option, Some, None, option_map, option_and_then, Result, Ok, Err, IfOk, bytes_eq, refl, sym, ap, subst, ◌∙◌, arith, slice_get}
-use Rattle.std.specs.Option.{option_or}
+use Rattle.std.proofs.Common.{◌≡◌, ℕ, zero, suc, ◌<◌, ◌≤◌, ◌^◌, slice_index, slice_index_or, Bool, true, false, List, [], ◌∷◌, filter, find, length, take, nat_eq, All, Option, Some, None, option_map, option_and_then, Result, Ok, Err, IfOk, bytes_eq, refl, sym, ap, subst, ◌∙◌, arith}
 use Rattle.std.specs.Cmp.Lexicographic.{pointwise}
 use Rattle.std.specs.List.{starts_with}
-use Rattle.std.proofs.lemmas.Bool.{false≢true}
 use Rattle.std.proofs.lemmas.List.Elements.{All-filter, All-head, All-tail, All-weaker}
 use Rattle.std.proofs.lemmas.Slice.Eq.{bytes_eq-Decides}
 use Rattle.hx_text.specs.declared.address.Ip.{Ip}
@@ -12,34 +10,30 @@ use Rattle.hx_text.specs.declared.kinds.By.{By}
 use Rattle.hx_text.specs.declared.kinds.By.TheVariants as by
 use Rattle.hx_text.specs.declared.network.Net.{Net}
 use Rattle.hx_text.specs.declared.network.Net.TheVariants.{Plain, Masked}
-use Rattle.hx_text.specs.Mapping.{ipv4_of, mapped_address}
 use Rattle.hx_text.specs.Network.{net_of}
 use Rattle.hx_pool.specs.Pool.{get, IsLive}
-use Rattle.hx_ebtree.specs.declared.node.Node.{Node}
 use Rattle.hx_ebtree.specs.Node.{entry_of}
 use Rattle.hx_ebtree.specs.KeyList.{exact_of, longest_of}
-use Rattle.hx_match.specs.Patterns.{PatternText}
 use Rattle.hx_sample.specs.Seen.{value_of}
 use Rattle.hx_sample.specs.declared.sample.Bytes.{Bytes}
 use Rattle.hx_sample.specs.declared.sample.Sample.{Sample}
 use Rattle.hx_sample.specs.declared.sample.Sample.TheVariants as sample
 use Rattle.hx_sample.specs.declared.sample.Value.{Value}
 use Rattle.hx_sample.specs.declared.sample.Value.TheVariants as value
-use Rattle.hx_sample.specs.Find.{Entry, first_item, with_greatest, found_entry, nearness, prefix_width}
-use Rattle.hx_sample.specs.Keys.{hits, is_in_network}
+use Rattle.hx_sample.specs.Find.{Entry, first_item, with_greatest, nearness}
+use Rattle.hx_sample.specs.Keys.{hits}
 use Rattle.hx_index.specs.declared.index.Index.{Index}
-use Rattle.hx_index.specs.declared.finding.Search.{Search}
-use Rattle.hx_index.specs.declared.finding.Search.TheVariants.{Scan, Exact, Longest, Nearest}
+use Rattle.hx_index.specs.declared.finding.Search.TheVariants.{Exact, Longest}
 use Rattle.hx_index.specs.declared.part.Part.{Part}
-use Rattle.hx_index.specs.declared.part.Part.TheVariants.{Listed, Keyed, Wide}
+use Rattle.hx_index.specs.declared.part.Part.TheVariants.{Keyed}
 use Rattle.hx_index.specs.Items.{Item, shown_item}
-use Rattle.hx_index.specs.Parts.{IsKeyText, is_same_part, key_by, network_bits, network_part, part_by, pattern_key, pattern_part, text_bits}
+use Rattle.hx_index.specs.Parts.{is_same_part, key_by, part_by, pattern_key, pattern_part, text_bits}
 use Rattle.hx_index.specs.Index.{HasNode, Holds, IsOfUse, NodePool, entry_found, ignores_case, in_part, key_pairs, method_of}
-use Rattle.hx_index.specs.Search.{HasWidth, first_hit_of, is_hit, ipv4_bits, ipv6_bits, prefix_node_of, search_of}
+use Rattle.hx_index.specs.Search.{HasWidth, search_of}
 use Rattle.hx_index.proofs.ItemLemmas.{part_self}
-use Rattle.hx_index.proofs.FoundItemLemmas.{filter_all, filter_agrees, find_agrees, found_item, found_shown, network_measure, preferred_items}
+use Rattle.hx_index.proofs.FoundItemLemmas.{filter_all, filter_agrees, found_item, found_shown, network_measure, preferred_items}
 use Rattle.hx_index.proofs.TextKeyLemmas.{IsTextKey, exact_text, longest_text}
-use Rattle.hx_index.proofs.NearestLemmas.{by_net, first_hit, first_hit_found, is_ipv4_prefix, is_ipv6_prefix, is_no_prefix, none_hits, takes_first}
+use Rattle.hx_index.proofs.NearestLemmas.{none_hits}
 use Rattle.hx_index.proofs.AddressFoundLemmas.{FitsFamily}
 use Rattle.hx_index.proofs.NetworkFitLemmas.{network_fits}
 

@@ -1,19 +1,17 @@
 -- What an index stands for while nodes are taken, given, and moved in and out of its parts.
-use Rattle.std.proofs.Common.{◌≡◌, ◌≢◌, ℕ, Bool, true, false, List, [], ◌∷◌, ◌++◌, All, map, Option, Some, None, IsSome, refl, sym, ap, subst, ◌∙◌, inl, inr}
+use Rattle.std.proofs.Common.{◌≡◌, ℕ, Bool, false, List, [], ◌∷◌, ◌++◌, All, Option, Some, None, IsSome, refl, sym, ap, subst, ◌∙◌, inl, inr}
 use Rattle.std.proofs.lemmas.List.Elements.{All-nil, All-cons, All-head, All-tail, All-push, All-filter, All-weaker}
 use Rattle.std.proofs.Common.{not, ◌==◌, ne_eqb}
 use Rattle.hx_pool.specs.declared.chain.Chain.{Chain}
 use Rattle.hx_pool.specs.Pool.{get, IsLive, Updates}
-use Rattle.hx_pool.specs.Chain.{IsIn, AreApart, AreDistinct, IsSameSlot, LiesIn, Relinked}
+use Rattle.hx_pool.specs.Chain.{IsIn, AreApart, AreDistinct, IsSameSlot, Relinked}
 use Rattle.hx_pool.proofs.ChainLemmas.{distinct_join}
 use Rattle.hx_ebtree.specs.declared.node.Node.{Node}
 use Rattle.hx_ebtree.specs.declared.tree.Tree.{Tree}
-use Rattle.hx_ebtree.specs.Node.{entry_of, value_of, key_of, links_of, IsSameNode}
-use Rattle.hx_ebtree.specs.KeyList.{KeyList, IsOff, without}
-use Rattle.hx_ebtree.specs.Tree.{IsSameEntry, KeepsNodes, Stands}
+use Rattle.hx_ebtree.specs.Node.{entry_of, value_of, key_of, IsSameNode}
+use Rattle.hx_ebtree.specs.Tree.{IsSameEntry, KeepsNodes}
 use Rattle.hx_ebtree.proofs.FrameLemmas.{chain_frame, tree_frame}
 use Rattle.hx_match.specs.Patterns.{PatternText}
-use Rattle.hx_text.specs.declared.kinds.By.{By}
 use Rattle.hx_index.specs.declared.index.Index.{Index}
 use Rattle.hx_index.specs.declared.part.Part.{Part}
 use Rattle.hx_index.specs.declared.part.Part.TheVariants.{Listed, Keyed, Wide}

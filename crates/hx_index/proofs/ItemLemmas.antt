@@ -9,7 +9,7 @@ use Rattle.hx_index.specs.declared.part.Part.TheVariants.{Listed, Keyed, Wide}
 use Rattle.hx_index.specs.Items.{Item, LeavesOut, nodes_of, without_node, without_nodes}
 use Rattle.hx_index.specs.Parts.{is_same_part, pattern_part, pattern_key}
 use Rattle.hx_index.specs.Index.{in_part, key_pairs}
-use Rattle.hx_index.proofs.NumberLemmas.{in_filtered, in_less, length_less, less}
+use Rattle.hx_index.proofs.NumberLemmas.{in_less, length_less, less}
 
 -- ---- filters
 

@@ -1,5 +1,5 @@
 -- Nodes that an index takes in, and the use of those that it has.
-use Rattle.std.proofs.Common.{◌≡◌, ℕ, Bool, List, All, Option, Some, None, IsSome, refl, sym, ap, subst, ◌∙◌}
+use Rattle.std.proofs.Common.{◌≡◌, ℕ, Bool, List, Some, None, refl, sym, ap, subst, ◌∙◌}
 use Rattle.hx_pool.specs.Pool.{get, Updates}
 use Rattle.hx_pool.specs.Chain.{IsIn}
 use Rattle.hx_ebtree.specs.declared.node.Node.{Node}
@@ -8,7 +8,7 @@ use Rattle.hx_match.specs.Patterns.{PatternText}
 use Rattle.hx_index.specs.declared.index.Index.{Index}
 use Rattle.hx_index.specs.declared.part.Part.{Part}
 use Rattle.hx_index.specs.Items.{Item, nodes_of, without_node}
-use Rattle.hx_index.specs.Parts.{IsPrepared, pattern_key, pattern_part}
+use Rattle.hx_index.specs.Parts.{IsPrepared, pattern_part}
 use Rattle.hx_index.specs.Index.{HasNode, Holds, IsOfUse, NodePool, ignores_case, method_of}
 use Rattle.hx_index.specs.Search.{IsNewItem}
 use Rattle.hx_index.proofs.NumberLemmas.{in_less}

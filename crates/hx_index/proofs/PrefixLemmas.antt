@@ -1,5 +1,5 @@
 -- The entry that is found for an address, by the node that the trees of networks answer.
-use Rattle.std.proofs.Common.{◌≡◌, ℕ, ◌<◌, ◌^◌, Bool, true, false, List, [], ◌∷◌, map, filter, find, All, Option, Some, None, option_map, option_and_then, refl, sym, ap, subst, ◌∙◌}
+use Rattle.std.proofs.Common.{◌≡◌, ℕ, ◌<◌, ◌^◌, Bool, true, false, List, filter, find, All, Option, Some, None, option_map, option_and_then, refl, sym, ap, ◌∙◌}
 use Rattle.std.specs.Option.{option_or}
 use Rattle.std.proofs.lemmas.List.Elements.{All-filter, All-weaker}
 use Rattle.hx_text.specs.declared.address.Ip.{Ip}
@@ -10,14 +10,12 @@ use Rattle.hx_text.specs.declared.network.Net.{Net}
 use Rattle.hx_text.specs.declared.network.Net.TheVariants.{Plain, Masked}
 use Rattle.hx_text.specs.Mapping.{ipv4_of, mapped_address}
 use Rattle.hx_text.specs.Network.{net_of}
-use Rattle.hx_pool.specs.Pool.{get, IsLive}
 use Rattle.hx_ebtree.specs.KeyList.{longest_of}
 use Rattle.hx_sample.specs.declared.sample.Value.{Value}
 use Rattle.hx_sample.specs.declared.sample.Value.TheVariants as value
 use Rattle.hx_sample.specs.Keys.{hits, is_in_network}
 use Rattle.hx_index.specs.declared.index.Index.{Index}
-use Rattle.hx_index.specs.declared.finding.Search.{Search}
-use Rattle.hx_index.specs.declared.finding.Search.TheVariants.{Scan, Exact, Longest, Nearest}
+use Rattle.hx_index.specs.declared.finding.Search.TheVariants.{Scan, Nearest}
 use Rattle.hx_index.specs.declared.part.Part.{Part}
 use Rattle.hx_index.specs.declared.part.Part.TheVariants.{Listed, Keyed, Wide}
 use Rattle.hx_index.specs.Items.{Item}
@@ -28,7 +26,7 @@ use Rattle.hx_index.proofs.FoundItemLemmas.{filter_agrees, find_agrees}
 use Rattle.hx_index.proofs.NearestLemmas.{by_net, first_hit, first_hit_found, is_ipv4_prefix, is_ipv6_prefix, is_no_prefix, takes_first}
 use Rattle.hx_index.proofs.AddressFoundLemmas.{IsNetworkKey, class_pairs, ipv4_found, ipv6_found}
 use Rattle.hx_index.proofs.NetworkFitLemmas.{network_fits}
-use Rattle.hx_index.proofs.FindingLemmas.{all_in, entry_at, entry_by_node, entry_is, entry_read, find_all, found_of, found_use, item_entry, item_node, item_text, key_use, none_entry, none_of, part_use, uses_of}
+use Rattle.hx_index.proofs.FindingLemmas.{all_in, entry_by_node, entry_is, entry_read, find_all, found_of, found_use, item_entry, item_node, item_text, key_use, none_entry, none_of, part_use, uses_of}
 
 nearest_use : (method : By) (ci : Bool) → search_of method ci ≡ Nearest → method ≡ by.Ip
 nearest_use by.Ip ci e = refl

@@ -1,5 +1,5 @@
 -- What an index stands for once any node was taken out of a part.
-use Rattle.std.proofs.Common.{◌≡◌, ℕ, not, List, [], ◌∷◌, ◌++◌, Option, Some, None, refl, sym, ap, subst, ◌∙◌, inl, inr}
+use Rattle.std.proofs.Common.{◌≡◌, ℕ, List, [], ◌∷◌, ◌++◌, Option, Some, None, refl, sym, subst, ◌∙◌, inl, inr}
 use Rattle.hx_pool.specs.declared.links.Links.{Links}
 use Rattle.hx_pool.specs.declared.chain.Chain.{Chain}
 use Rattle.hx_pool.specs.Pool.{get}
@@ -12,13 +12,13 @@ use Rattle.hx_ebtree.specs.Tree.{KeepsNodes, Stands}
 use Rattle.hx_index.proofs.HoldingLemmas.{kept_relinked, kept_self}
 use Rattle.hx_index.specs.declared.index.Index.{Index}
 use Rattle.hx_index.specs.declared.part.Part.{Part}
-use Rattle.hx_index.specs.declared.part.Part.TheVariants.{Listed, Keyed, Wide}
+use Rattle.hx_index.specs.declared.part.Part.TheVariants.{Listed}
 use Rattle.hx_index.specs.Items.{Item, nodes_of, without_node}
-use Rattle.hx_index.specs.Index.{Holds, HoldsPart, NodePool, ignores_case, in_part, key_pairs, method_of}
+use Rattle.hx_index.specs.Index.{Holds, HoldsPart, NodePool, in_part, key_pairs}
 use Rattle.hx_index.specs.Search.{TakesOut}
 use Rattle.hx_index.proofs.NumberLemmas.{around}
 use Rattle.hx_index.proofs.ItemLemmas.{pairs_without, part_cases}
-use Rattle.hx_index.proofs.HoldingLemmas.{KeepsOtherParts, all_same, detached, listed_alone, of_part, part_frame, same_uses}
+use Rattle.hx_index.proofs.HoldingLemmas.{KeepsOtherParts, all_same, detached, of_part, part_frame, same_uses}
 use Rattle.hx_index.proofs.ChangeLemmas.{from_ids, less_in, listed_out}
 
 pairs_none : (items : List Item) → key_pairs items ≡ [] → items ≡ []

@@ -1,13 +1,13 @@
 -- A walk along the chain of an index, to the first pattern that hits.
-use Rattle.std.proofs.Common.{◌≡◌, ℕ, zero, suc, ◌+◌, ◌*◌, ◌<◌, ◌≤◌, Bool, true, false, List, [], ◌∷◌, ◌++◌, length, All, find, map, option_map, Option, Some, None, refl, sym, ap, subst, ◌∙◌, inl, inr, arith}
+use Rattle.std.proofs.Common.{◌≡◌, ℕ, zero, suc, ◌+◌, ◌*◌, ◌<◌, ◌≤◌, Bool, true, false, List, [], ◌∷◌, ◌++◌, length, All, Option, Some, None, refl, sym, ap, subst, ◌∙◌, inl, arith}
 use Rattle.std.specs.Option.{option_map_or}
 use Rattle.std.proofs.lemmas.List.Elements.{All-head, All-tail, All-filter}
 use Rattle.hx_pool.specs.declared.links.Links.{Links}
 use Rattle.hx_pool.specs.declared.chain.Chain.{Chain}
-use Rattle.hx_pool.specs.Pool.{Pool, get, IsLive}
-use Rattle.hx_pool.specs.Chain.{first_or, last_or, IsIn, AreDistinct, AreLinked, LiesAt, LiesIn, links_at}
+use Rattle.hx_pool.specs.Pool.{Pool, get}
+use Rattle.hx_pool.specs.Chain.{first_or, last_or, IsIn, AreLinked, LiesIn, links_at}
 use Rattle.hx_pool.proofs.PoolLemmas.{live_within}
-use Rattle.hx_pool.proofs.ChainLemmas.{in_right, linked_right, distinct_right}
+use Rattle.hx_pool.proofs.ChainLemmas.{in_right, linked_right}
 use Rattle.hx_pool.proofs.LyingLemmas.{lies_live}
 use Rattle.hx_sample.specs.declared.sample.Value.{Value}
 use Rattle.hx_sample.specs.Keys.{hits}

@@ -1,5 +1,5 @@
 -- What an index is a list of: patterns, each with the node that keeps it and the entry that has it.
-use Rattle.std.specs.Prelude.{◌≡◌, ℕ, ◌+◌, ◌==◌, Bool, not, List, [], ◌∷◌, length, map, filter}
+use Rattle.std.specs.Prelude.{◌≡◌, ℕ, ◌+◌, ◌==◌, not, List, [], ◌∷◌, length, map, filter}
 use Rattle.hx_match.specs.Patterns.{PatternText}
 use Rattle.hx_sample.specs.Find.{Entry}
 

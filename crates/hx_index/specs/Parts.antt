@@ -5,7 +5,7 @@ use Rattle.hx_text.specs.declared.kinds.By.{By}
 use Rattle.hx_text.specs.declared.kinds.By.TheVariants as by
 use Rattle.hx_text.specs.declared.address.Ip.TheVariants.{V4, V6}
 use Rattle.hx_text.specs.declared.network.Net.{Net}
-use Rattle.hx_text.specs.declared.network.Net.TheVariants.{Plain, Masked}
+use Rattle.hx_text.specs.declared.network.Net.TheVariants.{Plain}
 use Rattle.hx_text.specs.Network.{net_of}
 use Rattle.hx_ebtree.specs.Bits.{bits_of}
 use Rattle.hx_match.specs.Patterns.{PatternText}

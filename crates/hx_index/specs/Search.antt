@@ -1,5 +1,5 @@
 -- How an index is searched, and what its parts are asked. No public clause cites this module.
-use Rattle.std.specs.Prelude.{◌≡◌, ℕ, ◌^◌, ◌<◌, ◌≤◌, ⊤, Bool, true, false, List, [], Option, Some, None, find, option_and_then, option_map}
+use Rattle.std.specs.Prelude.{◌≡◌, ℕ, ◌^◌, ◌<◌, ◌≤◌, ⊤, Bool, false, List, [], Option, Some, None, find, option_and_then, option_map}
 use Rattle.std.specs.Int.{w32, w128, to_be_bytes}
 use Rattle.std.specs.Option.{option_or}
 use Rattle.hx_text.specs.declared.kinds.By.{By}

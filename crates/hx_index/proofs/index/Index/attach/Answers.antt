@@ -1,5 +1,4 @@
 use Rattle.std.proofs.Common.{inl, inr}
-use Rattle.hx_pool.specs.Chain.{IsIn}
 use Rattle.hx_index.proofs.HoldingLemmas.{kept_relinked}
 use Rattle.hx_index.specs.declared.part.Part.TheVariants.{Listed, Keyed, Wide}
 use Rattle.hx_index.specs.Items.{nodes_of}

@@ -1,4 +1,4 @@
-use Rattle.std.proofs.Common.{subst, ◌++◌, ◌∷◌}
+use Rattle.std.proofs.Common.{subst}
 use Rattle.hx_pool.specs.Chain.{IsIn, LiesIn}
 use Rattle.hx_ebtree.specs.Node.{links_of}
 use Rattle.hx_index.proofs.HoldingLemmas.{kept_relinked}

@@ -1,4 +1,4 @@
-use Rattle.std.proofs.Common.{◌≡◌, ℕ, Option, Some, option_map, refl, subst, sym, ap, ◌∙◌}
+use Rattle.std.proofs.Common.{◌≡◌, ℕ, Option, Some, option_map, refl, sym, ap, ◌∙◌}
 use Rattle.hx_ebtree.specs.Node.{entry_of}
 use Rattle.hx_sample.specs.Seen.{value_of}
 use Rattle.hx_sample.specs.declared.sample.Value.TheVariants as value

@@ -1,4 +1,4 @@
-use Rattle.std.proofs.Common.{[], All}
+use Rattle.std.proofs.Common.{[]}
 use Rattle.std.proofs.lemmas.List.Elements.{All-nil}
 use Rattle.hx_pool.specs.Chain.{links_at}
 use Rattle.hx_ebtree.specs.Node.{links_of}

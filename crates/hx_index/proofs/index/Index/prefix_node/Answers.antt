@@ -1,9 +1,8 @@
 use Rattle.std.proofs.Common.{sym, ap, ◌∙◌}
-use Rattle.std.specs.Option.{option_or}
 use Rattle.hx_ebtree.specs.KeyList.{longest_of}
-use Rattle.hx_index.specs.declared.part.Part.TheVariants.{Keyed, Wide}
+use Rattle.hx_index.specs.declared.part.Part.TheVariants.{Wide}
 use Rattle.hx_index.specs.Index.{in_part, key_pairs}
-use Rattle.hx_index.specs.Search.{ipv6_bits, prefix_node_of}
+use Rattle.hx_index.specs.Search.{ipv6_bits}
 use Rattle.hx_index.proofs.index.Index.prefix_node.Goals as goal
 
 pub returns-in-None-clause-found : goal.returns-in-None-clause-found

@@ -1,8 +1,8 @@
-use Rattle.std.proofs.Common.{Some, subst, sym, refl, ap, ◌∙◌}
+use Rattle.std.proofs.Common.{subst, refl, ap, ◌∙◌}
 use Rattle.hx_pool.specs.Chain.{IsIn}
 use Rattle.hx_match.specs.Patterns.{PatternText}
 use Rattle.hx_index.specs.Items.{Item, nodes_of}
-use Rattle.hx_index.specs.Index.{Holds, ignores_case, method_of}
+use Rattle.hx_index.specs.Index.{ignores_case, method_of}
 use Rattle.hx_index.specs.Search.{IsNewItem}
 use Rattle.hx_index.proofs.HoldingLemmas.{free_off, holds_frame, holds_updated}
 use Rattle.hx_index.proofs.NodeUseLemmas.{new_item}
