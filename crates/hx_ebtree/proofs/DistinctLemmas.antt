@@ -1,13 +1,13 @@
 -- The numbers of the pairs that a tree stands for are distinct.
 use Rattle.std.proofs.Common.{◌≡◌, ◌⊎◌, ℕ, suc, ◌+◌, ◌==◌, Bool, true, false, cond, List, [], ◌∷◌, length, Option, Some, None, refl, sym, ap, subst, ◌∙◌, inl, inr, arith}
 use Rattle.std.proofs.lemmas.Bool.Decides.{nat_tests}
-use Rattle.hx_pool.specs.Pool.{Pool, get}
+use Rattle.hx_pool.specs.Pool.{Pool}
 use Rattle.hx_pool.specs.Chain.{IsIn, AreDistinct}
 use Rattle.hx_ebtree.specs.declared.node.Down.{Down}
 use Rattle.hx_ebtree.specs.declared.node.Node.{Node}
 use Rattle.hx_ebtree.specs.declared.tree.Tree.{Tree}
 use Rattle.hx_ebtree.specs.KeyList.{KeyList, is_same_key, numbers_of, ids_of, Lists, IsOff, without}
-use Rattle.hx_ebtree.specs.Shape.{Shape, pairs_of, numbers, Leaves, Forks}
+use Rattle.hx_ebtree.specs.Shape.{Shape, pairs_of, Leaves, Forks}
 use Rattle.hx_ebtree.specs.Tree.{StandsAs, Stands}
 use Rattle.hx_ebtree.proofs.PairLemmas.{key_self, key_is, keyed_listed, listed_keyed}
 use Rattle.hx_ebtree.proofs.KeyedLemmas.{shape_ids}
