@@ -2,7 +2,7 @@ ghost use Rattle.std.specs.Prelude.{◌≡◌, ◌≢◌, ◌^◌, ◌≤◌, []
 ghost use Rattle.std.specs.Option.{ForSome};
 ghost use Rattle.std.specs.Int.{w32, w128, to_be_bytes};
 ghost use Rattle.hx_ebtree.specs.Bits.{bits_of};
-ghost use Rattle.hx_match.specs.Patterns.{text_fault, AsksMaker, CountsLarge, MayCome};
+ghost use Rattle.hx_match.specs.Patterns.{text_fault, AsksMaker, MayCome, PatternCountsLarge};
 ghost use Rattle.hx_index.specs.Parts.{IsKeyText, network_bits, pattern_key, text_bits};
 ghost use Rattle.hx_index.specs.Search.{HasWidth};
 
@@ -52,7 +52,7 @@ pub fn prepare<M: ReMaker>(
     ensures read { OnOk result (text_fault by ci text.now ≡ None) }
     ensures refused { IfErr result
         (MayCome (text_fault by ci text.now) (AsksMaker by text.now)) }
-    ensures large { CountsLarge result (record { text = text.now; ci = ci })
+    ensures large { PatternCountsLarge result (record { text = text.now; ci = ci })
         (M.state maker.old) (M.state maker.new) }
 {
     let pattern = parse(alloc, by, ci, text, maker)?;
