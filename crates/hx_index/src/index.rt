@@ -83,7 +83,8 @@ impl Index {
     /// Takes the pattern of a node out, and gives the node back. The others stay in their order.
     /// The node is one of this index. No memory is taken.
     pub fn drop_entry<L: Ledger>(&mut self, nodes: &mut Nodes, node: usize, steps: &mut Steps<L>)
-        requires { (items : List Item) × Holds nodes.old self.old items × IsIn node (nodes_of items) }
+        requires { (items : List Item) × Holds nodes.old self.old items
+            × IsIn node (nodes_of items) }
         ensures holds { (items : List Item) → Holds nodes.old self.old items
             → IsIn node (nodes_of items) → Holds nodes.new self.new (without_node node items) }
         ensures free { get nodes.new node ≡ None }
