@@ -5,3 +5,4 @@ pub mod OutcomeLemmas
 pub mod ReplayLemmas
 pub mod RunLemmas
 pub mod StatusLemmas
+pub mod UnseenLemmas

@@ -1,8 +1,10 @@
--- What a caller of `run` needs: programs, outcomes, what a record is answered, and the headline.
+-- What a caller of `run` needs: programs, outcomes, what a record is answered, and the headline;
+-- and what of it a law says of versions that are never committed.
 pub mod Outcome
 pub mod Program
 pub mod Replay
 pub mod Run
+pub mod Unseen
 -- What `main` shows besides: the command line and the environment, the last line that went by, the
 -- last file that couldn't be read, and the text on standard error.
 pub mod Machine

@@ -1,8 +1,14 @@
-//! What pins the explanation of a run: a law of its definition, the contract of a function that
-//! does nothing.
-ghost use Rattle.std.specs.Prelude.{◌≡◌, ℕ, List, [], ◌∷◌, ◌++◌, true, take};
+//! Laws of definitions: what pins the explanation of a run, and what follows from the headline.
+ghost use Rattle.std.specs.Prelude.{◌≡◌, ℕ, List, Option, [], ◌∷◌, ◌++◌, true, take};
 ghost use Rattle.hx_base.specs.Bytes.{ascii};
+ghost use Rattle.hx_core.specs.Unseen.{IsNeverCommitted};
+ghost use Rattle.hx_refs.specs.Numbers.{IsNotSearched};
 ghost use Rattle.hxeval.specs.LastLine.{LineStart, is_inside, start_after_all};
+ghost use Rattle.hxeval.specs.Replay.{initial_world};
+ghost use Rattle.hxeval.specs.Run.{Headline, Setting};
+ghost use Rattle.hxeval.specs.Unseen.{ShowsInNoAnswer};
+
+use hx_core::laws;
 
 /// Once a whole line went by, what is known is that line's beginning, whatever came before it.
 pub fn last_line()
@@ -10,3 +16,16 @@ pub fn last_line()
         → start_after_all before (line ++ ascii "\n" ∷ [])
         ≡ record { bytes = take 64 (line ++ ascii "\n" ∷ []); ended = true } }
 {}
+
+/// Where the headline holds, a version of a reference that isn't searched when the configuration is
+/// loaded, and that no event of the record commits, shows in no answer: without the events that
+/// work on it alone, the others are answered as they were, but for the number in the replies to
+/// `show acl` and `show map` without a reference that counts the entries of all versions.
+pub fn versions_that_are_never_committed_show_in_no_answer()
+    ensures { (given : Setting) (old new : Option (List ℕ)) (done : Headline given old new)
+        (r v : ℕ) → IsNotSearched done.program.references r v
+        → IsNeverCommitted r v (initial_world done.program) done.events
+        → ShowsInNoAnswer r v done.program done.events }
+{
+    laws::versions_that_are_never_committed_change_no_answer();
+}
