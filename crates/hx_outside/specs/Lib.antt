@@ -15,6 +15,7 @@ pub mod MemSource
 pub mod DirFiles
 pub mod Adapter
 pub mod LogSource
+pub mod LogFiles
 -- How one public fault turns into another by `?`, and the numbers of faults of patterns.
 pub mod Faults
 pub mod PatternFaults

@@ -1,6 +1,6 @@
 //! What a program reads and writes: sources, sinks and files, as traits whose contracts say which
-//! bytes moved and count each fault, with fakes in memory that fail at chosen calls, a source that
-//! logs its reads, and adapters over std; and makers of regular expressions, whose contracts say
+//! bytes moved and count each fault, with fakes in memory that fail at chosen calls, a source and
+//! files that log their reads, and adapters over std; and makers of regular expressions, whose contracts say
 //! which expression a text is, and count each text that is too large.
 //!
 //! ```
@@ -17,6 +17,7 @@ mod dir_files;
 mod fail_maker;
 mod fault;
 mod files;
+mod log_files;
 mod log_source;
 mod mem_files;
 mod mem_sink;
@@ -33,6 +34,7 @@ pub use dir_files::DirFiles;
 pub use fail_maker::FailMaker;
 pub use fault::{Failed, FileFault, ReadFault, SinkFault};
 pub use files::Files;
+pub use log_files::LogFiles;
 pub use log_source::LogSource;
 pub use mem_files::MemFiles;
 pub use mem_sink::MemSink;

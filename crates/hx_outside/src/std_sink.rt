@@ -4,15 +4,15 @@ ghost use Rattle.hx_outside.specs.Count.{next_count, Rose};
 
 use crate::fault::SinkFault;
 use crate::sink::Sink;
-use std::io::Write;
+use std::io::{ErrorKind, Write};
 use std::marker::Model;
 
 /// A sink over a writer of std. The bytes that it took are known where the writer's are: those of a
 /// writer in memory, and not those of the machine's files and streams.
 ///
-/// Each error of the writer is a fault, whatever its kind, and so is a write that takes nothing. No
-/// write is tried again, an interrupted one neither. It is never flushed, so a writer that keeps
-/// bytes back is to be flushed by whoever owns it.
+/// Each error of the writer is a fault, but for a write that a signal interrupted, which is tried
+/// again; and so is a write that takes nothing. It is never flushed, so a writer that keeps bytes
+/// back is to be flushed by whoever owns it.
 #[derive(Debug, Drop)]
 pub struct StdSink<W> {
     writer: W,
@@ -41,9 +41,10 @@ impl<W: Write> Sink for StdSink<W> {
 
     ghost faults = { λ sink. sink.faults };
 
-    /// One write of the writer. Never `NoMemory`. The count of faults rises by one with `Failed`,
-    /// and with no other answer. That `Failed` comes only where the writer answers an error or
-    /// takes nothing is tested, since no contract of std says when a writer fails.
+    /// One write of the writer, and another one after each that was interrupted. Never `NoMemory`.
+    /// The count of faults rises by one with `Failed`, and with no other answer. That `Failed` comes
+    /// only where the writer answers an error of another kind or takes nothing is tested, since no
+    /// contract of std says when a writer fails.
     fn write(&mut self, bytes: &[u8]) -> Result<usize, SinkFault>
         requires { 0 < length bytes.now }
         ensures some { IfOk result (λ count. 0 < count) }
@@ -58,12 +59,14 @@ impl<W: Write> Sink for StdSink<W> {
             ≡ (if is_ok result then self.old.faults else next_count self.old.faults) }
         ensures memory { ¬ (IsErrOf result SinkFault.NoMemory) }
     {
-        match self.writer.write(bytes) {
-            Ok(count) if count > 0 => Ok(count),
-            _ => {
-                self.faults = self.faults.saturating_add(1);
-                Err(SinkFault::Failed)
+        'tries: for _ in 0..u64::MAX {
+            match self.writer.write(bytes) {
+                Ok(count) if count > 0 => return Ok(count),
+                Err(error) if error.kind() == ErrorKind::Interrupted => {}
+                _ => break,
             }
         }
+        self.faults = self.faults.saturating_add(1);
+        Err(SinkFault::Failed)
     }
 }

@@ -5,14 +5,14 @@ ghost use Rattle.hx_outside.specs.Count.{next_count, Rose};
 
 use crate::fault::Failed;
 use crate::source::Source;
-use std::io::Read;
+use std::io::{ErrorKind, Read};
 use std::marker::Model;
 
 /// A source over a reader of std. The bytes that are left are known where the reader's are: those
 /// of a reader in memory, and not those of the machine's files and streams.
 ///
-/// Each error of the reader is a fault, whatever its kind. No read is tried again, an interrupted
-/// one neither.
+/// Each error of the reader is a fault, but for a read that a signal interrupted: that one is tried
+/// again.
 #[derive(Debug, Drop)]
 pub struct StdSource<R> {
     reader: R,
@@ -41,9 +41,10 @@ impl<R: Read> Source for StdSource<R> {
 
     ghost faults = { λ source. source.faults };
 
-    /// One read of the reader. The count of faults rises by one with `Failed`, and stays with
-    /// bytes. That `Failed` comes only where the reader answers an error is tested, since no
-    /// contract of std says when a reader fails.
+    /// One read of the reader, and another one after each that was interrupted. The count of faults
+    /// rises by one with `Failed`, and stays with bytes. That `Failed` comes only where the reader
+    /// answers an error of another kind is tested, since no contract of std says when a reader
+    /// fails.
     fn read(&mut self, buf: &mut [u8]) -> Result<usize, Failed>
         requires { 0 < length buf.old }
         ensures bound { ReadsAtMost result buf.new }
@@ -56,12 +57,14 @@ impl<R: Read> Source for StdSource<R> {
         ensures count { self.new.faults
             ≡ (if is_ok result then self.old.faults else next_count self.old.faults) }
     {
-        match self.reader.read(buf) {
-            Ok(count) => Ok(count),
-            Err(_) => {
-                self.faults = self.faults.saturating_add(1);
-                Err(Failed)
+        'tries: for _ in 0..u64::MAX {
+            match self.reader.read(buf) {
+                Ok(count) => return Ok(count),
+                Err(error) if error.kind() == ErrorKind::Interrupted => {}
+                Err(_) => break,
             }
         }
+        self.faults = self.faults.saturating_add(1);
+        Err(Failed)
     }
 }
