@@ -18,8 +18,8 @@ const LONGEST: usize = 268_435_456;
 /// The machine's files, by their paths. What they hold isn't known to contracts.
 ///
 /// A name that isn't UTF-8, a file that can't be opened or read, and one of more than 268,435,456
-/// bytes are faults. Each error of the machine is one, whatever its kind: no read is tried again.
-/// At most one byte more than the limit is taken in.
+/// bytes are faults. Each error of the machine is one, but for a read that a signal interrupted,
+/// which is tried again. At most one byte more than the limit is taken in.
 #[derive(Drop)]
 pub struct DirFiles<'r, R> {
     rt: &'r R,
