@@ -70,13 +70,13 @@ module _ {X : Type 0} where
   IsFilled (Some x ∷ places) zero = ⊥
   IsFilled (Some x ∷ places) (suc used) = IsFilled places used
 
-  -- a block of 64 places that one chunk owns and may give back to its allocator
+  -- a block of 1,024 places that one chunk owns and may give back to its allocator
   pub record IsChunk {A : Type 0} (address start claimed : Ptr) (places : List (Option X))
       (count : ℕ)
       (taken_from alloc : A) (used : ℕ) : Type 0 where
     pub starts : start ≡ address
     pub claims : claimed ≡ address
-    pub counted : count ≡ 64
+    pub counted : count ≡ 1024
     pub giver : taken_from ≡ alloc
-    pub whole : length places ≡ 64
+    pub whole : length places ≡ 1024
     pub filled : IsFilled places used

@@ -9,15 +9,15 @@ module _ {X : Type 0} where
   flat [] = []
   flat (xs ∷ xss) = xs ++ flat xss
 
-  -- so many items lie in the lists, each list with 64 of them before the next has any
+  -- so many items lie in the lists, each list with 1,024 of them before the next has any
   abbrev pub IsPacked : List (List X) → ℕ → Type 0
   IsPacked [] n = n ≡ 0
-  IsPacked (xs ∷ xss) n = (length xs ≡ min n 64) × IsPacked xss (n - 64)
+  IsPacked (xs ∷ xss) n = (length xs ≡ min n 1024) × IsPacked xss (n - 1024)
 
   -- so many items, in chunks that have at most 2^32 places
   pub record AreChunks (xss : List (List X)) (n : ℕ) : Type 0 where
     pub packed : IsPacked xss n
-    pub few : length xss ≤ 2 ^ 26
+    pub few : length xss ≤ 2 ^ 22
 
 module _ {T : Type 0} where
   -- the value of a slot, if it has one

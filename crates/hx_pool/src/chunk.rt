@@ -8,9 +8,9 @@ use std::marker::Model;
 use std_alloc::room::may_hold;
 
 /// How many slots a chunk has memory for.
-pub(crate) const CHUNK: usize = 64;
+pub(crate) const CHUNK: usize = 1024;
 
-/// Memory for 64 slots, of which the first so many hold something. It never moves.
+/// Memory for 1,024 slots, of which the first so many hold something. It never moves.
 pub(crate) struct Chunk<T> {
     start: Start<Slot<T>>,
     places: Places<Slot<T>>,
@@ -70,7 +70,7 @@ impl<T> Chunk<T> {
     }
 
     pub(crate) fn push(&mut self, slot: Slot<T>)
-        requires { length self.old < 64 }
+        requires { length self.old < 1024 }
         ensures { self.new ≡ self.old ++ slot ∷ [] }
     {
         self.places.write(self.start, self.used, slot);

@@ -7,7 +7,7 @@ use std::alloc::{AllocError, Global};
 use std::marker::Model;
 
 /// More chunks than this are refused, as where memory runs out.
-const MOST_CHUNKS: usize = 0x400_0000;
+const MOST_CHUNKS: usize = 0x40_0000;
 
 /// How many slots that many chunks have.
 const MOST_SLOTS: usize = 0x1_0000_0000;
@@ -28,7 +28,7 @@ impl<T> Model for Chunks<T> {
 
     ghost Value = { List (Slot T) × ℕ };
 
-    ghost view = { λ c. (flat c.chunks.items, length c.chunks.items * 64 - c.len) };
+    ghost view = { λ c. (flat c.chunks.items, length c.chunks.items * 1024 - c.len) };
 
     ghost invariant = { λ c. AreChunks c.chunks.items c.len };
 }
@@ -55,7 +55,7 @@ impl<T> Chunks<T> {
 
     /// Takes memory for one more chunk.
     fn add_chunk(&mut self) -> Result<(), AllocError>
-        ensures ok { OnOk result (self.new ≡ (self.old.0, self.old.1 + 64)) }
+        ensures ok { OnOk result (self.new ≡ (self.old.0, self.old.1 + 1024)) }
         ensures err { OnErr result (self.new ≡ self.old) }
     {
         if self.chunks.len() >= MOST_CHUNKS {

@@ -32,4 +32,4 @@ pub deallocate-requires : goal.deallocate-requires
 deallocate-requires g c =
     let kept = c.loop-used.invariant in let over = c.loop-used-test.false in let values = c.loop-used.places.values in
     let none : c.loop-used.used ≡ 0 = omega arith in
-    (kept.start, none_filled values 64 kept.whole (subst (IsFilled values) none kept.filled), c.self.invariant.claims, c.self.invariant.counted, c.self.invariant.giver)
+    (kept.start, none_filled values 1024 kept.whole (subst (IsFilled values) none kept.filled), c.self.invariant.claims, c.self.invariant.counted, c.self.invariant.giver)

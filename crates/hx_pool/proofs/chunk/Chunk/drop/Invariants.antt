@@ -5,7 +5,7 @@ use Rattle.hx_pool.proofs.chunk.Chunk.drop.Given as goal
 abbrev pub invariant-loop-used : goal.invariant-loop-used
 invariant-loop-used g l = record {
   start : l.places.start ≡ l.start.address;
-  whole : length l.places.values ≡ 64;
+  whole : length l.places.values ≡ 1024;
   filled : IsFilled l.places.values l.used;
 }
 

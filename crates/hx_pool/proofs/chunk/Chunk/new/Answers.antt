@@ -4,7 +4,7 @@ use Rattle.hx_pool.proofs.chunk.Chunk.new.Goals as goal
 pub invariant_of-result : goal.invariant_of-result
 invariant_of-result g c =
     let given = c.in_ok-start.ensures in
-    let none = none_places c.in_ok-start.places.values 64 given.1 in
+    let none = none_places c.in_ok-start.places.values 1024 given.1 in
     record {
       starts = given.0;
       claims = given.2;

@@ -21,4 +21,4 @@ returns g c =
     let long = flat_length c.self.inside.chunks.items c.self.inside.len c.self.invariant.packed in
     let within = rw (← c.self.view_is) at c.requires in
     let read = (chunk_of c.self.inside.chunks.items c.self.inside.len c.args.index c.index.result.now c.self.invariant.packed (omega arith) c.index.ensures).0 in
-    rw (← c.self.view_is) (packed_read c.self.inside.chunks.items c.self.inside.len (c.args.index / 64) (c.args.index % 64) c.args.index c.index.result.now _ (omega arith) c.self.invariant.packed read c.get.ensures)
+    rw (← c.self.view_is) (packed_read c.self.inside.chunks.items c.self.inside.len (c.args.index / 1024) (c.args.index % 1024) c.args.index c.index.result.now _ (omega arith) c.self.invariant.packed read c.get.ensures)

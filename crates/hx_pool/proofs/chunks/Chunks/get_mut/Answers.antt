@@ -22,7 +22,7 @@ invariant_of-self-lent g c w =
     let within = rw (← c.self.view_is) at c.requires in
     let read = (chunk_of c.self.inside.chunks.items c.self.inside.len c.args.index c.index_mut.result.now c.self.invariant.packed (omega arith) c.index_mut.ensures.value).0 in
     record {
-      packed = packed_same c.self.inside.chunks.items c.self.inside.len (c.args.index / 64) c.index_mut.result.now _ c.self.invariant.packed read (length-set c.index_mut.result.now (c.args.index % 64) w);
+      packed = packed_same c.self.inside.chunks.items c.self.inside.len (c.args.index / 1024) c.index_mut.result.now _ c.self.invariant.packed read (length-set c.index_mut.result.now (c.args.index % 1024) w);
       few = rw length-set c.self.invariant.few;
     }
 
@@ -31,6 +31,6 @@ returns g c =
     let long = flat_length c.self.inside.chunks.items c.self.inside.len c.self.invariant.packed in
     let within = rw (← c.self.view_is) at c.requires in
     let found = chunk_of c.self.inside.chunks.items c.self.inside.len c.args.index c.index_mut.result.now c.self.invariant.packed (omega arith) c.index_mut.ensures.value in (
-      (refl, λ w. rw (← c.self.view_is, packed_write c.self.inside.chunks.items c.self.inside.len (c.args.index / 64) (c.args.index % 64) c.args.index c.index_mut.result.now w (omega arith) found.1 c.self.invariant.packed found.0, length-set)),
-      record { writes_back = tt; value = rw (← c.self.view_is) (packed_read c.self.inside.chunks.items c.self.inside.len (c.args.index / 64) (c.args.index % 64) c.args.index c.index_mut.result.now _ (omega arith) c.self.invariant.packed found.0 c.get_mut.ensures.value) },
+      (refl, λ w. rw (← c.self.view_is, packed_write c.self.inside.chunks.items c.self.inside.len (c.args.index / 1024) (c.args.index % 1024) c.args.index c.index_mut.result.now w (omega arith) found.1 c.self.invariant.packed found.0, length-set)),
+      record { writes_back = tt; value = rw (← c.self.view_is) (packed_read c.self.inside.chunks.items c.self.inside.len (c.args.index / 1024) (c.args.index % 1024) c.args.index c.index_mut.result.now _ (omega arith) c.self.invariant.packed found.0 c.get_mut.ensures.value) },
     )

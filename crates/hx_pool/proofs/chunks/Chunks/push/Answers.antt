@@ -12,7 +12,7 @@ invariant_of-self g c =
     let room = rw (← c.self.view_is) at c.requires in
     let read = (room_in_chunk c.self.inside.chunks.items c.self.inside.len c.index_mut.result.now c.self.invariant.packed (omega arith) c.index_mut.ensures.value).0 in
     rw c.push.ensures (record {
-      packed = packed_push c.self.inside.chunks.items c.self.inside.len (c.self.inside.len / 64) c.index_mut.result.now c.args.slot (omega arith) (omega arith) c.self.invariant.packed read;
+      packed = packed_push c.self.inside.chunks.items c.self.inside.len (c.self.inside.len / 1024) c.index_mut.result.now c.args.slot (omega arith) (omega arith) c.self.invariant.packed read;
       few = rw length-set c.self.invariant.few;
     })
 
@@ -20,4 +20,4 @@ pub returns-clause-slots : goal.returns-clause-slots
 returns-clause-slots g c =
     let room = rw (← c.self.view_is) at c.requires in
     let read = (room_in_chunk c.self.inside.chunks.items c.self.inside.len c.index_mut.result.now c.self.invariant.packed (omega arith) c.index_mut.ensures.value).0 in
-    rw (← c.self.view_is, c.push.ensures) (flat_push c.self.inside.chunks.items c.self.inside.len (c.self.inside.len / 64) c.index_mut.result.now c.args.slot (omega arith) (omega arith) c.self.invariant.packed read)
+    rw (← c.self.view_is, c.push.ensures) (flat_push c.self.inside.chunks.items c.self.inside.len (c.self.inside.len / 1024) c.index_mut.result.now c.args.slot (omega arith) (omega arith) c.self.invariant.packed read)
