@@ -4,7 +4,7 @@ use Rattle.std.specs.Option.{option_map, option_and_then}
 use Rattle.hx_pool.specs.declared.links.Links.{Links}
 use Rattle.hx_pool.specs.declared.chain.Chain.{Chain}
 use Rattle.hx_pool.specs.Pool.{Pool, get}
-use Rattle.hx_pool.specs.Chain.{first_or, IsIn, AreLinked, LiesAt, LiesIn, links_at, numbers_from, numbers_in}
+use Rattle.hx_pool.specs.Chain.{first_or, IsIn, AreLinked, LiesIn, links_at, numbers_from, numbers_in}
 use Rattle.hx_pool.proofs.ChainLemmas.{lies_frame}
 
 module _ (f : ℕ → Option Links) where

@@ -1,7 +1,7 @@
--- The list of free slots, and the counts, as slots are taken, given back and added.
-use Rattle.std.proofs.Common.{◌≡◌, ◌≢◌, ℕ, zero, suc, ◌+◌, ◌-◌, ◌<◌, List, [], ◌∷◌, ◌++◌, map, length, get_or, set, Option, Some, None, is_some, IsSome, count_by, cond, slice_get, replicate, refl, sym, ap, subst, ◌∙◌, arith, true≢false}
-use Rattle.std.proofs.lemmas.List.{map-set, map-append, length-map, length-set, get_or-map, get_or-set_same, get_or-set_other, get_or_past, append_assoc, replicate-append-replicate}
-use Rattle.std.proofs.lemmas.List.Sums.{sum_by-set}
+-- The list of free slots, and the counts, as slots are taken and given back.
+use Rattle.std.proofs.Common.{◌≡◌, ◌≢◌, ℕ, zero, suc, ◌+◌, ◌-◌, ◌<◌, List, [], ◌∷◌, ◌++◌, map, length, get_or, set, Option, Some, None, is_some, IsSome, count_by, cond, slice_get, refl, sym, ap, subst, ◌∙◌, arith, true≢false}
+use Rattle.std.proofs.lemmas.List.{map-set, map-append, length-map, length-set, get_or-map, get_or-set_same, get_or-set_other, get_or_past, length-append}
+use Rattle.std.proofs.lemmas.List.Sums.{sum_by-append, sum_by-set}
 use Rattle.std.proofs.lemmas.Option.{slice_get_within, slice_get-get_or, get_or_from_slice_get}
 use Rattle.hx_pool.specs.declared.slot.Slot.{Slot}
 use Rattle.hx_pool.specs.declared.slot.Slot.TheVariants.{Free, Live}
@@ -37,22 +37,6 @@ module _ {T : Type 0} where
   free_append es more zero first p = p
   free_append es more (suc n) first p = (p.0, p.1, p.2, slice_get_left es more p.0 _ p.3, free_append es more n p.1 p.4)
 
-  last_read : (es : List (Slot T)) (e : Slot T) → slice_get (es ++ e ∷ []) (length es) ≡ Some e
-  last_read [] e = refl
-  last_read (x ∷ es) e = last_read es e
-
-  pub free_push : (es : List (Slot T)) (n : ℕ) (first : Option ℕ) → IsFreeList es n first → IsFreeList (es ++ Free first ∷ []) (suc n) (Some (length es))
-  free_push es n first p = (length es, first, refl, last_read es (Free first), free_append es (Free first ∷ []) n first p)
-
-  pub free_grown : (es : List (Slot T)) (n m id : ℕ) (first : Option ℕ) → m ≡ suc n → id ≡ length es → IsFreeList es n first → IsFreeList (es ++ Free first ∷ []) m (Some id)
-  free_grown es n m id first more at p = rw (more, at) (free_push es n first p)
-
-  -- one more free slot, of those that are added
-  pub values_push : (es start : List (Slot T)) (first : Option ℕ) (i : ℕ) → map value_of es ≡ map value_of start ++ replicate i None → map value_of (es ++ Free first ∷ []) ≡ map value_of start ++ replicate (i + 1) None
-  values_push es start first i same =
-      map-append value_of es (Free first ∷ []) ∙ ap (λ l. l ++ None ∷ []) same ∙ append_assoc (map value_of start) (replicate i None) (None ∷ [])
-      ∙ ap (λ l. map value_of start ++ l) (replicate-append-replicate i 1 None)
-
   -- the count of values after a write
   pub count_set : (es : List (Slot T)) (id : ℕ) (old new : Slot T) → slice_get es id ≡ Some old → count_by is_some (map value_of (set es id new)) + cond (is_some (value_of old)) 1 0 ≡ count_by is_some (map value_of es) + cond (is_some (value_of new)) 1 0
   count_set es id old new found =
@@ -77,10 +61,10 @@ module _ {T : Type 0} where
   value_read es id e found = get_or-map value_of es id e None (slice_get_within es id e found) ∙ ap value_of (get_or_from_slice_get es id e e found)
 
   -- the free slot that the list begins with is taken
-  pub IsPool-take : (es : List (Slot T)) (spare id : ℕ) (first next : Option ℕ) (value : T) → IsPool es spare first → first ≡ Some id → slice_get es id ≡ Some (Free next) → IsPool (set es id (Live value)) (spare - 1) next × (0 < spare)
-  IsPool-take es spare id first next value pool at found = by_count spare pool.counted pool.linked
+  pub IsPool-take : (es : List (Slot T)) (room free fresh id : ℕ) (first next : Option ℕ) (value : T) → IsPool es room free fresh first → first ≡ Some id → slice_get es id ≡ Some (Free next) → IsPool (set es id (Live value)) room (free - 1) fresh next × (0 < free)
+  IsPool-take es room free fresh id first next value pool at found = by_count free pool.counted pool.linked
     where
-      by_count : (n : ℕ) → count_by is_some (map value_of es) + n ≡ length es → IsFreeList es n first → IsPool (set es id (Live value)) (n - 1) next × (0 < n)
+      by_count : (n : ℕ) → count_by is_some (map value_of es) + n ≡ length es → IsFreeList es n first → IsPool (set es id (Live value)) room (n - 1) fresh next × (0 < n)
       by_count zero counted linked = cc
       by_count (suc n) counted linked =
           let here = linked.2 in let read = linked.3 in
@@ -89,31 +73,54 @@ module _ {T : Type 0} where
           let off : (m : ℕ) → m < n → IsFreeList es (suc m) (Some id) → ⊥ =
           λ m below p. omega (arith, free_unique es (suc m) (suc n) (Some id) p whole) in
           let less : n ≡ suc n - 1 = omega arith in (
-            subst (λ k. IsPool (set es id (Live value)) k next) less (record {
+            subst (λ k. IsPool (set es id (Live value)) room k fresh next) less (record {
               counted = omega (arith, counted, count_set es id (Free next) (Live value) found, length-set es id (Live value));
               linked = free_set es id (Live value) n next off (subst (IsFreeList es n) after linked.4);
+              ready = pool.ready;
               few = rw length-set pool.few;
             }),
             omega arith,
           )
 
-  pub IsPool-give : (es : List (Slot T)) (spare id : ℕ) (first : Option ℕ) (value : T) → IsPool es spare first → slice_get es id ≡ Some (Live value) → IsPool (set es id (Free first)) (spare + 1) (Some id)
-  IsPool-give es spare id first value pool found =
+  pub IsPool-give : (es : List (Slot T)) (room free fresh id : ℕ) (first : Option ℕ) (value : T) → IsPool es room free fresh first → slice_get es id ≡ Some (Live value) → IsPool (set es id (Free first)) room (free + 1) fresh (Some id)
+  IsPool-give es room free fresh id first value pool found =
       let within = slice_get_within es id _ found in
       let written : slice_get (set es id (Free first)) id ≡ Some (Free first) =
       slice_get-get_or _ id (Free first) (omega (arith, length-set es id (Free first)))
       ∙ ap Some (get_or-set_same es id (Free first) (Free first) within) in
-      let longer : spare + 1 ≡ suc spare = omega arith in
+      let longer : free + 1 ≡ suc free = omega arith in
       rw longer (record {
         counted = omega (arith, pool.counted, count_set es id (Live value) (Free first) found, length-set es id (Free first));
-        linked = (id, first, refl, written, free_set es id (Free first) spare first (λ m _. live_off es id value found m) pool.linked);
+        linked = (id, first, refl, written, free_set es id (Free first) free first (λ m _. live_off es id value found m) pool.linked);
+        ready = pool.ready;
         few = rw length-set pool.few;
       })
 
-  pub IsPool-write : (es : List (Slot T)) (spare id : ℕ) (first : Option ℕ) (old new : T) → IsPool es spare first → slice_get es id ≡ Some (Live old) → IsPool (set es id (Live new)) spare first
-  IsPool-write es spare id first old new pool found =
+  pub IsPool-write : (es : List (Slot T)) (room free fresh id : ℕ) (first : Option ℕ) (old new : T) → IsPool es room free fresh first → slice_get es id ≡ Some (Live old) → IsPool (set es id (Live new)) room free fresh first
+  IsPool-write es room free fresh id first old new pool found =
       record {
         counted = omega (arith, pool.counted, count_set es id (Live old) (Live new) found, length-set es id (Live new));
-        linked = free_set es id (Live new) spare first (λ m _. live_off es id old found m) pool.linked;
+        linked = free_set es id (Live new) free first (λ m _. live_off es id old found m) pool.linked;
+        ready = pool.ready;
         few = rw length-set pool.few;
+      }
+
+  -- the count of values after one more
+  pub count_live : (es : List (Slot T)) (value : T) → count_by is_some (map value_of (es ++ Live value ∷ [])) ≡ count_by is_some (map value_of es) + 1
+  count_live es value = ap (count_by is_some) (map-append value_of es (Live value ∷ [])) ∙ sum_by-append (λ (o : Option T). cond (is_some o) 1 0) (map value_of es) (Some value ∷ [])
+
+  -- no slot was given back, so there is one that is fresh
+  pub some_fresh : (es : List (Slot T)) (room free fresh : ℕ) (first : Option ℕ) → IsPool es room free fresh first → first ≡ None → 0 < free + fresh → (free ≡ 0) × (0 < fresh)
+  some_fresh es room zero fresh first pool none some = (refl, omega arith)
+  some_fresh es room (suc free) fresh first pool none some = let here = pool.linked.2 in cc
+
+  pub IsPool-push : (es : List (Slot T)) (room left free fresh : ℕ) (first : Option ℕ) (value : T) → IsPool es room free fresh first → left + 1 ≡ room → 0 < fresh → IsPool (es ++ Live value ∷ []) left free (fresh - 1) first
+  IsPool-push es room left free fresh first value pool one some =
+      let ready = pool.ready in let few = pool.few in let counted = pool.counted in
+      let long : length (es ++ Live value ∷ []) ≡ length es + 1 = length-append es (Live value ∷ []) in
+      record {
+        counted = omega (arith, count_live es value);
+        linked = free_append es (Live value ∷ []) free first pool.linked;
+        ready = omega arith;
+        few = omega arith;
       }

@@ -31,8 +31,10 @@ module _ {T : Type 0} where
   IsFreeList slots (suc count) first = (id : ℕ) × (next : Option ℕ) × (first ≡ Some id)
       × (slice_get slots id ≡ Some (Free next)) × IsFreeList slots count next
 
-  -- the free slots are those of one list, and `spare` counts them
-  pub record IsPool (slots : List (Slot T)) (spare : ℕ) (first : Option ℕ) : Type 0 where
-    pub counted : count_by is_some (map value_of slots) + spare ≡ length slots
-    pub linked : IsFreeList slots spare first
-    pub few : length slots ≤ 2 ^ 32
+  -- the slots without a value are those of one list, `free` of them, and there is memory for `fresh`
+  -- slots more
+  pub record IsPool (slots : List (Slot T)) (room free fresh : ℕ) (first : Option ℕ) : Type 0 where
+    pub counted : count_by is_some (map value_of slots) + free ≡ length slots
+    pub linked : IsFreeList slots free first
+    pub ready : fresh ≤ room
+    pub few : length slots + fresh ≤ 2 ^ 32

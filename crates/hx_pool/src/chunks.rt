@@ -87,6 +87,7 @@ impl<T> Chunks<T> {
     pub(crate) fn reserve(&mut self, more: usize) -> Result<(), AllocError>
         ensures slots { self.new.0 ≡ self.old.0 }
         ensures ok { OnOk result (more ≤ self.new.1) }
+        ensures grows { self.old.1 ≤ self.new.1 }
         ensures few { OnOk result (length self.new.0 + self.new.1 ≤ 2 ^ 32) }
         ensures many { 2 ^ 32 < length self.old.0 + more → IsErr result }
     {

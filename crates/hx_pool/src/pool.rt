@@ -1,7 +1,6 @@
-ghost use Rattle.std.specs.Prelude.{◌≡◌, ◌+◌, ◌<◌, ◌≤◌, ◌++◌, ◌^◌, ℕ, [], None, OnErr, OnOk, Option, Some, IsErr, IsOk, IsTrue, length, map, replicate, ◌↔◌};
+ghost use Rattle.std.specs.Prelude.{◌≡◌, ◌+◌, ◌<◌, ◌≤◌, ◌^◌, ℕ, None, OnErr, OnOk, Some, IsErr, IsOk, IsTrue, ◌↔◌};
 ghost use Rattle.std.specs.Borrow.{sem};
 ghost use Rattle.hx_pool.specs.Pool.{get, IsLive, live_count, total, SameValues, Updates};
-ghost use Rattle.hx_pool.specs.Slots.{value_of, IsFreeList};
 
 use crate::chunks::Chunks;
 use crate::slot::Slot;
@@ -16,17 +15,20 @@ use std::sync::ledger::Ledger;
 /// values, and how many slots are spare. A value doesn't move while it is in its slot, and its
 /// number is given to no other value until it is taken out.
 ///
-/// A slot that is free holds the number of the next free slot, so that a pool takes memory in
-/// `reserve` alone.
+/// A slot that was given back holds the number of the next such slot, so that a pool takes memory in
+/// `reserve` alone. Slots that never had a value have memory, but aren't written before.
 #[derive(Drop)]
 pub struct Pool<T> {
     slots: Chunks<T>,
+    // The first of the slots that were given back, and how many they are.
     first_free: Option<usize>,
-    spare: usize,
+    free: usize,
+    // How many slots there are beside those that ever had a value.
+    fresh: usize,
 }
 
 impl<T> Model for Pool<T> {
-    ghost use Rattle.std.specs.Prelude.{map};
+    ghost use Rattle.std.specs.Prelude.{◌+◌, map};
     ghost use Rattle.hx_pool.specs.Pool.{Pool as Map, pool_code};
     ghost use Rattle.hx_pool.specs.Slots.{value_of, IsPool};
 
@@ -34,27 +36,9 @@ impl<T> Model for Pool<T> {
 
     ghost coded = { pool_code T.code };
 
-    ghost view = { λ p. record { slots = map value_of p.slots.0; spare = p.spare } };
+    ghost view = { λ p. record { slots = map value_of p.slots.0; spare = p.free + p.fresh } };
 
-    ghost invariant = { λ p. IsPool p.slots.0 p.spare p.first_free };
-}
-
-/// Appends `count` free slots, each of which names the one before it, and the first of them
-/// `first`. The last one's number, or `first` where there is none.
-fn add_free<T>(slots: &mut Chunks<T>, count: usize, first: Option<usize>) -> Option<usize>
-    requires { count ≤ slots.old.1 }
-    ensures values { map value_of slots.new.0 ≡ map value_of slots.old.0 ++ replicate count None }
-    ensures linked { (spare : ℕ) → IsFreeList slots.old.0 spare first
-        → IsFreeList slots.new.0 (spare + count) result }
-    ensures room { length slots.new.0 + slots.new.1 ≡ length slots.old.0 + slots.old.1 }
-{
-    let mut last = first;
-    for _added in 0..count {
-        let id = slots.len();
-        slots.push(Slot::Free(last));
-        last = Some(id);
-    }
-    last
+    ghost invariant = { λ p. IsPool p.slots.0 p.slots.1 p.free p.fresh p.first_free };
 }
 
 impl<T> Pool<T> {
@@ -69,7 +53,8 @@ impl<T> Pool<T> {
         Pool {
             slots: Chunks::new(alloc),
             first_free: None,
-            spare: 0,
+            free: 0,
+            fresh: 0,
         }
     }
 
@@ -85,15 +70,14 @@ impl<T> Pool<T> {
         ensures many { 2 ^ 32 < live_count self.old + count → IsErr result }
         ensures err { OnErr result (self.new ≡ self.old) }
     {
-        if count <= self.spare {
+        if count <= self.free + self.fresh {
             return Ok(());
         }
-        let more = count - self.spare;
-        if self.slots.reserve(more).is_err() {
+        let fresh = count - self.free;
+        if self.slots.reserve(fresh).is_err() {
             return Err(NoMemory);
         }
-        self.first_free = add_free(&mut self.slots, more, self.first_free);
-        self.spare = count;
+        self.fresh = fresh;
         Ok(())
     }
 
@@ -106,16 +90,22 @@ impl<T> Pool<T> {
         ensures live { live_count self.new ≡ live_count self.old + 1 }
         ensures total { total self.new ≡ total self.old }
     {
-        let id = match self.first_free {
-            Some(id) => id,
-            None => unreachable!(),
-        };
-        match mem::replace(self.slots.get_mut(id), Slot::Live(value)) {
-            Slot::Free(next) => self.first_free = next,
-            Slot::Live(_) => unreachable!(),
+        match self.first_free {
+            Some(id) => {
+                match mem::replace(self.slots.get_mut(id), Slot::Live(value)) {
+                    Slot::Free(next) => self.first_free = next,
+                    Slot::Live(_) => unreachable!(),
+                }
+                self.free -= 1;
+                id
+            }
+            None => {
+                let id = self.slots.len();
+                self.slots.push(Slot::Live(value));
+                self.fresh -= 1;
+                id
+            }
         }
-        self.spare -= 1;
-        id
     }
 
     /// Takes the value of `id` out. Its slot is spare from then on.
@@ -130,7 +120,7 @@ impl<T> Pool<T> {
         match mem::replace(self.slots.get_mut(id), Slot::Free(self.first_free)) {
             Slot::Live(value) => {
                 self.first_free = Some(id);
-                self.spare += 1;
+                self.free += 1;
                 value
             }
             Slot::Free(_) => unreachable!(),
@@ -173,7 +163,7 @@ impl<T> Pool<T> {
     pub fn live_count(&self) -> usize
         ensures { result ≡ live_count self.now }
     {
-        self.slots.len() - self.spare
+        self.slots.len() - self.free
     }
 
     /// Whether `id` is the number of a value.

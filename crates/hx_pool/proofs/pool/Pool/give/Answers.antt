@@ -15,7 +15,7 @@ overflow_add-self g c =
 pub invariant_of-self : goal.invariant_of-self
 invariant_of-self g c =
     let found = c.get_mut.ensures.value ∙ ap Some (sym c.replace.ensures.value ∙ c.in-Live.is) in
-    rw c.replace.ensures.after (IsPool-give c.self.inside.slots.0 c.self.inside.spare c.args.id c.self.inside.first_free c.in-Live.value c.self.invariant found)
+    rw c.replace.ensures.after (IsPool-give c.self.inside.slots.0 c.self.inside.slots.1 c.self.inside.free c.self.inside.fresh c.args.id c.self.inside.first_free c.in-Live.value c.self.invariant found)
 
 pub unreachable-requires : goal.unreachable-requires
 unreachable-requires g c =

@@ -6,7 +6,7 @@ use Rattle.hx_pool.proofs.pool.Pool.value_mut.Goals as goal
 pub invariant_of-self-lent : goal.invariant_of-self-lent
 invariant_of-self-lent g c w =
     let found = live_slot c.self.inside.slots.0 c.args.id (rw (← c.self.view_is) at c.requires) in
-    IsPool-write c.self.inside.slots.0 c.self.inside.spare c.args.id c.self.inside.first_free found.0 w c.self.invariant found.1
+    IsPool-write c.self.inside.slots.0 c.self.inside.slots.1 c.self.inside.free c.self.inside.fresh c.args.id c.self.inside.first_free found.0 w c.self.invariant found.1
 
 pub returns : goal.returns
 returns g c =

@@ -1,4 +1,4 @@
-use Rattle.std.proofs.Common.{◌≡◌, suc, ◌∷◌, ◌++◌, take, drop, None, sym, subst}
+use Rattle.std.proofs.Common.{◌≡◌, suc, ◌++◌, take, drop, None, sym, subst}
 use Rattle.hx_pool.specs.declared.tests.Entry.{Entry}
 use Rattle.hx_pool.specs.Chain.{LiesIn}
 use Rattle.hx_pool.proofs.LyingLemmas.{lies_updated, lies_live, relinked_live, distinct_off, about, in_about}
