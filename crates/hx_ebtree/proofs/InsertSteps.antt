@@ -1,5 +1,5 @@
 -- What the search for a new node's key says of the node's place, and what else changes there.
-use Rattle.std.proofs.Common.{◌≡◌, ◌≢◌, ℕ, Bool, true, false, List, [], ◌∷◌, ◌++◌, length, Option, Some, None, refl, sym, ap, subst, ◌∙◌, inl, inr}
+use Rattle.std.proofs.Common.{◌≡◌, ◌≢◌, ℕ, ◌+◌, ◌*◌, ◌<◌, Bool, true, false, List, [], ◌∷◌, ◌++◌, length, Option, Some, None, refl, sym, ap, subst, ◌∙◌, inl, inr, arith, length-append}
 use Rattle.std.specs.Option.{option_map}
 use Rattle.hx_pool.specs.Pool.{Pool, get, IsLive}
 use Rattle.hx_pool.specs.Chain.{IsIn, LiesAt}
@@ -8,13 +8,15 @@ use Rattle.hx_ebtree.specs.declared.node.Down.TheVariants.{Leaf, Branch}
 use Rattle.hx_ebtree.specs.declared.node.Up.{Up}
 use Rattle.hx_ebtree.specs.declared.node.Node.{Node}
 use Rattle.hx_ebtree.specs.Node.{key_of}
-use Rattle.hx_ebtree.specs.Bits.{bits_of}
+use Rattle.hx_ebtree.specs.Bits.{bits_of, code_of}
 use Rattle.hx_ebtree.specs.KeyList.{KeyList, IsOff}
 use Rattle.hx_ebtree.specs.Shape.{Shape, leaf, fork, holders, all_of, none_of, nothing_of, only_of, LeafPart, Leaves, Forks, links_in, HangsAt}
 use Rattle.hx_ebtree.specs.ShapeContext.{ShapeContext, root, on_left, on_right, plug, hole_up, SurroundsAt}
 use Rattle.hx_ebtree.specs.Change.{node_of, PutsLeaf, Pushes, PutsFork}
 use Rattle.hx_ebtree.specs.Tree.{leaf_part, leaves_of, forks_of, StandsAs}
 use Rattle.hx_ebtree.specs.Seat.{IsSame, IsBeside}
+use Rattle.hx_ebtree.proofs.BitLemmas.{code_length}
+use Rattle.hx_ebtree.proofs.CodeLemmas.{prefix_length}
 use Rattle.hx_ebtree.proofs.ShapeLemmas.{plug_in}
 use Rattle.hx_ebtree.proofs.ChangeLemmas.{down_leaf, down_branch, hole_in}
 use Rattle.hx_ebtree.proofs.WholeLemmas.{holder_number}
@@ -101,3 +103,8 @@ module _ {V : Type 0} where
     pub beside_stands : (at : Down) (up : Option Up) (bit : ℕ) (right : Bool) → IsBeside (leaves_of p) (forks_of p) at_root pairs key at up bit right → PutsFork (leaves_of p) (forks_of p) at_root (leaves_of q) (forks_of q) root' id at up bit right → StandsWith
     beside_stands at up bit right r put = stands_beside (leaves_of p) (forks_of p) at_root (leaves_of q) (forks_of q) root' pairs (key_of node) id (leaf_part node) here refl off at up bit right
         (subst (λ k. IsBeside (leaves_of p) (forks_of p) at_root pairs k at up bit right) key_is r) put
+
+-- where the codes part is within the key's
+pub beside_within : (f : Leaves) (g : Forks) (at_root : Option Down) (pairs : KeyList) (key : List Bool) (at : Down) (up : Option Up) (bit : ℕ) (right : Bool) → IsBeside f g at_root pairs key at up bit right → bit < 2 * length key + 1
+beside_within f g at_root pairs key at up bit right r =
+    omega (arith, r.long, prefix_length (r.shared ++ right ∷ []) (code_of key) r.leads, length-append r.shared (right ∷ []), code_length key)

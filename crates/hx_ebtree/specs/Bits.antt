@@ -1,5 +1,5 @@
 -- Keys as lists of bits, and the codes of which none is a prefix of another.
-use Rattle.std.specs.Prelude.{◌≡◌, ℕ, zero, suc, ◌+◌, ◌-◌, ◌/◌, ◌%◌, ◌^◌, ◌==◌, ◌<◌, ◌≤◌, Bool, true, false, if◌then◌else◌, List, [], ◌∷◌, ◌++◌, Option, Some, None, slice_index_or}
+use Rattle.std.specs.Prelude.{◌≡◌, ℕ, zero, suc, ◌+◌, ◌-◌, ◌*◌, ◌/◌, ◌%◌, ◌^◌, ◌==◌, ◌<◌, ◌≤◌, Bool, true, false, if◌then◌else◌, List, [], ◌∷◌, ◌++◌, length, Option, Some, None, slice_index_or}
 use Rattle.std.specs.Option.{option_map}
 
 -- bit i of the bytes, the highest bit of each byte first
@@ -19,6 +19,11 @@ pub record HaveInCommon (a : List ℕ) (a_bits : ℕ) (b : List ℕ) (b_bits cou
   pub first : count ≤ a_bits
   pub second : count ≤ b_bits
   pub bits : (i : ℕ) → i < count → bit_of a i ≡ bit_of b i
+
+-- a key is so many bits of the bytes, and fewer than 2^62
+pub record IsKey (bytes : List ℕ) (bits : ℕ) : Type 0 where
+  pub enough : bits ≤ 8 * length bytes
+  pub few : bits < 2 ^ 62
 
 -- a bit that says whether a bit of the key follows, before each bit, and one that says that none
 -- does

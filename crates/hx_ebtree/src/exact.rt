@@ -58,11 +58,12 @@ impl Tree {
                         Some(branch) => branch,
                         None => unreachable!(),
                     };
-                    if branch.bit > bits as u128 * 2 {
+                    let limit = u128::from(branch.bit);
+                    if limit > bits as u128 * 2 {
                         return None;
                     }
-                    at = side(branch, code_bit(key, bits, branch.bit));
-                    depth = branch.bit + 1;
+                    at = side(branch, code_bit(key, bits, limit));
+                    depth = limit + 1;
                 }
             }
         }

@@ -84,7 +84,7 @@ fn push_same<V, L: Ledger>(pool: &mut Pool<Node<V>>, front: usize, id: usize, st
 }
 
 /// The branch part of a node whose leaf is on one side, with `at` on the other.
-fn fork(id: usize, at: Down, up: Option<Up>, bit: u128, right: bool) -> Branch
+fn fork(id: usize, at: Down, up: Option<Up>, bit: u64, right: bool) -> Branch
     ensures { result ≡ fork_of id at up bit right }
 {
     if right {
@@ -112,7 +112,7 @@ impl Tree {
         id: usize,
         at: Down,
         up: Option<Up>,
-        bit: u128,
+        bit: u64,
         right: bool,
         steps: &mut Steps<L>,
     )
@@ -173,7 +173,7 @@ impl Tree {
             }
             Some(Seat::Same(front)) => push_same(pool, front, id, steps),
             Some(Seat::Beside { at, up, bit, right }) => {
-                self.put_fork(pool, id, at, up, bit, right, steps)
+                self.put_fork(pool, id, at, up, bit as u64, right, steps)
             }
         }
     }

@@ -1,9 +1,13 @@
-ghost use Rattle.std.specs.Prelude.{◌≡◌, ◌*◌, ◌≤◌, IfOk, length};
+ghost use Rattle.std.specs.Prelude.{◌≡◌, ◌*◌, ◌^◌, ◌<◌, ◌≤◌, IfOk, length};
 ghost use Rattle.hx_ebtree.specs.Bits.{bits_of};
 
 use hx_text::NoMemory;
 use std::alloc::Global;
 use std::marker::Model;
+
+/// Keys of so many bits and more are refused, as where memory runs out, so that each position in a
+/// code has 64 bits.
+const TOO_MANY_BITS: usize = 0x4000_0000_0000_0000;
 
 /// A key of bits. Contracts see the list of its bits.
 #[derive(Debug, Drop)]
@@ -13,14 +17,14 @@ pub struct BitKey {
 }
 
 impl Model for BitKey {
-    ghost use Rattle.std.specs.Prelude.{List, Bool, ◌*◌, ◌≤◌, length};
-    ghost use Rattle.hx_ebtree.specs.Bits.{bits_of};
+    ghost use Rattle.std.specs.Prelude.{List, Bool};
+    ghost use Rattle.hx_ebtree.specs.Bits.{bits_of, IsKey};
 
     ghost Value = { List Bool };
 
     ghost view = { λ key. bits_of key.bytes.items key.bits };
 
-    ghost invariant = { λ key. key.bits ≤ 8 * length key.bytes.items };
+    ghost invariant = { λ key. IsKey key.bytes.items key.bits };
 }
 
 impl BitKey {
@@ -30,6 +34,9 @@ impl BitKey {
         requires { bits ≤ 8 * length bytes.now }
         ensures { IfOk result (λ key. key ≡ bits_of bytes.now bits) }
     {
+        if bits >= TOO_MANY_BITS {
+            return Err(NoMemory);
+        }
         Ok(BitKey {
             bytes: Vec::from_slice(alloc, bytes)?,
             bits,
@@ -40,6 +47,7 @@ impl BitKey {
     pub(crate) fn bytes(&self) -> &[u8]
         ensures bits { bits_of result.now (length self.now) ≡ self.now }
         ensures enough { length self.now ≤ 8 * length result.now }
+        ensures few { length self.now < 2 ^ 62 }
     {
         self.bytes.as_slice()
     }

@@ -79,6 +79,7 @@ impl Tree {
                         Some(branch) => branch,
                         None => unreachable!(),
                     };
+                    let limit = u128::from(branch.bit);
                     let from = (depth / 2) as usize;
                     let found = split_before(
                         key,
@@ -86,15 +87,15 @@ impl Tree {
                         node.key.bytes(),
                         node.key.len(),
                         from,
-                        branch.bit,
+                        limit,
                     );
                     match found {
                         Some(_) => return best,
                         None => {
-                            let right = code_bit(key, bits, branch.bit);
+                            let right = code_bit(key, bits, limit);
                             best = better(&branch, right, best);
                             at = side(&branch, right);
-                            depth = branch.bit + 1;
+                            depth = limit + 1;
                         }
                     }
                 }

@@ -23,7 +23,7 @@ pub(crate) struct Up {
 /// none at the root.
 #[derive(Clone, Copy, Debug)]
 pub(crate) struct Branch {
-    pub(crate) bit: u128,
+    pub(crate) bit: u64,
     pub(crate) left: Down,
     pub(crate) right: Down,
     pub(crate) up: Option<Up>,
@@ -33,15 +33,17 @@ pub(crate) struct Branch {
 ///
 /// Nodes of one key are a chain, the oldest first. The first of them keeps the chain, and is the
 /// leaf.
+///
+/// What the way down reads comes first, so that it lies together.
 #[derive(Debug, Drop)]
 pub struct Node<V> {
+    pub(crate) branch: Option<Branch>,
     pub(crate) key: BitKey,
+    links: Links,
+    pub(crate) leaf_up: Option<Up>,
+    pub(crate) chain: Chain,
     entry: usize,
     value: V,
-    links: Links,
-    pub(crate) chain: Chain,
-    pub(crate) leaf_up: Option<Up>,
-    pub(crate) branch: Option<Branch>,
 }
 
 impl<V> Node<V> {

@@ -87,6 +87,7 @@ impl Tree {
                         Some(branch) => branch,
                         None => unreachable!(),
                     };
+                    let limit = u128::from(branch.bit);
                     let from = (depth / 2) as usize;
                     let found = split_before(
                         key,
@@ -94,7 +95,7 @@ impl Tree {
                         node.key.bytes(),
                         node.key.len(),
                         from,
-                        branch.bit,
+                        limit,
                     );
                     match found {
                         Some(bit) => {
@@ -102,10 +103,10 @@ impl Tree {
                             return Some(Seat::Beside { at, up, bit, right });
                         }
                         None => {
-                            let right = code_bit(key, bits, branch.bit);
+                            let right = code_bit(key, bits, limit);
                             up = Some(Up { node: id, right });
                             at = side(&branch, right);
-                            depth = branch.bit + 1;
+                            depth = limit + 1;
                         }
                     }
                 }

@@ -6,5 +6,10 @@ returns-clause-bits c = rw (← c.self.view_is, bits_length, c.as_slice.ensures.
 
 pub returns-clause-enough : goal.returns-clause-enough
 returns-clause-enough c =
-    let fits = c.self.invariant in
+    let fits = c.self.invariant.enough in
     rw (← c.self.view_is, bits_length, c.as_slice.ensures.value) fits
+
+pub returns-clause-few : goal.returns-clause-few
+returns-clause-few c =
+    let few = c.self.invariant.few in
+    rw (← c.self.view_is, bits_length) few

@@ -1,4 +1,4 @@
-use Rattle.std.proofs.Common.{◌∙◌, sym, ap, arith}
+use Rattle.std.proofs.Common.{◌≡◌, ◌∙◌, sym, ap, arith}
 use Rattle.hx_ebtree.specs.declared.node.Down.TheVariants.{Leaf, Branch}
 use Rattle.hx_ebtree.specs.Bits.{bits_of}
 use Rattle.hx_ebtree.specs.KeyList.{is_same_key}
@@ -52,30 +52,33 @@ unreachable-requires g c =
     let r : IsOnWayTo (leaves_of c.args.pool.now) (forks_of c.args.pool.now) s.0 (bits_of c.args.key.now c.args.bits) (Branch c.in-Branch.id) c.loop-at.depth = rw c.in-Branch.is at (c.loop-at.invariant.reached s.0 s.1) in
     way_fork_has c.args.pool.now s.0 (bits_of c.args.key.now c.args.bits) c.in-Branch.id c.loop-at.depth c.get-node-in-Branch.result.now c.get-node-in-Branch.ensures.value c.in-None-branch.is r
 
-pub returns-then-branch-bits-clause-found : goal.returns-then-branch-bits-clause-found
-returns-then-branch-bits-clause-found g c pairs stands =
+pub returns-then-limit-bits-clause-found : goal.returns-then-limit-bits-clause-found
+returns-then-limit-bits-clause-found g c pairs stands =
+    let limit_is : c.from-limit.result ≡ c.in-Some-branch.branch.bit = c.from-limit.ensures in
     let r : IsOnWayTo (leaves_of c.args.pool.now) (forks_of c.args.pool.now) pairs (bits_of c.args.key.now c.args.bits) (Branch c.in-Branch.id) c.loop-at.depth = rw c.in-Branch.is at (c.loop-at.invariant.reached pairs stands) in
-    let past = c.if-branch-bits.true in let long = bits_length c.args.key.now c.args.bits in
+    let past = c.if-limit-bits.true in let long = bits_length c.args.key.now c.args.bits in
     key_ends_above (leaves_of c.args.pool.now) (forks_of c.args.pool.now) pairs (bits_of c.args.key.now c.args.bits) c.in-Branch.id c.loop-at.depth r c.in-Some-branch.branch (fork_seen c.args.pool.now c.in-Branch.id c.get-node-in-Branch.result.now c.get-node-in-Branch.ensures.value ∙ c.in-Some-branch.is) (omega arith)
 
 pub loop-at-smaller : goal.loop-at-smaller
 loop-at-smaller g c =
+    let limit_is : c.from-limit.result ≡ c.in-Some-branch.branch.bit = c.from-limit.ensures in
     let s = c.requires.stands in
     let r : IsOnWayTo (leaves_of c.args.pool.now) (forks_of c.args.pool.now) s.0 (bits_of c.args.key.now c.args.bits) (Branch c.in-Branch.id) c.loop-at.depth = rw c.in-Branch.is at (c.loop-at.invariant.reached s.0 s.1) in
     let deep = way_is_deeper (leaves_of c.args.pool.now) (forks_of c.args.pool.now) s.0 (bits_of c.args.key.now c.args.bits) c.in-Branch.id c.loop-at.depth r c.in-Some-branch.branch (fork_seen c.args.pool.now c.in-Branch.id c.get-node-in-Branch.result.now c.get-node-in-Branch.ensures.value ∙ c.in-Some-branch.is) in
-    let within = c.if-branch-bits.false in
+    let within = c.if-limit-bits.false in
     omega arith
 
 pub loop-at-preserved : goal.loop-at-preserved
 loop-at-preserved g c =
+    let limit_is : c.from-limit.result ≡ c.in-Some-branch.branch.bit = c.from-limit.ensures in
     let s = c.requires.stands in
     let r : IsOnWayTo (leaves_of c.args.pool.now) (forks_of c.args.pool.now) s.0 (bits_of c.args.key.now c.args.bits) (Branch c.in-Branch.id) c.loop-at.depth = rw c.in-Branch.is at (c.loop-at.invariant.reached s.0 s.1) in
     let deep = way_is_deeper (leaves_of c.args.pool.now) (forks_of c.args.pool.now) s.0 (bits_of c.args.key.now c.args.bits) c.in-Branch.id c.loop-at.depth r c.in-Some-branch.branch (fork_seen c.args.pool.now c.in-Branch.id c.get-node-in-Branch.result.now c.get-node-in-Branch.ensures.value ∙ c.in-Some-branch.is) in
-    let within = c.if-branch-bits.false in
+    let within = c.if-limit-bits.false in
     record {
       reached = λ pairs stands.
           let r : IsOnWayTo (leaves_of c.args.pool.now) (forks_of c.args.pool.now) pairs (bits_of c.args.key.now c.args.bits) (Branch c.in-Branch.id) c.loop-at.depth = rw c.in-Branch.is at (c.loop-at.invariant.reached pairs stands) in
-          rw c.side-at.ensures (way_goes_on (leaves_of c.args.pool.now) (forks_of c.args.pool.now) pairs (bits_of c.args.key.now c.args.bits) c.in-Branch.id c.loop-at.depth r c.in-Some-branch.branch (fork_seen c.args.pool.now c.in-Branch.id c.get-node-in-Branch.result.now c.get-node-in-Branch.ensures.value ∙ c.in-Some-branch.is) c.code_bit.result c.code_bit.ensures);
+          rw (c.side-at.ensures, limit_is) (way_goes_on (leaves_of c.args.pool.now) (forks_of c.args.pool.now) pairs (bits_of c.args.key.now c.args.bits) c.in-Branch.id c.loop-at.depth r c.in-Some-branch.branch (fork_seen c.args.pool.now c.in-Branch.id c.get-node-in-Branch.result.now c.get-node-in-Branch.ensures.value ∙ c.in-Some-branch.is) c.code_bit.result (rw limit_is at c.code_bit.ensures));
       depth = omega arith;
       cost = omega arith;
     }

@@ -1,9 +1,10 @@
-use Rattle.std.proofs.Common.{refl, Some, None}
+use Rattle.std.proofs.Common.{refl, Some, None, arith}
 use Rattle.hx_ebtree.specs.declared.node.Down.TheVariants.{Leaf}
 use Rattle.hx_ebtree.specs.Bits.{bits_of}
 use Rattle.hx_ebtree.specs.Tree.{leaves_of, forks_of, StandsAs}
 use Rattle.hx_ebtree.specs.Seat.{IsSame, IsBeside}
-use Rattle.hx_ebtree.proofs.InsertSteps.{off_chain, off_at, off_up, same_lies, at_live, up_live, sought, alone_stands, same_stands, beside_stands}
+use Rattle.hx_ebtree.proofs.InsertSteps.{off_chain, off_at, off_up, same_lies, at_live, up_live, sought, alone_stands, same_stands, beside_stands, beside_within}
+use Rattle.hx_ebtree.proofs.BitLemmas.{bits_length}
 use Rattle.hx_ebtree.proofs.FrameLemmas.{chain_frame, tree_frame}
 use Rattle.hx_ebtree.proofs.tree.Tree.insert.Goals as goal
 
@@ -76,3 +77,11 @@ returns-in-Some-Beside-clause-other_trees g c pairs others t stands off there ap
 pub returns-in-Some-Beside-clause-chains : goal.returns-in-Some-Beside-clause-chains
 returns-in-Some-Beside-clause-chains g c pairs chain xs stands off there apart =
     chain_frame c.args.pool.now c.put_fork.new.pool chain xs (λ k p. returns-in-Some-Beside-clause-others g c pairs stands off k (apart k p).0 (apart k p).1) there
+
+pub overflow_cast-bit : goal.overflow_cast-bit
+overflow_cast-bit g c =
+    let s = c.requires.stands in
+    let r : IsBeside (leaves_of c.args.pool.now) (forks_of c.args.pool.now) c.args.self.now.root s.0 (bits_of c.bytes.result.now c.len.result) c.in-Some-Beside.at c.in-Some-Beside.up c.in-Some-Beside.bit c.in-Some-Beside.right = rw (c.in-Some-Beside.is, c.in-Some-Beside.field-0-is) at (c.seek.ensures.seat s.0 s.1) in
+    let within = beside_within (leaves_of c.args.pool.now) (forks_of c.args.pool.now) c.args.self.now.root s.0 (bits_of c.bytes.result.now c.len.result) c.in-Some-Beside.at c.in-Some-Beside.up c.in-Some-Beside.bit c.in-Some-Beside.right r in
+    let long = bits_length c.bytes.result.now c.len.result in let counted = c.len.ensures in let few = c.bytes.ensures.few in
+    record { fits = omega arith }

@@ -1,4 +1,4 @@
-use Rattle.std.proofs.Common.{◌∙◌, sym, ap, arith, Some, None}
+use Rattle.std.proofs.Common.{◌≡◌, ◌∙◌, sym, ap, arith, Some, None}
 use Rattle.hx_ebtree.specs.declared.node.Down.TheVariants.{Leaf, Branch}
 use Rattle.hx_ebtree.specs.Bits.{bits_of, split_of}
 use Rattle.hx_ebtree.specs.Tree.{leaves_of, forks_of}
@@ -52,22 +52,26 @@ unreachable-requires g c =
 
 pub returns-in-Some-found-clause-found : goal.returns-in-Some-found-clause-found
 returns-in-Some-found-clause-found g c pairs stands =
+    let limit_is : c.from-limit.result ≡ c.in-Some-branch.branch.bit = c.from-limit.ensures in
+    let found = rw limit_is at c.split_before-found.ensures in
     let w : IsOnWay (leaves_of c.args.pool.now) (forks_of c.args.pool.now) c.args.self.now.root pairs (bits_of c.args.key.now c.args.bits) (Branch c.in-Branch.id) c.loop-at.depth c.loop-at.best = rw c.in-Branch.is at (c.loop-at.invariant.reached pairs stands) in
     let n = c.get-node-in-Branch.result.now in
     longest_is pairs (bits_of c.args.key.now c.args.bits) c.loop-at.best
     (end_at_split (leaves_of c.args.pool.now) (forks_of c.args.pool.now) c.args.self.now.root pairs (bits_of c.args.key.now c.args.bits) c.in-Branch.id c.loop-at.depth c.loop-at.best w n.key c.in-Some-branch.branch
     (fork_read c.args.pool.now c.args.self.now.root pairs (bits_of c.args.key.now c.args.bits) w.up c.in-Branch.id c.loop-at.depth w.reach n c.get-node-in-Branch.ensures.value c.in-Some-branch.branch c.in-Some-branch.is) c.in-Some-found.field-0
     (parts_at c.args.pool.now c.args.self.now.root pairs (bits_of c.args.key.now c.args.bits) w.up c.in-Branch.id c.loop-at.depth w.reach n c.get-node-in-Branch.ensures.value c.in-Some-branch.branch c.in-Some-branch.is
-    c.bytes-in-Branch.result.now c.len-in-Branch.result c.bytes-in-Branch.ensures.bits c.len-in-Branch.ensures (Some c.in-Some-found.field-0) (sym c.in-Some-found.is ∙ c.split_before-found.ensures)))
+    c.bytes-in-Branch.result.now c.len-in-Branch.result c.bytes-in-Branch.ensures.bits c.len-in-Branch.ensures (Some c.in-Some-found.field-0) (sym c.in-Some-found.is ∙ found)))
 
 pub code_bit-right-requires-clause-at : goal.code_bit-right-requires-clause-at
 code_bit-right-requires-clause-at g c =
+    let limit_is : c.from-limit.result ≡ c.in-Some-branch.branch.bit = c.from-limit.ensures in
+    let found = rw limit_is at c.split_before-found.ensures in
     let s = c.requires.stands in
     let w : IsOnWay (leaves_of c.args.pool.now) (forks_of c.args.pool.now) c.args.self.now.root s.0 (bits_of c.args.key.now c.args.bits) (Branch c.in-Branch.id) c.loop-at.depth c.loop-at.best = rw c.in-Branch.is at (c.loop-at.invariant.reached s.0 s.1) in
     let n = c.get-node-in-Branch.result.now in
     let on = goes_on c.args.pool.now c.args.self.now.root s.0 (bits_of c.args.key.now c.args.bits) w.up c.in-Branch.id c.loop-at.depth w.reach n c.get-node-in-Branch.ensures.value c.in-Some-branch.branch c.in-Some-branch.is
     (parts_at c.args.pool.now c.args.self.now.root s.0 (bits_of c.args.key.now c.args.bits) w.up c.in-Branch.id c.loop-at.depth w.reach n c.get-node-in-Branch.ensures.value c.in-Some-branch.branch c.in-Some-branch.is
-    c.bytes-in-Branch.result.now c.len-in-Branch.result c.bytes-in-Branch.ensures.bits c.len-in-Branch.ensures None (sym c.in-None-found.is ∙ c.split_before-found.ensures)) in
+    c.bytes-in-Branch.result.now c.len-in-Branch.result c.bytes-in-Branch.ensures.bits c.len-in-Branch.ensures None (sym c.in-None-found.is ∙ found)) in
     let deep = on.0 in
     let fits = on.1 in
     let long = bits_length c.args.key.now c.args.bits in
@@ -75,12 +79,14 @@ code_bit-right-requires-clause-at g c =
 
 pub overflow_add-depth : goal.overflow_add-depth
 overflow_add-depth g c =
+    let limit_is : c.from-limit.result ≡ c.in-Some-branch.branch.bit = c.from-limit.ensures in
+    let found = rw limit_is at c.split_before-found.ensures in
     let s = c.requires.stands in
     let w : IsOnWay (leaves_of c.args.pool.now) (forks_of c.args.pool.now) c.args.self.now.root s.0 (bits_of c.args.key.now c.args.bits) (Branch c.in-Branch.id) c.loop-at.depth c.loop-at.best = rw c.in-Branch.is at (c.loop-at.invariant.reached s.0 s.1) in
     let n = c.get-node-in-Branch.result.now in
     let on = goes_on c.args.pool.now c.args.self.now.root s.0 (bits_of c.args.key.now c.args.bits) w.up c.in-Branch.id c.loop-at.depth w.reach n c.get-node-in-Branch.ensures.value c.in-Some-branch.branch c.in-Some-branch.is
     (parts_at c.args.pool.now c.args.self.now.root s.0 (bits_of c.args.key.now c.args.bits) w.up c.in-Branch.id c.loop-at.depth w.reach n c.get-node-in-Branch.ensures.value c.in-Some-branch.branch c.in-Some-branch.is
-    c.bytes-in-Branch.result.now c.len-in-Branch.result c.bytes-in-Branch.ensures.bits c.len-in-Branch.ensures None (sym c.in-None-found.is ∙ c.split_before-found.ensures)) in
+    c.bytes-in-Branch.result.now c.len-in-Branch.result c.bytes-in-Branch.ensures.bits c.len-in-Branch.ensures None (sym c.in-None-found.is ∙ found)) in
     let deep = on.0 in
     let fits = on.1 in
     let long = bits_length c.args.key.now c.args.bits in
@@ -89,12 +95,14 @@ overflow_add-depth g c =
 
 pub loop-at-smaller : goal.loop-at-smaller
 loop-at-smaller g c =
+    let limit_is : c.from-limit.result ≡ c.in-Some-branch.branch.bit = c.from-limit.ensures in
+    let found = rw limit_is at c.split_before-found.ensures in
     let s = c.requires.stands in
     let w : IsOnWay (leaves_of c.args.pool.now) (forks_of c.args.pool.now) c.args.self.now.root s.0 (bits_of c.args.key.now c.args.bits) (Branch c.in-Branch.id) c.loop-at.depth c.loop-at.best = rw c.in-Branch.is at (c.loop-at.invariant.reached s.0 s.1) in
     let n = c.get-node-in-Branch.result.now in
     let on = goes_on c.args.pool.now c.args.self.now.root s.0 (bits_of c.args.key.now c.args.bits) w.up c.in-Branch.id c.loop-at.depth w.reach n c.get-node-in-Branch.ensures.value c.in-Some-branch.branch c.in-Some-branch.is
     (parts_at c.args.pool.now c.args.self.now.root s.0 (bits_of c.args.key.now c.args.bits) w.up c.in-Branch.id c.loop-at.depth w.reach n c.get-node-in-Branch.ensures.value c.in-Some-branch.branch c.in-Some-branch.is
-    c.bytes-in-Branch.result.now c.len-in-Branch.result c.bytes-in-Branch.ensures.bits c.len-in-Branch.ensures None (sym c.in-None-found.is ∙ c.split_before-found.ensures)) in
+    c.bytes-in-Branch.result.now c.len-in-Branch.result c.bytes-in-Branch.ensures.bits c.len-in-Branch.ensures None (sym c.in-None-found.is ∙ found)) in
     let deep = on.0 in
     let fits = on.1 in
     let long = bits_length c.args.key.now c.args.bits in
@@ -102,12 +110,14 @@ loop-at-smaller g c =
 
 pub loop-at-preserved : goal.loop-at-preserved
 loop-at-preserved g c =
+    let limit_is : c.from-limit.result ≡ c.in-Some-branch.branch.bit = c.from-limit.ensures in
+    let found = rw limit_is at c.split_before-found.ensures in
     let s = c.requires.stands in
     let w : IsOnWay (leaves_of c.args.pool.now) (forks_of c.args.pool.now) c.args.self.now.root s.0 (bits_of c.args.key.now c.args.bits) (Branch c.in-Branch.id) c.loop-at.depth c.loop-at.best = rw c.in-Branch.is at (c.loop-at.invariant.reached s.0 s.1) in
     let n = c.get-node-in-Branch.result.now in
     let on = goes_on c.args.pool.now c.args.self.now.root s.0 (bits_of c.args.key.now c.args.bits) w.up c.in-Branch.id c.loop-at.depth w.reach n c.get-node-in-Branch.ensures.value c.in-Some-branch.branch c.in-Some-branch.is
     (parts_at c.args.pool.now c.args.self.now.root s.0 (bits_of c.args.key.now c.args.bits) w.up c.in-Branch.id c.loop-at.depth w.reach n c.get-node-in-Branch.ensures.value c.in-Some-branch.branch c.in-Some-branch.is
-    c.bytes-in-Branch.result.now c.len-in-Branch.result c.bytes-in-Branch.ensures.bits c.len-in-Branch.ensures None (sym c.in-None-found.is ∙ c.split_before-found.ensures)) in
+    c.bytes-in-Branch.result.now c.len-in-Branch.result c.bytes-in-Branch.ensures.bits c.len-in-Branch.ensures None (sym c.in-None-found.is ∙ found)) in
     let deep = on.0 in
     let fits = on.1 in
     let long = bits_length c.args.key.now c.args.bits in
@@ -115,11 +125,11 @@ loop-at-preserved g c =
       reached = λ pairs stands.
           let w : IsOnWay (leaves_of c.args.pool.now) (forks_of c.args.pool.now) c.args.self.now.root pairs (bits_of c.args.key.now c.args.bits) (Branch c.in-Branch.id) c.loop-at.depth c.loop-at.best = rw c.in-Branch.is at (c.loop-at.invariant.reached pairs stands) in
           let n = c.get-node-in-Branch.result.now in
-          rw (c.side-at.ensures, c.better-best.ensures) (step_way (leaves_of c.args.pool.now) (forks_of c.args.pool.now) c.args.self.now.root pairs (bits_of c.args.key.now c.args.bits) c.in-Branch.id c.loop-at.depth c.loop-at.best w n.key c.in-Some-branch.branch
+          rw (c.side-at.ensures, c.better-best.ensures, limit_is) (step_way (leaves_of c.args.pool.now) (forks_of c.args.pool.now) c.args.self.now.root pairs (bits_of c.args.key.now c.args.bits) c.in-Branch.id c.loop-at.depth c.loop-at.best w n.key c.in-Some-branch.branch
           (fork_read c.args.pool.now c.args.self.now.root pairs (bits_of c.args.key.now c.args.bits) w.up c.in-Branch.id c.loop-at.depth w.reach n c.get-node-in-Branch.ensures.value c.in-Some-branch.branch c.in-Some-branch.is)
           (parts_at c.args.pool.now c.args.self.now.root pairs (bits_of c.args.key.now c.args.bits) w.up c.in-Branch.id c.loop-at.depth w.reach n c.get-node-in-Branch.ensures.value c.in-Some-branch.branch c.in-Some-branch.is
-          c.bytes-in-Branch.result.now c.len-in-Branch.result c.bytes-in-Branch.ensures.bits c.len-in-Branch.ensures None (sym c.in-None-found.is ∙ c.split_before-found.ensures))
-          c.code_bit-right.result c.code_bit-right.ensures);
+          c.bytes-in-Branch.result.now c.len-in-Branch.result c.bytes-in-Branch.ensures.bits c.len-in-Branch.ensures None (sym c.in-None-found.is ∙ found))
+          c.code_bit-right.result (rw limit_is at c.code_bit-right.ensures));
       depth = omega arith;
       cost = omega arith;
     }
@@ -133,6 +143,7 @@ split-found-requires-clause-from g c =
 
 pub split_before-found-requires-clause-from : goal.split_before-found-requires-clause-from
 split_before-found-requires-clause-from g c =
+    let limit_is : c.from-limit.result ≡ c.in-Some-branch.branch.bit = c.from-limit.ensures in
     let s = c.requires.stands in
     let w : IsOnWay (leaves_of c.args.pool.now) (forks_of c.args.pool.now) c.args.self.now.root s.0 (bits_of c.args.key.now c.args.bits) (Branch c.in-Branch.id) c.loop-at.depth c.loop-at.best = rw c.in-Branch.is at (c.loop-at.invariant.reached s.0 s.1) in
     fork_common c.args.pool.now c.args.self.now.root s.0 c.args.key.now c.args.bits w.up c.in-Branch.id c.loop-at.depth c.get-node-in-Branch.result.now c.get-node-in-Branch.ensures.value
@@ -140,6 +151,7 @@ split_before-found-requires-clause-from g c =
 
 pub split_before-found-requires-clause-limit : goal.split_before-found-requires-clause-limit
 split_before-found-requires-clause-limit g c =
+    let limit_is : c.from-limit.result ≡ c.in-Some-branch.branch.bit = c.from-limit.ensures in
     let s = c.requires.stands in
     let w : IsOnWay (leaves_of c.args.pool.now) (forks_of c.args.pool.now) c.args.self.now.root s.0 (bits_of c.args.key.now c.args.bits) (Branch c.in-Branch.id) c.loop-at.depth c.loop-at.best = rw c.in-Branch.is at (c.loop-at.invariant.reached s.0 s.1) in
     let deep = fork_deep c.args.pool.now c.args.self.now.root s.0 c.args.key.now c.args.bits w.up c.in-Branch.id c.loop-at.depth c.get-node-in-Branch.result.now c.get-node-in-Branch.ensures.value w.reach c.in-Some-branch.branch c.in-Some-branch.is in

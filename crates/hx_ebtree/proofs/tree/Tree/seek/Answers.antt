@@ -1,4 +1,4 @@
-use Rattle.std.proofs.Common.{◌∙◌, sym, ap, arith, Some, None}
+use Rattle.std.proofs.Common.{◌≡◌, ◌∙◌, sym, ap, arith, Some, None}
 use Rattle.hx_ebtree.specs.declared.node.Down.TheVariants.{Branch}
 use Rattle.hx_ebtree.specs.Bits.{bits_of, split_of}
 use Rattle.hx_ebtree.specs.Tree.{leaves_of, forks_of}
@@ -50,30 +50,36 @@ unreachable-requires g c =
 
 pub code_bit-right-requires-clause-at : goal.code_bit-right-requires-clause-at
 code_bit-right-requires-clause-at g c =
-    let s = before_some c.in-Some-branch.branch.bit c.in-Some-found.bit _ (sym c.in-Some-found.is ∙ c.split_before-found.ensures) in
+    let limit_is : c.from-limit.result ≡ c.in-Some-branch.branch.bit = c.from-limit.ensures in
+    let found = rw limit_is at c.split_before-found.ensures in
+    let s = before_some c.in-Some-branch.branch.bit c.in-Some-found.bit _ (sym c.in-Some-found.is ∙ found) in
     let fits = split_fits (bits_of c.args.key.now c.args.bits) _ c.in-Some-found.bit s.0 in
     let long = bits_length c.args.key.now c.args.bits in
     omega arith
 
 pub returns-in-Some-found-clause-seat : goal.returns-in-Some-found-clause-seat
 returns-in-Some-found-clause-seat g c pairs stands =
+    let limit_is : c.from-limit.result ≡ c.in-Some-branch.branch.bit = c.from-limit.ensures in
+    let found = rw limit_is at c.split_before-found.ensures in
     let r : Reaches (leaves_of c.args.pool.now) (forks_of c.args.pool.now) c.args.self.now.root pairs (bits_of c.args.key.now c.args.bits) c.loop-at.up (Branch c.in-Branch.id) c.loop-at.depth = rw c.in-Branch.is at (c.loop-at.invariant.reached pairs stands) in
     let n = c.get-node-in-Branch.result.now in
     seat_at_fork (leaves_of c.args.pool.now) (forks_of c.args.pool.now) c.args.self.now.root pairs (bits_of c.args.key.now c.args.bits) c.loop-at.up c.in-Branch.id c.loop-at.depth r n.key c.in-Some-branch.branch
     (fork_read c.args.pool.now c.args.self.now.root pairs (bits_of c.args.key.now c.args.bits) c.loop-at.up c.in-Branch.id c.loop-at.depth r n c.get-node-in-Branch.ensures.value c.in-Some-branch.branch c.in-Some-branch.is)
     c.in-Some-found.bit
     (parts_at c.args.pool.now c.args.self.now.root pairs (bits_of c.args.key.now c.args.bits) c.loop-at.up c.in-Branch.id c.loop-at.depth r n c.get-node-in-Branch.ensures.value c.in-Some-branch.branch c.in-Some-branch.is
-    c.bytes-in-Branch.result.now c.len-in-Branch.result c.bytes-in-Branch.ensures.bits c.len-in-Branch.ensures (Some c.in-Some-found.bit) (sym c.in-Some-found.is ∙ c.split_before-found.ensures))
+    c.bytes-in-Branch.result.now c.len-in-Branch.result c.bytes-in-Branch.ensures.bits c.len-in-Branch.ensures (Some c.in-Some-found.bit) (sym c.in-Some-found.is ∙ found))
     c.code_bit-right.result c.code_bit-right.ensures
 
 pub code_bit-right-requires-in-None-found-clause-at : goal.code_bit-right-requires-in-None-found-clause-at
 code_bit-right-requires-in-None-found-clause-at g c =
+    let limit_is : c.from-limit.result ≡ c.in-Some-branch.branch.bit = c.from-limit.ensures in
+    let found = rw limit_is at c.split_before-found.ensures in
     let s = c.requires.stands in
     let n = c.get-node-in-Branch.result.now in
     let r : Reaches (leaves_of c.args.pool.now) (forks_of c.args.pool.now) c.args.self.now.root s.0 (bits_of c.args.key.now c.args.bits) c.loop-at.up (Branch c.in-Branch.id) c.loop-at.depth = rw c.in-Branch.is at (c.loop-at.invariant.reached s.0 s.1) in
     let on = goes_on c.args.pool.now c.args.self.now.root s.0 (bits_of c.args.key.now c.args.bits) c.loop-at.up c.in-Branch.id c.loop-at.depth r n c.get-node-in-Branch.ensures.value c.in-Some-branch.branch c.in-Some-branch.is
     (parts_at c.args.pool.now c.args.self.now.root s.0 (bits_of c.args.key.now c.args.bits) c.loop-at.up c.in-Branch.id c.loop-at.depth r n c.get-node-in-Branch.ensures.value c.in-Some-branch.branch c.in-Some-branch.is
-    c.bytes-in-Branch.result.now c.len-in-Branch.result c.bytes-in-Branch.ensures.bits c.len-in-Branch.ensures None (sym c.in-None-found.is ∙ c.split_before-found.ensures)) in
+    c.bytes-in-Branch.result.now c.len-in-Branch.result c.bytes-in-Branch.ensures.bits c.len-in-Branch.ensures None (sym c.in-None-found.is ∙ found)) in
     let deep = on.0 in
     let fits = on.1 in
     let long = bits_length c.args.key.now c.args.bits in
@@ -81,12 +87,14 @@ code_bit-right-requires-in-None-found-clause-at g c =
 
 pub overflow_add-depth : goal.overflow_add-depth
 overflow_add-depth g c =
+    let limit_is : c.from-limit.result ≡ c.in-Some-branch.branch.bit = c.from-limit.ensures in
+    let found = rw limit_is at c.split_before-found.ensures in
     let s = c.requires.stands in
     let n = c.get-node-in-Branch.result.now in
     let r : Reaches (leaves_of c.args.pool.now) (forks_of c.args.pool.now) c.args.self.now.root s.0 (bits_of c.args.key.now c.args.bits) c.loop-at.up (Branch c.in-Branch.id) c.loop-at.depth = rw c.in-Branch.is at (c.loop-at.invariant.reached s.0 s.1) in
     let on = goes_on c.args.pool.now c.args.self.now.root s.0 (bits_of c.args.key.now c.args.bits) c.loop-at.up c.in-Branch.id c.loop-at.depth r n c.get-node-in-Branch.ensures.value c.in-Some-branch.branch c.in-Some-branch.is
     (parts_at c.args.pool.now c.args.self.now.root s.0 (bits_of c.args.key.now c.args.bits) c.loop-at.up c.in-Branch.id c.loop-at.depth r n c.get-node-in-Branch.ensures.value c.in-Some-branch.branch c.in-Some-branch.is
-    c.bytes-in-Branch.result.now c.len-in-Branch.result c.bytes-in-Branch.ensures.bits c.len-in-Branch.ensures None (sym c.in-None-found.is ∙ c.split_before-found.ensures)) in
+    c.bytes-in-Branch.result.now c.len-in-Branch.result c.bytes-in-Branch.ensures.bits c.len-in-Branch.ensures None (sym c.in-None-found.is ∙ found)) in
     let deep = on.0 in
     let fits = on.1 in
     let long = bits_length c.args.key.now c.args.bits in
@@ -95,12 +103,14 @@ overflow_add-depth g c =
 
 pub loop-at-smaller : goal.loop-at-smaller
 loop-at-smaller g c =
+    let limit_is : c.from-limit.result ≡ c.in-Some-branch.branch.bit = c.from-limit.ensures in
+    let found = rw limit_is at c.split_before-found.ensures in
     let s = c.requires.stands in
     let n = c.get-node-in-Branch.result.now in
     let r : Reaches (leaves_of c.args.pool.now) (forks_of c.args.pool.now) c.args.self.now.root s.0 (bits_of c.args.key.now c.args.bits) c.loop-at.up (Branch c.in-Branch.id) c.loop-at.depth = rw c.in-Branch.is at (c.loop-at.invariant.reached s.0 s.1) in
     let on = goes_on c.args.pool.now c.args.self.now.root s.0 (bits_of c.args.key.now c.args.bits) c.loop-at.up c.in-Branch.id c.loop-at.depth r n c.get-node-in-Branch.ensures.value c.in-Some-branch.branch c.in-Some-branch.is
     (parts_at c.args.pool.now c.args.self.now.root s.0 (bits_of c.args.key.now c.args.bits) c.loop-at.up c.in-Branch.id c.loop-at.depth r n c.get-node-in-Branch.ensures.value c.in-Some-branch.branch c.in-Some-branch.is
-    c.bytes-in-Branch.result.now c.len-in-Branch.result c.bytes-in-Branch.ensures.bits c.len-in-Branch.ensures None (sym c.in-None-found.is ∙ c.split_before-found.ensures)) in
+    c.bytes-in-Branch.result.now c.len-in-Branch.result c.bytes-in-Branch.ensures.bits c.len-in-Branch.ensures None (sym c.in-None-found.is ∙ found)) in
     let deep = on.0 in
     let fits = on.1 in
     let long = bits_length c.args.key.now c.args.bits in
@@ -108,12 +118,14 @@ loop-at-smaller g c =
 
 pub loop-at-preserved : goal.loop-at-preserved
 loop-at-preserved g c =
+    let limit_is : c.from-limit.result ≡ c.in-Some-branch.branch.bit = c.from-limit.ensures in
+    let found = rw limit_is at c.split_before-found.ensures in
     let s = c.requires.stands in
     let n = c.get-node-in-Branch.result.now in
     let r : Reaches (leaves_of c.args.pool.now) (forks_of c.args.pool.now) c.args.self.now.root s.0 (bits_of c.args.key.now c.args.bits) c.loop-at.up (Branch c.in-Branch.id) c.loop-at.depth = rw c.in-Branch.is at (c.loop-at.invariant.reached s.0 s.1) in
     let on = goes_on c.args.pool.now c.args.self.now.root s.0 (bits_of c.args.key.now c.args.bits) c.loop-at.up c.in-Branch.id c.loop-at.depth r n c.get-node-in-Branch.ensures.value c.in-Some-branch.branch c.in-Some-branch.is
     (parts_at c.args.pool.now c.args.self.now.root s.0 (bits_of c.args.key.now c.args.bits) c.loop-at.up c.in-Branch.id c.loop-at.depth r n c.get-node-in-Branch.ensures.value c.in-Some-branch.branch c.in-Some-branch.is
-    c.bytes-in-Branch.result.now c.len-in-Branch.result c.bytes-in-Branch.ensures.bits c.len-in-Branch.ensures None (sym c.in-None-found.is ∙ c.split_before-found.ensures)) in
+    c.bytes-in-Branch.result.now c.len-in-Branch.result c.bytes-in-Branch.ensures.bits c.len-in-Branch.ensures None (sym c.in-None-found.is ∙ found)) in
     let deep = on.0 in
     let fits = on.1 in
     let long = bits_length c.args.key.now c.args.bits in
@@ -121,11 +133,11 @@ loop-at-preserved g c =
       reached = λ pairs stands.
           let r : Reaches (leaves_of c.args.pool.now) (forks_of c.args.pool.now) c.args.self.now.root pairs (bits_of c.args.key.now c.args.bits) c.loop-at.up (Branch c.in-Branch.id) c.loop-at.depth = rw c.in-Branch.is at (c.loop-at.invariant.reached pairs stands) in
           let n = c.get-node-in-Branch.result.now in
-          rw c.side-at.ensures ((step_down (leaves_of c.args.pool.now) (forks_of c.args.pool.now) c.args.self.now.root pairs (bits_of c.args.key.now c.args.bits) c.loop-at.up c.in-Branch.id c.loop-at.depth r n.key c.in-Some-branch.branch
+          rw (c.side-at.ensures, limit_is) ((step_down (leaves_of c.args.pool.now) (forks_of c.args.pool.now) c.args.self.now.root pairs (bits_of c.args.key.now c.args.bits) c.loop-at.up c.in-Branch.id c.loop-at.depth r n.key c.in-Some-branch.branch
           (fork_read c.args.pool.now c.args.self.now.root pairs (bits_of c.args.key.now c.args.bits) c.loop-at.up c.in-Branch.id c.loop-at.depth r n c.get-node-in-Branch.ensures.value c.in-Some-branch.branch c.in-Some-branch.is)
           (parts_at c.args.pool.now c.args.self.now.root pairs (bits_of c.args.key.now c.args.bits) c.loop-at.up c.in-Branch.id c.loop-at.depth r n c.get-node-in-Branch.ensures.value c.in-Some-branch.branch c.in-Some-branch.is
-          c.bytes-in-Branch.result.now c.len-in-Branch.result c.bytes-in-Branch.ensures.bits c.len-in-Branch.ensures None (sym c.in-None-found.is ∙ c.split_before-found.ensures))
-          c.code_bit-right-in-None-found.result c.code_bit-right-in-None-found.ensures).reach);
+          c.bytes-in-Branch.result.now c.len-in-Branch.result c.bytes-in-Branch.ensures.bits c.len-in-Branch.ensures None (sym c.in-None-found.is ∙ found))
+          c.code_bit-right-in-None-found.result (rw limit_is at c.code_bit-right-in-None-found.ensures)).reach);
       depth = omega arith;
       cost = omega arith;
     }
@@ -138,12 +150,14 @@ split-found-requires-clause-from g c =
 
 pub split_before-found-requires-clause-from : goal.split_before-found-requires-clause-from
 split_before-found-requires-clause-from g c =
+    let limit_is : c.from-limit.result ≡ c.in-Some-branch.branch.bit = c.from-limit.ensures in
     let s = c.requires.stands in
     fork_common c.args.pool.now c.args.self.now.root s.0 c.args.key.now c.args.bits c.loop-at.up c.in-Branch.id c.loop-at.depth c.get-node-in-Branch.result.now c.get-node-in-Branch.ensures.value
     c.bytes-in-Branch.result.now c.len-in-Branch.result c.bytes-in-Branch.ensures.bits c.len-in-Branch.ensures (rw c.in-Branch.is at (c.loop-at.invariant.reached s.0 s.1)) c.in-Some-branch.branch c.in-Some-branch.is
 
 pub split_before-found-requires-clause-limit : goal.split_before-found-requires-clause-limit
 split_before-found-requires-clause-limit g c =
+    let limit_is : c.from-limit.result ≡ c.in-Some-branch.branch.bit = c.from-limit.ensures in
     let s = c.requires.stands in
     let deep = fork_deep c.args.pool.now c.args.self.now.root s.0 c.args.key.now c.args.bits c.loop-at.up c.in-Branch.id c.loop-at.depth c.get-node-in-Branch.result.now c.get-node-in-Branch.ensures.value
     (rw c.in-Branch.is at (c.loop-at.invariant.reached s.0 s.1)) c.in-Some-branch.branch c.in-Some-branch.is in
