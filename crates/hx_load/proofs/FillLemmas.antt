@@ -17,7 +17,7 @@ use Rattle.hx_refs.specs.declared.RefFault.{RefFault}
 use Rattle.hx_spell.specs.TableSpecs.{HaveDistinctFiles}
 use Rattle.hx_spell.specs.declared.TableSpec.{TableSpec}
 use Rattle.hx_load.specs.Filling.{AsksOne, FillAsksLast, FillReadsLast, Filling, FillsHeld, FillsOne, HasPairs, IsFileOf, Reached, RefusesOne, pairs_of_text}
-use Rattle.hx_load.specs.References.{AreFilled, Filled, FillingAsksFor, FillingReads, HasFiles, Missing, Refused, Whole, after_fault, after_pairs, entry_code, filled_from, name_of, pairs_of_spec}
+use Rattle.hx_load.specs.References.{Filled, FillingAsksFor, FillingReads, HasFiles, Missing, Refused, Whole, after_fault, after_pairs, entry_code, filled_from, name_of, pairs_of_spec}
 use Rattle.hx_load.specs.declared.load_fault.LoadFault.{LoadFault}
 use Rattle.hx_load.specs.declared.load_fault.LoadFault.TheVariants as load
 
@@ -211,7 +211,7 @@ reach_by None specs old r left spec others now pairs (Some name) file_is f is di
           ∙ text_of_file spec name p.text pairs file_is p.are;
     }
 
-reach : (held : Option NamedBytes) (specs : List TableSpec) (old : References) (r : ℕ) (left : List TableSpec) (spec : TableSpec) (others : List TableSpec) (now : References) (pairs : List Pair)
+pub reach : (held : Option NamedBytes) (specs : List TableSpec) (old : References) (r : ℕ) (left : List TableSpec) (spec : TableSpec) (others : List TableSpec) (now : References) (pairs : List Pair)
     → Filling held specs old r left now → left ≡ spec ∷ others → HaveDistinctFiles specs → HasPairs held spec pairs
     → Reached held specs old r spec others now pairs
 reach held specs old r left spec others now pairs f is distinct p =

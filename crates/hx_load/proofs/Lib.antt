@@ -12,4 +12,5 @@ pub mod LoadLemmas
 pub mod LoadedLemmas
 pub mod LoadingLemmas
 pub mod NumberLemmas
+pub mod ReadLemmas
 pub mod StatementLemmas

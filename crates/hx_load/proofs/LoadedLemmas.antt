@@ -1,7 +1,5 @@
 -- Lemmas on what a configuration loads as, by what its lines, its numbers and its files come to.
-use Rattle.std.proofs.Common.{◌≡◌, ℕ, ◌+◌, suc, List, [], ◌∷◌, Option, None, Some, Result, Ok, Err, IsSomeAnd, inl, inr, length, refl, sym, ap, ◌∙◌, subst, cond, Bool, true, false, ◌&&◌, ◌||◌}
-use Rattle.std.specs.Prelude.{is_none, is_some, not}
-use Rattle.std.specs.List.{list_all}
+use Rattle.std.proofs.Common.{◌≡◌, ℕ, ◌+◌, suc, List, [], ◌∷◌, Option, None, Some, Result, Ok, Err, IsSomeAnd, inl, inr, length, refl, sym, ap, ◌∙◌, subst}
 use Rattle.hx_ast.specs.declared.Statement.{Statement}
 use Rattle.hx_base.specs.Pairs.{NamedBytes}
 use Rattle.hx_outside.specs.Makers.{ExpressionText}
@@ -36,14 +34,14 @@ entries_load : (env : Env) (limits : Limits) (files : NamedBytes) (config : List
     → Loads env limits files config (loading_filled read.value f)
 entries_load env limits files config read (filled.Whole references) lines f = (read, lines, f, refl)
 entries_load env limits files config read (filled.Refused refusal) lines f =
-    inr (inr (inr (record { read = read; lines = lines; refused = f })))
+    inr (record { read = read; lines = lines; refused = f })
 entries_load env limits files config read (filled.Missing name) lines f = record { read = read; lines = lines; missing = f }
 
 names_load : (env : Env) (limits : Limits) (files : NamedBytes) (config : List ℕ) (read : Reading (List Statement)) (unknown : Option ℕ)
     → GiveStatements env 1 (lines_of config) nothing_known read → HaveDistinctNumbers (table_specs read.known)
     → first_unknown (table_specs read.known) ≡ unknown → Loads env limits files config (loading_named limits files read unknown)
 names_load env limits files config read (Some line) given once is =
-    inr (inr (inl (record { read = read; given = given; once = once; unknown = is_unknown (table_specs read.known) line is; code = refl })))
+    inl (inr (inr (record { read = read; given = given; once = once; unknown = is_unknown (table_specs read.known) line is; code = refl })))
 names_load env limits files config read None given once is =
     entries_load env limits files config read (filled_from files 0 (table_specs read.known) (declared limits read.known))
     (record { given = given; once = once; named = none_unknown (table_specs read.known) is })
@@ -53,7 +51,7 @@ numbers_load : (env : Env) (limits : Limits) (files : NamedBytes) (config : List
     → GiveStatements env 1 (lines_of config) nothing_known read → repeated_after [] (table_specs read.known) ≡ repeated
     → Loads env limits files config (loading_numbered limits files read repeated)
 numbers_load env limits files config read (Some line) given is =
-    inr (inl (record { read = read; given = given; twice = is_repeated (table_specs read.known) line is; code = refl }))
+    inl (inr (inl (record { read = read; given = given; twice = is_repeated (table_specs read.known) line is; code = refl })))
 numbers_load env limits files config read None given is =
     names_load env limits files config read (first_unknown (table_specs read.known)) given
     (given_distinct [] (table_specs read.known) is) refl
@@ -62,7 +60,7 @@ lines_load : (env : Env) (limits : Limits) (files : NamedBytes) (config : List �
     → LinesGive env 1 (lines_of config) nothing_known said → Loads env limits files config (loading_of limits files said)
 lines_load env limits files config (Ok read) given =
     numbers_load env limits files config read (repeated_after [] (table_specs read.known)) given refl
-lines_load env limits files config (Err refusal) refused = inl refused
+lines_load env limits files config (Err refusal) refused = inl (inl refused)
 
 -- a configuration loads as the function says
 pub loads : (env : Env) (limits : Limits) (files : NamedBytes) (config : List ℕ)
@@ -113,16 +111,16 @@ coded line refusal code same is =
 
 of_refused : (env : Env) (limits : Limits) (files : NamedBytes) (config : List ℕ) (refusal : Refusal)
     → Loads env limits files config (loading.Refused refusal) → loaded env limits files config ≡ loading.Refused refusal
-of_refused env limits files config refusal (inl f) = of_first_refused env limits files config refusal f
-of_refused env limits files config refusal (inr (inl f)) =
+of_refused env limits files config refusal (inl (inl f)) = of_first_refused env limits files config refusal f
+of_refused env limits files config refusal (inl (inr (inl f))) =
     of_numbers env limits files config f.read (Some refusal.line) f.given
     (repeated_is (table_specs f.read.known) refusal.line f.twice)
     ∙ coded refusal.line refusal id_taken refl f.code
-of_refused env limits files config refusal (inr (inr (inl f))) =
+of_refused env limits files config refusal (inl (inr (inr f))) =
     of_names env limits files config f.read (Some refusal.line) f.given f.once
     (unknown_is (table_specs f.read.known) refusal.line f.unknown)
     ∙ coded refusal.line refusal unknown_table refl f.code
-of_refused env limits files config refusal (inr (inr (inr f))) =
+of_refused env limits files config refusal (inr f) =
     of_filling env limits files config f.read (filled.Refused refusal) f.lines f.refused
 
 -- a configuration loads as nothing but what the function says
@@ -148,11 +146,11 @@ loads_one env limits files config program other references others given again =
 -- ---- what `load` answers
 
 -- files, as far as it is known what they hold
-abbrev files_in : Option NamedBytes → NamedBytes
+abbrev pub files_in : Option NamedBytes → NamedBytes
 files_in None = []
 files_in (Some files) = files
 
-files_in_are : (held : Option NamedBytes) → HasFiles held (files_in held)
+pub files_in_are : (held : Option NamedBytes) → HasFiles held (files_in held)
 files_in_are None = tt
 files_in_are (Some files) = refl
 
@@ -181,12 +179,12 @@ pub record Brings (env : Env) (config : List ℕ) (known : Known) (program : Rul
   pub lines : IsReadAs env config known program
   pub specs_are : specs ≡ reference_specs known
 
-abbrev reading_of : (env : Env) (config : List ℕ) (known : Known) (program : Rules)
+abbrev pub reading_of : (env : Env) (config : List ℕ) (known : Known) (program : Rules)
     → IsReadAs env config known program → Reading (List Statement)
 reading_of env config known program lines = record { value = lines.statements; known = known }
 
 -- what holds of the references holds of what is known
-of_known : (env : Env) (config : List ℕ) (known : Known) (program : Rules) (specs : ReferenceSpecs) (f : List TableSpec → Option ℕ) (o : Option ℕ)
+pub of_known : (env : Env) (config : List ℕ) (known : Known) (program : Rules) (specs : ReferenceSpecs) (f : List TableSpec → Option ℕ) (o : Option ℕ)
     → Brings env config known program specs → f specs.specs ≡ o → f (table_specs known) ≡ o
 of_known env config known program specs f o b is = sym (ap (λ (s : ReferenceSpecs). f s.specs) b.specs_are) ∙ is
 
@@ -277,7 +275,7 @@ fill_whole held env limits config known program specs refs after d f = record {
 -- ---- files and texts
 
 -- the statements and what is known, as the relation has them
-gives_references : (env : Env) (limits : Limits) (config : List ℕ) (known : Known) (program : Rules) (specs : ReferenceSpecs) (refs : References)
+pub gives_references : (env : Env) (limits : Limits) (config : List ℕ) (known : Known) (program : Rules) (specs : ReferenceSpecs) (refs : References)
     → (d : Declares env limits config known program specs refs) → GivesReferences env config (reading_of env config known program d.brings.lines)
 gives_references env limits config known program specs refs d = record {
   given = subst (λ (said : Result (Reading (List Statement)) Refusal). LinesGive env 1 (lines_of config) nothing_known said) d.brings.lines.given
@@ -287,7 +285,7 @@ gives_references env limits config known program specs refs d = record {
 }
 
 -- the references as they are declared are those of what is known
-same_declared : (env : Env) (limits : Limits) (config : List ℕ) (known : Known) (program : Rules) (specs : ReferenceSpecs) (refs : References)
+pub same_declared : (env : Env) (limits : Limits) (config : List ℕ) (known : Known) (program : Rules) (specs : ReferenceSpecs) (refs : References)
     → Declares env limits config known program specs refs → (P : List TableSpec → References → Type 0) → P specs.specs refs
     → P (table_specs known) (declared limits known)
 same_declared env limits config known program specs refs d P p =

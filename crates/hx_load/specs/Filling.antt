@@ -1,7 +1,8 @@
 -- Views of the code that fills references, for private contracts.
-use Rattle.std.specs.Prelude.{◌≡◌, ℕ, List, ◌∷◌, ◌++◌, length, map, Option, None, Some, IfSome, IsSomeAnd, Result, Ok, Err, ⊤}
+use Rattle.std.specs.Prelude.{◌≡◌, ℕ, List, [], ◌∷◌, ◌++◌, length, map, Option, None, Some, IfSome, IsSomeAnd, Result, Ok, Err, ⊤}
 use Rattle.std.specs.Option.{option_map_or}
 use Rattle.hx_base.specs.Pairs.{NamedBytes, value_at}
+use Rattle.hx_outside.specs.Log.{FileLog, Logs}
 use Rattle.hx_outside.specs.Makers.{ExpressionText}
 use Rattle.hx_refs.specs.Additions.{AdditionAsksFor, Pair, addition_fault, after_addition}
 use Rattle.hx_refs.specs.FileLines.{key_alone, text_pairs}
@@ -9,8 +10,9 @@ use Rattle.hx_refs.specs.References.{References}
 use Rattle.hx_refs.specs.declared.RefFault.{RefFault}
 use Rattle.hx_refs.specs.declared.RefFault.TheVariants as ref_fault
 use Rattle.hx_spell.specs.declared.TableSpec.{TableSpec}
-use Rattle.hx_load.specs.Configuration.{bad_pattern}
-use Rattle.hx_load.specs.References.{Filled, FillingAsksFor, FillingReads, HasFiles, Refused, Whole, entry_code, filled_from, pairs_of_spec}
+use Rattle.hx_load.specs.Configuration.{Refusal, bad_pattern}
+use Rattle.hx_load.specs.Files.{FillsUpTo, IsLastRead, files_of}
+use Rattle.hx_load.specs.References.{Filled, FillingAsksFor, FillingReads, HasFiles, HoldsUnder, IsFirstUnfilled, Refused, Whole, entry_code, filled_from, pairs_of_spec}
 use Rattle.hx_load.specs.declared.load_fault.LoadFault.{LoadFault}
 use Rattle.hx_load.specs.declared.load_fault.LoadFault.TheVariants as load
 
@@ -45,6 +47,32 @@ pub record FillAsksLast (held : Option NamedBytes) (specs : List TableSpec) (old
   pub files : NamedBytes
   pub of_files : HasFiles held files
   pub asked : IsSomeAnd large (FillingAsksFor files 0 specs old)
+
+-- the files that are read when references are filled up to the one whose entry is refused
+abbrev pub FillsUpToRefusal :
+    NamedBytes → List TableSpec → References → Refusal → List (List ℕ) → Type 0
+FillsUpToRefusal files specs old refusal names =
+    (entry : IsFirstUnfilled files 0 specs old refusal)
+    × (names ≡ files_of (entry.before ++ entry.spec ∷ []))
+
+-- the files that were read before filling answered this
+abbrev pub FillReads : Option NamedBytes → List TableSpec → References
+    → Result (Unit {0}) LoadFault → Option (List ℕ) → List (List ℕ) → Type 0
+FillReads held specs old (Ok _) last names = names ≡ files_of specs
+FillReads held specs old (Err (load.Refused l code)) last names =
+    HoldsUnder held (λ files.
+    FillsUpToRefusal files specs old (record { line = l; code = code }) names)
+FillReads held specs old (Err load.Failed) last names =
+    HoldsUnder held (λ files. FillsUpTo files specs old names) × IsLastRead last names
+FillReads held specs old (Err load.TooLarge) last names =
+    HoldsUnder held (λ files. FillsUpTo files specs old names)
+FillReads held specs old (Err load.NoMemory) last names =
+    HoldsUnder held (λ files. FillsUpTo files specs old names)
+
+-- the file of a reference is read once, where it has one, and no other
+abbrev pub LogsFile : Option (List ℕ) → (old new : Option FileLog) → Type 0
+LogsFile None old new = new ≡ old
+LogsFile (Some name) old new = Logs old new name
 
 -- the fault of a configuration, by that of an entry of a reference that this line brings
 abbrev pub fault_of_entry : ℕ → RefFault → LoadFault

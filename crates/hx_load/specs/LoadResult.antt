@@ -6,9 +6,10 @@ use Rattle.hx_refs.specs.References.{RefsState}
 use Rattle.hx_refs.specs.declared.Limits.{Limits}
 use Rattle.hx_rules.specs.Programs.{Rules}
 use Rattle.hx_words.specs.Variable.{Env}
+use Rattle.hx_load.specs.Files.{IsLastRead, ReadsAllFiles, ReadsFirstFiles, ReadsUpToRefusal}
 use Rattle.hx_load.specs.Loads.{Judges, Loading, ReadsFile, loaded}
 use Rattle.hx_load.specs.Loads as loading
-use Rattle.hx_load.specs.References.{HasFiles}
+use Rattle.hx_load.specs.References.{HasFiles, HoldsUnder}
 use Rattle.hx_load.specs.declared.load_fault.LoadFault.{LoadFault}
 use Rattle.hx_load.specs.declared.load_fault.LoadFault.TheVariants as load
 
@@ -44,3 +45,19 @@ pub record LoadJudgesLast (held : Option NamedBytes) (env : Env) (limits : Limit
   pub files : NamedBytes
   pub of_files : HasFiles held files
   pub judged : IsSomeAnd large (Judges env limits files config)
+
+-- The files that were read before loading answered this, where `last` is the name of the last one
+-- that couldn't be read: all of them, or those up to the one at which it ended.
+abbrev pub LoadReads : Option NamedBytes → Env → Limits → List ℕ
+    → Result (Rules × RefsState) LoadFault → Option (List ℕ) → List (List ℕ) → Type 0
+LoadReads held env limits config (Ok _) last names = ReadsAllFiles env config names
+LoadReads held env limits config (Err (load.Refused l code)) last names =
+    HoldsUnder held (λ files.
+    ReadsUpToRefusal env limits files config (record { line = l; code = code }) names)
+LoadReads held env limits config (Err load.Failed) last names =
+    HoldsUnder held (λ files. ReadsFirstFiles env limits files config names)
+    × IsLastRead last names
+LoadReads held env limits config (Err load.TooLarge) last names =
+    HoldsUnder held (λ files. ReadsFirstFiles env limits files config names)
+LoadReads held env limits config (Err load.NoMemory) last names =
+    HoldsUnder held (λ files. ReadsFirstFiles env limits files config names)

@@ -1,7 +1,7 @@
 -- What a configuration loads as: a program, the refusal of its first fault, or nothing where a file
 -- is missing. First all lines are judged, then the numbers that they give, then the files that
 -- their rules change, and then files and inline patterns in the order of their first appearance.
-use Rattle.std.specs.Prelude.{◌≡◌, fold, ℕ, ◌+◌, ◌==◌, ◌⊎◌, ◌&&◌, ◌||◌, not, Bool, true, false, is_none, List, [], ◌∷◌, ◌++◌, length, Contains, Option, None, Some, is_some, Result, Ok, Err, if◌then◌else◌}
+use Rattle.std.specs.Prelude.{◌≡◌, fold, ℕ, ◌+◌, ◌⊎◌, ◌&&◌, ◌||◌, not, Bool, true, false, is_none, List, [], ◌∷◌, ◌++◌, length, Contains, Option, None, Some, is_some, Result, Ok, Err, if◌then◌else◌}
 use Rattle.std.specs.List.{list_all}
 use Rattle.hx_ast.specs.declared.AclUse.{AclUse}
 use Rattle.hx_ast.specs.declared.AclUse.TheVariants.{Named, Own}
@@ -116,6 +116,12 @@ pub record ChangesUnknown (env : Env) (config : List ℕ) (refusal : Refusal) : 
   pub unknown : IsFirstUnknown (table_specs read.known) refusal.line
   pub code : refusal.code ≡ unknown_table
 
+-- a configuration is refused by its lines alone, whatever its files hold
+abbrev pub IsRefusedByLines : Env → List ℕ → Refusal → Type 0
+IsRefusedByLines env config refusal =
+    IsFirstRefused env 1 (lines_of config) nothing_known refusal
+    ⊎ (GivesTwice env config refusal ⊎ ChangesUnknown env config refusal)
+
 -- an entry is refused
 pub record HasEntryFault (env : Env) (limits : Limits) (files : NamedBytes) (config : List ℕ)
     (refusal : Refusal) : Type 0 where
@@ -146,9 +152,7 @@ abbrev pub Loads : Env → Limits → NamedBytes → List ℕ → Loading → Ty
 Loads env limits files config (Accepted program references) =
     GivesProgram env limits files config program references
 Loads env limits files config (Refused refusal) =
-    IsFirstRefused env 1 (lines_of config) nothing_known refusal
-    ⊎ (GivesTwice env config refusal ⊎ (ChangesUnknown env config refusal
-    ⊎ HasEntryFault env limits files config refusal))
+    IsRefusedByLines env config refusal ⊎ HasEntryFault env limits files config refusal
 Loads env limits files config (Missing name) = LacksFile env limits files config name
 
 -- ---- texts that are read as regular expressions

@@ -111,6 +111,12 @@ table_head head = record { by = head.by; ci = head.ci; list = head.table }
 abbrev pub HasFiles : Option NamedBytes → NamedBytes → Type 0
 HasFiles held files = IfSome held (λ known. files ≡ known)
 
+-- this is so under some files, which are those that are held, where that is known
+pub record HoldsUnder (held : Option NamedBytes) (P : NamedBytes → Type 0) : Type 0 where
+  pub files : NamedBytes
+  pub of_files : HasFiles held files
+  pub is : P files
+
 -- the keys and values of a reference: of a file the lines of its text, of inline patterns these;
 -- none where there is no such file
 abbrev pub pairs_of_spec : NamedBytes → TableSpec → Option (List Pair)

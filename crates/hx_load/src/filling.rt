@@ -1,12 +1,14 @@
-ghost use Rattle.std.specs.Prelude.{◌≡◌, ◌≤◌, ◌<◌, ◌⊎◌, ℕ, map, length, Some, Err};
+ghost use Rattle.std.specs.Prelude.{◌≡◌, ◌≢◌, ◌≤◌, ◌<◌, ◌⊎◌, ℕ, map, length, Some, Err};
 ghost use Rattle.std.specs.Prelude.{IfErr, IfOk, IfSome, IsErrOf, OnOk};
+ghost use Rattle.std.specs.List.{AllPairs};
 ghost use Rattle.hx_base.specs.Pairs.{value_at};
 ghost use Rattle.hx_outside.specs.Count.{Rose};
+ghost use Rattle.hx_outside.specs.Log.{HoldsSince, Logs};
 ghost use Rattle.hx_refs.specs.FileLines.{key_alone};
 ghost use Rattle.hx_spell.specs.TableSpecs.{AreSpecs};
-ghost use Rattle.hx_load.specs.Filling.{AsksOne, FillAsksLast, FillReadsLast, FillsHeld, FillsOne};
-ghost use Rattle.hx_load.specs.Filling.{HasPairs, IsFailedOrNoMemory, IsFileOf, RefusesOne};
-ghost use Rattle.hx_load.specs.Filling.{fault_of_entry};
+ghost use Rattle.hx_load.specs.Filling.{AsksOne, FillAsksLast, FillReads, FillReadsLast, FillsHeld};
+ghost use Rattle.hx_load.specs.Filling.{FillsOne, HasPairs, IsFailedOrNoMemory, IsFileOf, LogsFile};
+ghost use Rattle.hx_load.specs.Filling.{RefusesOne, fault_of_entry};
 
 use crate::load_fault::LoadFault;
 use hx_ast::Texts;
@@ -34,8 +36,9 @@ const TOO_LONG: u32 = 20;
 /// that were too large rose, and the last of them is a key that is read as an expression.
 /// `NoMemory` where memory runs out.
 ///
-/// There are as many references as specs. HAProxy configuration manual 2.4, sections 7.1 and 7.3.1,
-/// `map`.
+/// The files of the references are read in their order, each once, up to that of the reference at
+/// which filling ends. There are as many references as specs. HAProxy configuration manual 2.4,
+/// sections 7.1 and 7.3.1, `map`.
 #[tactic(auto, using(crate::proofs::FillLemmas::fills))]
 pub(crate) fn fill<F: Files, M: ReMaker>(
     alloc: Global,
@@ -62,6 +65,9 @@ pub(crate) fn fill<F: Files, M: ReMaker>(
     ensures named { (F.last files.new ≡ F.last files.old)
         ⊎ FillReadsLast (F.held files.old) specs.now.specs refs.old.content (F.last files.new) }
     ensures later { F.faults files.old ≤ F.faults files.new }
+    ensures reads { HoldsSince (F.log files.old) (F.log files.new)
+        (FillReads (F.held files.old) specs.now.specs refs.old.content result (F.last files.new)) }
+    ensures once { HoldsSince (F.log files.old) (F.log files.new) (AllPairs (λ n m. n ≢ m)) }
     ensures heads { OnOk result (refs.new.content.heads ≡ refs.old.content.heads) }
     ensures references { OnOk result
         (length refs.new.content.references ≡ length refs.old.content.references) }
@@ -101,6 +107,7 @@ fn fill_one<F: Files, M: ReMaker>(
         × ((M.state maker.new).large ≡ (M.state maker.old).large) }
     ensures held { F.held files.new ≡ F.held files.old }
     ensures later { F.faults files.old ≤ F.faults files.new }
+    ensures reads { LogsFile spec.now.file (F.log files.old) (F.log files.new) }
 {
     let pairs = pairs_of(alloc, files, spec)?;
     match refs.add_many(r, None, &pairs, maker) {
@@ -118,6 +125,7 @@ fn pairs_of<F: Files>(alloc: Global, files: &mut F, spec: &TableSpec) -> Result<
     ensures named { ¬ (IsErrOf result LoadFault.Failed) → F.last files.new ≡ F.last files.old }
     ensures held { F.held files.new ≡ F.held files.old }
     ensures later { F.faults files.old ≤ F.faults files.new }
+    ensures reads { LogsFile spec.now.file (F.log files.old) (F.log files.new) }
 {
     match &spec.file {
         Some(name) => {
@@ -138,6 +146,7 @@ fn read_file<F: Files>(alloc: Global, files: &mut F, name: &[u8]) -> Result<Vec<
     ensures named { ¬ (IsErrOf result LoadFault.Failed) → F.last files.new ≡ F.last files.old }
     ensures held { F.held files.new ≡ F.held files.old }
     ensures later { F.faults files.old ≤ F.faults files.new }
+    ensures reads { Logs (F.log files.old) (F.log files.new) name.now }
 {
     match files.read(alloc, name) {
         Ok(text) => Ok(text),

@@ -1,8 +1,10 @@
-ghost use Rattle.std.specs.Prelude.{◌≡◌, ◌≤◌, ◌⊎◌, length, IfOk, IsErrOf};
+ghost use Rattle.std.specs.Prelude.{◌≡◌, ◌≢◌, ◌≤◌, ◌⊎◌, length, IfOk, IsErrOf};
+ghost use Rattle.std.specs.List.{AllPairs};
 ghost use Rattle.hx_base.specs.Pairs.{pairs_of};
 ghost use Rattle.hx_outside.specs.Count.{Rose};
+ghost use Rattle.hx_outside.specs.Log.{HoldsSince};
 ghost use Rattle.hx_rules.specs.Tables.{HasHeads, HasLists};
-ghost use Rattle.hx_load.specs.LoadResult.{LoadJudgesLast, LoadReadsLast, LoadsHeld};
+ghost use Rattle.hx_load.specs.LoadResult.{LoadJudgesLast, LoadReads, LoadReadsLast, LoadsHeld};
 
 use crate::filling::fill;
 use crate::lines::{LinesRead, read_lines};
@@ -15,8 +17,11 @@ use std::alloc::Global;
 
 /// Loads a configuration: its program, and the references that it looks values up in and changes,
 /// with these limits. `env` has the variables of the environment, of which the first pair of a name
-/// counts. Files that it names are read through `files`, each once, and regular expressions are
-/// made by `maker`.
+/// counts. Regular expressions are made by `maker`.
+///
+/// The files that it names are read through `files`: none where it is refused by its lines alone,
+/// and else each once, in the order in which they first appear, up to the one at which loading
+/// ends. No other file is read.
 ///
 /// `Refused` exactly where the configuration has a fault: that of its first line that is refused;
 /// where each line gives a statement, that of the first number that is given twice; where no number
@@ -50,6 +55,10 @@ pub fn load<F: Files, M: ReMaker>(
     ensures named { (F.last files.new ≡ F.last files.old)
         ⊎ LoadReadsLast (F.held files.old) (pairs_of env.now) limits config.now (F.last files.new) }
     ensures later { F.faults files.old ≤ F.faults files.new }
+    ensures reads { HoldsSince (F.log files.old) (F.log files.new)
+        (LoadReads (F.held files.old) (pairs_of env.now) limits config.now result
+        (F.last files.new)) }
+    ensures once { HoldsSince (F.log files.old) (F.log files.new) (AllPairs (λ n m. n ≢ m)) }
     ensures heads { IfOk result (λ loaded. HasHeads loaded.1.content.heads loaded.0) }
     ensures lists { IfOk result (λ loaded. HasLists (length loaded.1.content.references) loaded.0) }
 {

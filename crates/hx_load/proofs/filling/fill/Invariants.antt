@@ -1,4 +1,6 @@
-use Rattle.std.proofs.Common.{◌≡◌, ◌≤◌, ◌+◌, length}
+use Rattle.std.proofs.Common.{◌≡◌, ◌≤◌, ◌+◌, length, take}
+use Rattle.hx_outside.specs.Log.{HoldsSince}
+use Rattle.hx_load.specs.Files.{files_of}
 use Rattle.hx_load.specs.Filling.{Filling}
 use Rattle.hx_load.proofs.filling.fill.Given as goal
 
@@ -11,6 +13,7 @@ invariant-loop-rest g l = record {
   held : g.F.Files.held l.files ≡ g.F.Files.held l.fn.files;
   last : g.F.Files.last l.files ≡ g.F.Files.last l.fn.files;
   later : g.F.Files.faults l.fn.files ≤ g.F.Files.faults l.files;
+  reads : HoldsSince (g.F.Files.log l.fn.files) (g.F.Files.log l.files) (λ names. names ≡ files_of (take l.r l.specs.specs));
   too_large : (g.M.ReMaker.state l.maker).too_large ≡ (g.M.ReMaker.state l.fn.maker).too_large;
   large : (g.M.ReMaker.state l.maker).large ≡ (g.M.ReMaker.state l.fn.maker).large;
 }

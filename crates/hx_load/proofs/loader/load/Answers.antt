@@ -5,6 +5,7 @@ use Rattle.hx_spell.specs.TableSpecs.{ReferenceSpecs}
 use Rattle.hx_load.specs.References.{table_head}
 use Rattle.hx_load.specs.declared.load_fault.LoadFault.TheVariants as fault
 use Rattle.hx_load.proofs.LoadedLemmas.{fill_asks, fill_fault, fill_reads, fill_whole, has_heads, has_lists, line_asks, line_fault, number_fault, unknown_fault}
+use Rattle.hx_load.proofs.ReadLemmas.{file_is_unknown, filled_reads, line_is_refused, none_read_twice, number_is_taken, unfilled_reads, unread}
 use Rattle.hx_load.proofs.loader.load.Goals as goal
 
 -- ---- the lines have a fault
@@ -38,6 +39,17 @@ returns-in_err-speller-clause-uncounted g c =
     let same : c.in_err-speller.field-0.0 ≡ fault.TooLarge = cc (is) in
     no (p.1 ∙ ap Err (p.2 ∙ same)))
 
+pub returns-in_err-speller-clause-once : goal.returns-in_err-speller-clause-once
+returns-in_err-speller-clause-once g c = none_read_twice (g.F.Files.log c.args.files.now)
+
+pub returns-in_err-speller-clause-reads : goal.returns-in_err-speller-clause-reads
+returns-in_err-speller-clause-reads g c =
+    let p = err_from_is_err_and c.from_residual.result c.from_residual.ensures.1 in
+    rw (p.1, p.2) (unread (g.F.Files.held c.args.files.now) (pairs_of c.args.env.now) c.args.limits c.args.config.now c.in_err-speller.field-0.0
+    (g.F.Files.last c.args.files.now) (g.F.Files.log c.args.files.now)
+    (λ line code is. line_is_refused (pairs_of c.args.env.now) c.args.config.now (record { line = line; code = code }) (c.in_err-speller.ensures.refused line code (ap Err is)))
+    (λ is. c.in_err-speller.ensures.never (ap Err is)))
+
 -- ---- a number is given twice
 
 pub returns-in_err-refs-clause-loads : goal.returns-in_err-refs-clause-loads
@@ -65,6 +77,19 @@ pub returns-in_err-refs-clause-uncounted : goal.returns-in_err-refs-clause-uncou
 returns-in_err-refs-clause-uncounted g c =
     λ no. c.in_ok-speller.ensures.uncounted (λ is. cc)
 
+pub returns-in_err-refs-clause-once : goal.returns-in_err-refs-clause-once
+returns-in_err-refs-clause-once g c = none_read_twice (g.F.Files.log c.args.files.now)
+
+pub returns-in_err-refs-clause-reads : goal.returns-in_err-refs-clause-reads
+returns-in_err-refs-clause-reads g c =
+    let p = err_from_is_err_and c.from_residual-in_err-refs.result c.from_residual-in_err-refs.ensures.1 in
+    rw (p.1, p.2) (unread (g.F.Files.held c.args.files.now) (pairs_of c.args.env.now) c.args.limits c.args.config.now c.in_err-refs.field-0.0
+    (g.F.Files.last c.args.files.now) (g.F.Files.log c.args.files.now)
+    (λ line code is. number_is_taken (pairs_of c.args.env.now) c.args.config.now c.in_ok-speller.field-0.speller c.in_ok-speller.field-0.program c.tables-specs.result line code
+    (record { lines = c.in_ok-speller.ensures.accepted; specs_are = c.tables-specs.ensures.specs })
+    (c.in_err-refs.ensures.refused line code (ap Err is)))
+    (λ is. c.in_err-refs.ensures.no_file (ap Err is)))
+
 -- ---- a rule changes a file that is named nowhere else
 
 pub returns-in_err-known_tables-clause-loads : goal.returns-in_err-known_tables-clause-loads
@@ -91,6 +116,19 @@ returns-in_err-known_tables-clause-too_large g c =
 pub returns-in_err-known_tables-clause-uncounted : goal.returns-in_err-known_tables-clause-uncounted
 returns-in_err-known_tables-clause-uncounted g c =
     λ no. c.in_ok-speller.ensures.uncounted (λ is. cc)
+
+pub returns-in_err-known_tables-clause-once : goal.returns-in_err-known_tables-clause-once
+returns-in_err-known_tables-clause-once g c = none_read_twice (g.F.Files.log c.args.files.now)
+
+pub returns-in_err-known_tables-clause-reads : goal.returns-in_err-known_tables-clause-reads
+returns-in_err-known_tables-clause-reads g c =
+    let p = err_from_is_err_and c.from_residual-in_err-known_tables.result c.from_residual-in_err-known_tables.ensures.1 in
+    rw (p.1, p.2) (unread (g.F.Files.held c.args.files.now) (pairs_of c.args.env.now) c.args.limits c.args.config.now c.in_err-known_tables.field-0.0
+    (g.F.Files.last c.args.files.now) (g.F.Files.log c.args.files.now)
+    (λ line code is. file_is_unknown (pairs_of c.args.env.now) c.args.config.now c.in_ok-speller.field-0.speller c.in_ok-speller.field-0.program c.tables-specs.result line code
+    (record { lines = c.in_ok-speller.ensures.accepted; specs_are = c.tables-specs.ensures.specs })
+    c.in_ok-refs.ensures.once (rw c.as_slice.ensures at (c.in_err-known_tables.ensures.refused line code (ap Err is))))
+    (λ is. c.in_err-known_tables.ensures.no_file (ap Err is)))
 
 -- ---- the references aren't filled
 
@@ -165,6 +203,19 @@ returns-in_err-fill-clause-named g c =
           }) reads)
     ]
 
+pub returns-in_err-fill-clause-reads : goal.returns-in_err-fill-clause-reads
+returns-in_err-fill-clause-reads g c =
+    let p = err_from_is_err_and c.from_residual-in_err-fill.result c.from_residual-in_err-fill.ensures.1 in
+    rw (p.1, p.2) (unfilled_reads (g.F.Files.held c.args.files.now) (pairs_of c.args.env.now) c.args.limits c.args.config.now
+    c.in_ok-speller.field-0.speller c.in_ok-speller.field-0.program c.tables-specs.result c.in_ok-refs.refs.content c.in_err-fill.field-0.0
+    (g.F.Files.last c.fill.new.files) (g.F.Files.log c.args.files.now) (g.F.Files.log c.fill.new.files)
+    (record {
+      brings = record { lines = c.in_ok-speller.ensures.accepted; specs_are = c.tables-specs.ensures.specs };
+      once = c.in_ok-refs.ensures.once;
+      named = rw c.as_slice.ensures at c.in_ok-known_tables.ensures.known;
+      refs_are = c.in_ok-refs.ensures.ok;
+    }) c.in_err-fill.ensures.reads)
+
 -- ---- they are
 
 pub returns-clause-loads : goal.returns-clause-loads
@@ -211,3 +262,15 @@ returns-clause-lists g c =
     has_lists c.in_ok-speller.field-0.speller c.in_ok-speller.field-0.program c.tables-specs.result c.fill.new.refs.content
     c.in_ok-speller.ensures.names.of_lists c.tables-specs.ensures.specs
     (c.in_ok-fill.ensures.references ∙ c.in_ok-refs.ensures.count)
+
+pub returns-clause-reads : goal.returns-clause-reads
+returns-clause-reads g c =
+    filled_reads (g.F.Files.held c.args.files.now) (pairs_of c.args.env.now) c.args.limits c.args.config.now
+    c.in_ok-speller.field-0.speller c.in_ok-speller.field-0.program c.tables-specs.result c.in_ok-refs.refs.content c.fill.new.refs
+    (g.F.Files.last c.fill.new.files) (g.F.Files.last c.fill.new.files) (g.F.Files.log c.args.files.now) (g.F.Files.log c.fill.new.files)
+    (record {
+      brings = record { lines = c.in_ok-speller.ensures.accepted; specs_are = c.tables-specs.ensures.specs };
+      once = c.in_ok-refs.ensures.once;
+      named = rw c.as_slice.ensures at c.in_ok-known_tables.ensures.known;
+      refs_are = c.in_ok-refs.ensures.ok;
+    }) c.in_ok-fill.ensures.reads
