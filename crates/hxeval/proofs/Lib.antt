@@ -1,5 +1,7 @@
+pub mod BeforeReadingLemmas
 pub mod ExplainLemmas
 pub mod LastLineLemmas
+pub mod LogLemmas
 pub mod MachineLemmas
 pub mod OutcomeLemmas
 pub mod ReplayLemmas

@@ -1,5 +1,5 @@
 -- Laws of what a record is answered, event by event.
-use Rattle.std.proofs.Common.{◌≡◌, ℕ, ◌+◌, ◌≤◌, Bool, true, false, List, [], ◌++◌, Option, None, Some, Result, Ok, Err, IsSomeAnd, option_map, inl, inr, unwrap_or, arith, refl, sym, ◌∙◌, ap, subst, append_assoc, append-nil}
+use Rattle.std.proofs.Common.{◌≡◌, ℕ, ◌+◌, Bool, true, false, List, [], ◌++◌, Option, None, Some, Result, Ok, Err, IsSomeAnd, option_map, inl, inr, unwrap_or, refl, sym, ◌∙◌, ap, subst, append_assoc, append-nil}
 use mathlib.Core.Bool.{true≢false}
 use Rattle.std.specs.Io.KnownBytes.{Appends, Consumes, IsAtEnd, Keeps}
 use Rattle.std.proofs.KnownBytes.{Appends-trans, Appends-nil, Consumes-trans, Consumes-nil, Consumes-kept}
@@ -23,11 +23,12 @@ use Rattle.hx_record.specs.declared.RecordFault.{RecordFault}
 use Rattle.hx_record.specs.declared.RecordFault.TheVariants as reader
 use Rattle.hxeval.specs.Gathering.{Replays, Passes, AnswersEvent, GathersAnswer, IsFailure}
 use Rattle.hxeval.specs.Outcome.{Outcome, Completed, RecordRefused, Undecided, after_answers}
-use Rattle.hxeval.specs.Replay.{IsRecord, ItemsAskFor, ReplayAsksLast, WritesDecided, record_limit, initial_world, ends_with, event_outcome, refusal_code, replay_outcome, record_outcome, decided_outcome}
+use Rattle.hxeval.specs.Replay.{bytes_given, BeginsWithDecided, IsRecord, ItemsAskFor, ReplayAsksLast, WritesBeforeReading, WritesDecided, record_limit, initial_world, ends_with, event_outcome, refusal_code, replay_outcome, record_outcome, decided_outcome}
 use Rattle.hxeval.specs.Program.{Program}
 use Rattle.hxeval.specs.RunFault.{IsReplayFault, result_end, reader_fault, sink_fault}
 use Rattle.hxeval.specs.declared.run_fault.RunFault.{RunFault}
 use Rattle.hxeval.specs.declared.run_fault.RunFault.TheVariants as run
+use Rattle.hxeval.proofs.LogLemmas.{before_none, before_read, given_and_more, since_start, written_more, HaveGiven}
 use Rattle.hxeval.proofs.OutcomeLemmas.{shorter_prefix}
 
 -- an expression that is asked for at the one items, from the one world on, is asked for at the other ones, from the other
@@ -36,13 +37,16 @@ AskAlike world items first all = (text : ExpressionText) → ItemsAskFor world i
 
 -- What was taken and answered so far. Whatever follows the bytes that the reader has, the record's outcome is the
 -- answers that were written, those that are gathered, and then what the items before are answered, and these stand to
--- the items after as `what` says. An expression that is asked for at the items before is asked for in the record.
+-- the items after as `what` says. An expression that is asked for at the items before is asked for in the record. The
+-- bytes are those that the reads gave, and what all reads but the last decide is written.
 pub record Progress (what : Items → Items → Type 0) (program : Program) (world : World) (s : State)
-    (left left' old new : Option (List ℕ)) (gathered : List ℕ) : Type 0 where
+    (left left' : Option (List ℕ)) (log log' : Option Log) (old new : Option (List ℕ)) (gathered : List ℕ) : Type 0 where
   pub took : List ℕ
   pub consumed : Consumes left left' took
   pub wrote : List ℕ
   pub appended : Appends old new wrote
+  pub given : HaveGiven log log' took
+  pub before_reading : WritesBeforeReading program log log' old new
   pub limit : s.limit ≡ record_limit
   pub same : (ends : Bool) (more : List ℕ) → MayFollow s ends more
       → (before : Items) × what before (items_after s ends more)
@@ -58,13 +62,15 @@ AreSame before after = before ≡ after
 abbrev pub Answer : Result Next RecordFault → Items → Items → Type 0
 Answer result before after = AnswersNext before after result
 
-pub progress_start : (program : Program) (left out : Option (List ℕ))
-    → Progress AreSame program (initial_world program) (record { limit = record_limit; at = 0; pending = []; ended = false }) left left out out []
-progress_start program left out = record {
+pub progress_start : (program : Program) (left : Option (List ℕ)) (log : Option Log) (out : Option (List ℕ))
+    → Progress AreSame program (initial_world program) (record { limit = record_limit; at = 0; pending = []; ended = false }) left left log log out out []
+progress_start program left log out = record {
   took = [];
   consumed = Consumes-nil left;
   wrote = [];
   appended = Appends-nil out;
+  given = since_start log (λ reads. let none : List ℕ = [] in bytes_given reads ≡ none) refl;
+  before_reading = before_none log (λ bytes. BeginsWithDecided program bytes out out);
   limit = refl;
   same = λ ends more may. (items_from ends 0 more record_limit, refl, refl, λ text asked. asked);
 }
@@ -85,14 +91,16 @@ pub handed_back : (result : Result (Unit {0}) RunFault) (given made wanted : Run
 handed_back result given made wanted returned from is = returned ∙ ap failed from ∙ is
 
 -- a call of the reader that reads nothing
-pub progress_decides : (program : Program) (world : World) (s s' : State) (left left' old new : Option (List ℕ)) (gathered : List ℕ)
-    (result : Result Next RecordFault) → Progress AreSame program world s left left' old new gathered → Decides s s' result
-    → Progress (Answer result) program world s' left left' old new gathered
+pub progress_decides : {log log' : Option Log} → (program : Program) (world : World) (s s' : State) (left left' old new : Option (List ℕ)) (gathered : List ℕ)
+    (result : Result Next RecordFault) → Progress AreSame program world s left left' log log' old new gathered → Decides s s' result
+    → Progress (Answer result) program world s' left left' log log' old new gathered
 progress_decides program world s s' left left' old new gathered result p d = record {
   took = p.took;
   consumed = p.consumed;
   wrote = p.wrote;
   appended = p.appended;
+  given = p.given;
+  before_reading = p.before_reading;
   limit = d.limit ∙ p.limit;
   same = λ ends more may.
       let may_before : MayFollow s ends more = λ ended. may (d.ended ∙ ended) in
@@ -104,15 +112,42 @@ progress_decides program world s s' left left' old new gathered result p d = rec
       );
 }
 
+-- what the bytes that were taken decide, where they decide no more than what was answered
+pub all_decided : {log log' : Option Log} → (program : Program) (world : World) (s : State) (left left' old new : Option (List ℕ)) (gathered : List ℕ)
+    → (p : Progress (Answer (Ok next.Undecided)) program world s left left' log log' old new gathered) → s.ended ≡ false → decided_items_now s ≡ Unknown
+    → decided_outcome program p.took ≡ after_answers (p.wrote ++ gathered) (ends_with Undecided)
+unfolding replay_outcome
+all_decided program world s left left' old new gathered p going undecided =
+    let (before, stand, outcome, _) = p.same false [] (λ ended. absurd (true≢false (sym ended ∙ going))) in
+    let unknown : items_after s false [] ≡ Unknown = ap (λ ends. items_after s ends []) (sym going) ∙ undecided in
+    ap (λ t. replay_outcome (initial_world program) (items_from false 0 t record_limit)) (sym (append-nil p.took)) ∙ outcome
+    ∙ ap (λ i. after_answers (p.wrote ++ gathered) (replay_outcome world i)) (sym stand ∙ unknown)
+
+-- all of that is written, before more of the record is read
+pub decided_written : {log log' : Option Log} → (program : Program) (world : World) (s : State) (left left' old new new' : Option (List ℕ))
+    (gathered : List ℕ) → (p : Progress (Answer (Ok next.Undecided)) program world s left left' log log' old new gathered) → s.ended ≡ false
+    → decided_items_now s ≡ Unknown → Appends new new' gathered → BeginsWithDecided program p.took old new'
+decided_written program world s left left' old new new' gathered p going undecided appended =
+    let all = ap (λ (o : Outcome). o.answers) (all_decided program world s left left' old new gathered p going undecided) in
+    record {
+      rest = [];
+      written = subst (λ (text : List ℕ). Appends old new' text)
+          (sym (append-nil (decided_outcome program p.took).answers ∙ all ∙ append-nil (p.wrote ++ gathered)))
+          (Appends-trans old new new' p.wrote gathered p.appended appended);
+    }
+
 -- all that was gathered is written, and more of the record is read
-pub progress_fills : {log log' : Option Log} → (program : Program) (world : World) (s s' : State) (left left' left'' old new new' : Option (List ℕ))
-    (gathered : List ℕ) → Progress (Answer (Ok next.Undecided)) program world s left left' old new gathered → s.ended ≡ false
-    → Appends new new' gathered → Fills s s' left' left'' log log' → Progress AreSame program world s' left left'' old new' []
-progress_fills program world s s' left left' left'' old new new' gathered p going appended f = record {
+pub progress_fills : {log log' log'' : Option Log} → (program : Program) (world : World) (s s' : State) (left left' left'' old new new' : Option (List ℕ))
+    (gathered : List ℕ) → Progress (Answer (Ok next.Undecided)) program world s left left' log log' old new gathered → s.ended ≡ false
+    → decided_items_now s ≡ Unknown → Appends new new' gathered → Fills s s' left' left'' log' log'' → Progress AreSame program world s' left left'' log log'' old new' []
+progress_fills {log} {log'} {log''} program world s s' left left' left'' old new new' gathered p going undecided appended f = record {
   took = p.took ++ f.got;
   consumed = Consumes-trans left left' left'' p.took f.got p.consumed f.consumed;
   wrote = p.wrote ++ gathered;
   appended = Appends-trans old new new' p.wrote gathered p.appended appended;
+  given = given_and_more log log' log'' p.took f.got p.given f.logged;
+  before_reading = before_read log log' log'' (Some f.got) p.took (λ bytes. BeginsWithDecided program bytes old new') p.given f.logged
+      (decided_written program world s left left' old new new' gathered p going undecided appended);
   limit = f.limit ∙ p.limit;
   same = λ ends more may.
       let (before, is, outcome, asks) = p.same ends (f.got ++ more) (λ ended. absurd (true≢false (sym ended ∙ going))) in
@@ -126,15 +161,17 @@ progress_fills program world s s' left left' left'' old new new' gathered p goin
 }
 
 -- an event that is answered
-pub progress_answers : (program : Program) (world after : World) (s : State) (left left' old new new' : Option (List ℕ)) (placed : Placed)
-    (gathered gathered' : List ℕ) → Progress (Answer (Ok (next.Event placed))) program world s left left' old new gathered
-    → AnswersEvent world after placed new new' gathered gathered' (Ok tt) → Progress AreSame program after s left left' old new' gathered'
+pub progress_answers : {log log' : Option Log} → (program : Program) (world after : World) (s : State) (left left' old new new' : Option (List ℕ)) (placed : Placed)
+    (gathered gathered' : List ℕ) → Progress (Answer (Ok (next.Event placed))) program world s left left' log log' old new gathered
+    → AnswersEvent world after placed new new' gathered gathered' (Ok tt) → Progress AreSame program after s left left' log log' old new' gathered'
 unfolding replay_outcome
-progress_answers program world after s left left' old new new' placed gathered gathered' p (allowed, goes, passes) = record {
+progress_answers {log} {log'} program world after s left left' old new new' placed gathered gathered' p (allowed, goes, passes) = record {
   took = p.took;
   consumed = p.consumed;
   wrote = p.wrote ++ passes.wrote;
   appended = Appends-trans old new new' p.wrote passes.wrote p.appended passes.appended;
+  given = p.given;
+  before_reading = written_more program log log' old new new' passes.wrote p.before_reading passes.appended;
   limit = p.limit;
   same = λ ends more may.
       let (before, stand, outcome, asks) = p.same ends more may in
@@ -181,8 +218,8 @@ record Seen (what : Items → Items → Type 0) (program : Program) (world : Wor
   outcome : record_outcome program bytes ≡ after_answers (wrote ++ gathered) (replay_outcome world before)
   asks : AskAlike world before (initial_world program) (record_items bytes record_limit)
 
-seen : (what : Items → Items → Type 0) (program : Program) (world : World) (s : State) (left left' old new : Option (List ℕ)) (gathered : List ℕ)
-    → Progress what program world s left left' old new gathered → (s.ended ≡ true → IsAtEnd left') → Seen what program world left old new gathered
+seen : {log log' : Option Log} → (what : Items → Items → Type 0) (program : Program) (world : World) (s : State) (left left' old new : Option (List ℕ)) (gathered : List ℕ)
+    → Progress what program world s left left' log log' old new gathered → (s.ended ≡ true → IsAtEnd left') → Seen what program world left old new gathered
 seen what program world s left left' old new gathered p at_end =
     let (before, stand, outcome, asks) = p.same true (rest_of left') (may_follow s left' at_end) in
     record {
@@ -198,8 +235,8 @@ seen what program world s left left' old new gathered p at_end =
     }
 
 -- the record's end
-pub replays_end : (program : Program) (world : World) (s : State) (left left' old new : Option (List ℕ)) (gathered : List ℕ)
-    → Progress (Answer (Ok next.End)) program world s left left' old new gathered → (s.ended ≡ true → IsAtEnd left')
+pub replays_end : {log log' : Option Log} → (program : Program) (world : World) (s : State) (left left' old new : Option (List ℕ)) (gathered : List ℕ)
+    → Progress (Answer (Ok next.End)) program world s left left' log log' old new gathered → (s.ended ≡ true → IsAtEnd left')
     → Replays program left old new gathered (Ok tt)
 unfolding replay_outcome
 replays_end program world s left left' old new gathered p at_end =
@@ -215,8 +252,8 @@ replays_end program world s left left' old new gathered p at_end =
     }
 
 -- where memory runs out, a prefix of the answers is written or gathered
-pub replays_part : (what : Items → Items → Type 0) (program : Program) (world : World) (s : State) (left left' old new : Option (List ℕ)) (gathered : List ℕ)
-    → Progress what program world s left left' old new gathered → (s.ended ≡ true → IsAtEnd left')
+pub replays_part : {log log' : Option Log} → (what : Items → Items → Type 0) (program : Program) (world : World) (s : State) (left left' old new : Option (List ℕ)) (gathered : List ℕ)
+    → Progress what program world s left left' log log' old new gathered → (s.ended ≡ true → IsAtEnd left')
     → (fault : RunFault) → result_end (Err fault) ≡ Undecided → Replays program left old new gathered (Err fault)
 replays_part what program world s left left' old new gathered p at_end fault undecided =
     let v = seen what program world s left left' old new gathered p at_end in
@@ -229,8 +266,8 @@ replays_part what program world s left left' old new gathered p at_end fault und
     }
 
 -- a fault of the reader, which reads nothing
-pub replays_fault : (program : Program) (world : World) (s : State) (left left' old new : Option (List ℕ)) (gathered : List ℕ) (fault : RecordFault)
-    → Progress (Answer (Err fault)) program world s left left' old new gathered → (s.ended ≡ true → IsAtEnd left')
+pub replays_fault : {log log' : Option Log} → (program : Program) (world : World) (s : State) (left left' old new : Option (List ℕ)) (gathered : List ℕ) (fault : RecordFault)
+    → Progress (Answer (Err fault)) program world s left left' log log' old new gathered → (s.ended ≡ true → IsAtEnd left')
     → Replays program left old new gathered (Err (reader_fault fault))
 unfolding replay_outcome
 replays_fault program world s left left' old new gathered (reader.Bad offset code) p at_end =
@@ -328,8 +365,8 @@ event_too_large world after placed old gathered gathered' steps =
     event_unanswered world after placed old gathered gathered' steps
 
 -- of what was gathered a prefix was written, and the rest is lost
-pub replays_lost : (program : Program) (world : World) (s : State) (left left' old new new' : Option (List ℕ)) (gathered : List ℕ)
-    (result : Result Next RecordFault) → Progress (Answer result) program world s left left' old new gathered → (s.ended ≡ true → IsAtEnd left')
+pub replays_lost : {log log' : Option Log} → (program : Program) (world : World) (s : State) (left left' old new new' : Option (List ℕ)) (gathered : List ℕ)
+    (result : Result Next RecordFault) → Progress (Answer result) program world s left left' log log' old new gathered → (s.ended ≡ true → IsAtEnd left')
     → AppendsPrefix new new' gathered → (fault : RunFault) → IsFailure fault → Replays program left old new' [] (Err fault)
 replays_lost program world s left left' old new new' gathered result p at_end part fault failure =
     let v = seen (Answer result) program world s left left' old new gathered p at_end in
@@ -346,16 +383,11 @@ replays_lost program world s left left' old new new' gathered result p at_end pa
     }
 
 -- the source failed where the bytes that the reader has decide nothing more
-pub writes_decided : (program : Program) (world : World) (s : State) (left left' left'' old new new' : Option (List ℕ)) (gathered : List ℕ)
-    → Progress (Answer (Ok next.Undecided)) program world s left left' old new gathered → s.ended ≡ false → decided_items_now s ≡ Unknown
+pub writes_decided : {log log' : Option Log} → (program : Program) (world : World) (s : State) (left left' left'' old new new' : Option (List ℕ)) (gathered : List ℕ)
+    → Progress (Answer (Ok next.Undecided)) program world s left left' log log' old new gathered → s.ended ≡ false → decided_items_now s ≡ Unknown
     → Keeps left' left'' → Appends new new' gathered → WritesDecided program left left'' old new'
-unfolding replay_outcome
 writes_decided program world s left left' left'' old new new' gathered p going undecided kept appended =
-    let (before, stand, outcome, _) = p.same false [] (λ ended. absurd (true≢false (sym ended ∙ going))) in
-    let unknown : items_after s false [] ≡ Unknown = ap (λ ends. items_after s ends []) (sym going) ∙ undecided in
-    let here : decided_outcome program p.took ≡ after_answers (p.wrote ++ gathered) (ends_with Undecided) =
-    ap (λ t. replay_outcome (initial_world program) (items_from false 0 t record_limit)) (sym (append-nil p.took)) ∙ outcome
-    ∙ ap (λ i. after_answers (p.wrote ++ gathered) (replay_outcome world i)) (sym stand ∙ unknown) in
+    let here = all_decided program world s left left' old new gathered p going undecided in
     record {
       took = p.took;
       consumed = Consumes-kept left left' left'' p.took p.consumed kept;
@@ -365,8 +397,8 @@ writes_decided program world s left left' left'' old new new' gathered p going u
     }
 
 -- an event of whose answer, with those gathered before, a part is lost
-event_part : (program : Program) (world after : World) (s : State) (left left' old new new' : Option (List ℕ)) (placed : Placed)
-    (gathered gathered' : List ℕ) (fault : RunFault) → Progress (Answer (Ok (next.Event placed))) program world s left left' old new gathered
+event_part : {log log' : Option Log} → (program : Program) (world after : World) (s : State) (left left' old new new' : Option (List ℕ)) (placed : Placed)
+    (gathered gathered' : List ℕ) (fault : RunFault) → Progress (Answer (Ok (next.Event placed))) program world s left left' log log' old new gathered
     → (s.ended ≡ true → IsAtEnd left') → result_end (Err fault) ≡ Undecided → refusal_of world placed.event ≡ None → (rest : List ℕ)
     → Passes new new' (gathered ++ answer_of world placed.event) gathered' rest → Replays program left old new' gathered' (Err fault)
 unfolding replay_outcome
@@ -398,8 +430,8 @@ refused_by (Some refusal) offset code answer following is =
     let same : refusal_code refusal ≡ code = cc in ap (λ c. ends_with (RecordRefused offset c)) same
 
 -- an event that ends the replay
-pub replays_event : (program : Program) (world after : World) (s : State) (left left' old new new' : Option (List ℕ)) (placed : Placed)
-    (gathered gathered' : List ℕ) (fault : RunFault) → Progress (Answer (Ok (next.Event placed))) program world s left left' old new gathered
+pub replays_event : {log log' : Option Log} → (program : Program) (world after : World) (s : State) (left left' old new new' : Option (List ℕ)) (placed : Placed)
+    (gathered gathered' : List ℕ) (fault : RunFault) → Progress (Answer (Ok (next.Event placed))) program world s left left' log log' old new gathered
     → (s.ended ≡ true → IsAtEnd left') → IsReplayFault fault
     → AnswersEvent world after placed new new' gathered gathered' (Err fault) → Replays program left old new' gathered' (Err fault)
 unfolding replay_outcome
@@ -437,9 +469,9 @@ asked_there : (world : World) (placed : Placed) (rest : Items) (first : World) (
 asked_there world placed rest first all None allowed asks there = absurd there
 asked_there world placed rest first all (Some text) allowed asks there = asks text (allowed, inl there)
 
-pub replays_asks : (program : Program) (world after : World) (s : State) (left left' old new new' : Option (List ℕ)) (placed : Placed)
+pub replays_asks : {log log' : Option Log} → (program : Program) (world after : World) (s : State) (left left' old new new' : Option (List ℕ)) (placed : Placed)
     (gathered gathered' : List ℕ) (fault : RunFault) (large : Option ExpressionText)
-    → Progress (Answer (Ok (next.Event placed))) program world s left left' old new gathered → (s.ended ≡ true → IsAtEnd left')
+    → Progress (Answer (Ok (next.Event placed))) program world s left left' log log' old new gathered → (s.ended ≡ true → IsAtEnd left')
     → fault ≡ run.TooLarge → AnswersEvent world after placed new new' gathered gathered' (Err fault)
     → IsSomeAnd large (EventAsksFor world placed.event) → ReplayAsksLast program left large
 replays_asks program world after s left left' old new new' placed gathered gathered' fault large p at_end is event there =

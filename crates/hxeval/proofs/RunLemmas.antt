@@ -4,6 +4,7 @@ use Rattle.std.specs.Io.KnownBytes.{Appends}
 use Rattle.std.proofs.KnownBytes.{Appends-nil, Appends-trans}
 use Rattle.hx_base.specs.Pairs.{NamedBytes, value_at}
 use Rattle.hx_core.specs.World.{FitRules}
+use Rattle.hx_outside.specs.Log.{Log}
 use Rattle.hx_outside.specs.Makers.{ExpressionText}
 use Rattle.hx_outside.specs.Prefixes.{AppendsPrefix}
 use Rattle.hx_outside.specs.declared.FileFault.{FileFault}
@@ -15,15 +16,15 @@ use Rattle.hx_refs.specs.declared.Limits.{Limits}
 use Rattle.hx_rules.specs.Programs.{Rules}
 use Rattle.hx_rules.specs.Tables.{HasHeads, HasLists}
 use Rattle.hxeval.specs.Gathering.{Replays}
-use Rattle.hxeval.specs.Outcome.{ConfigRefused, Undecided}
-use Rattle.hxeval.specs.Replay.{IsRecord, ReplayAsksLast, WritesDecided, ends_with, record_outcome, decided_outcome}
+use Rattle.hxeval.specs.Outcome.{ConfigRefused, Undecided, last_line}
+use Rattle.hxeval.specs.Replay.{BeginsWithDecided, IsRecord, ReplayAsksLast, WritesBeforeReading, WritesDecided, ends_with, decided_outcome}
 use Rattle.hx_load.specs.LoadResult.{LoadJudgesLast, LoadReadsLast, LoadsHeld}
 use Rattle.hx_load.specs.Loads.{Loading, Loads, ReadsFile, loaded}
 use Rattle.hx_load.specs.Loads as loading
 use Rattle.hxeval.specs.Program.{Program}
 use Rattle.hx_load.specs.References.{HasFiles}
-use Rattle.hxeval.specs.Run.{Setting, Accepts, RunAsksLast, RunJudgesLast, RunReads, SourceFails, accepted_outcome, check_line, outcome_of, usual_limits}
-use Rattle.hxeval.specs.RunFault.{Attempted, IsReplayFault, result_end, fault_of_file, load_fault, sink_fault}
+use Rattle.hxeval.specs.Run.{Setting, Accepts, AcceptsSome, AnswersBeforeReading, RunAsksLast, RunJudgesLast, RunReads, SourceFails, accepted_outcome, check_line, outcome_of, usual_limits}
+use Rattle.hxeval.specs.RunFault.{Attempted, Finishes, IsReplayFault, fault_end, result_end, fault_of_file, load_fault, sink_fault}
 use Rattle.hxeval.specs.declared.command.Task.{Task}
 use Rattle.hxeval.specs.declared.command.Task.TheVariants as task
 use Rattle.hx_load.specs.declared.load_fault.LoadFault.{LoadFault}
@@ -31,6 +32,7 @@ use Rattle.hx_load.specs.declared.load_fault.LoadFault.TheVariants as load
 use Rattle.hxeval.specs.declared.run_fault.RunFault.{RunFault}
 use Rattle.hxeval.specs.declared.run_fault.RunFault.TheVariants as run
 use Rattle.hx_load.proofs.LoadedLemmas.{loads}
+use Rattle.hxeval.proofs.LogLemmas.{before_map, before_none, begins_more}
 
 -- the files, as far as it is known what they hold
 abbrev files_in : Option NamedBytes → NamedBytes
@@ -279,6 +281,52 @@ pub run_asks : (s : Setting) (now : Option NamedBytes) (limits : Limits) (items 
 run_asks s now limits items text rules refs large asked read l asks =
     asks_here s items rules refs large asked read.config
     (here s now limits items text read (λ (h : Option NamedBytes) (m : Limits) (t : List ℕ). LoadsHeld h s.env m t (Ok (rules, refs))) l) asks
+
+-- ---- what is written before more of the record is read
+
+-- this was written of what the bytes decide that reads gave, under the configuration of a setting
+abbrev Answered : Setting → (old new : Option (List ℕ)) → List ℕ → Type 0
+Answered s old new bytes = (s.task ≡ task.Replay) × AcceptsSome s (λ program. BeginsWithDecided program bytes old new)
+
+-- the record wasn't read
+pub nothing_read : (s : Setting) (log : Option Log) (old new : Option (List ℕ)) → AnswersBeforeReading s log log old new
+nothing_read s log old new = before_none log (Answered s old new)
+
+before_here : (s : Setting) (items : List ℕ) (rules : Rules) (refs : RefsState) (log log' : Option Log) (old new : Option (List ℕ))
+    → s.task ≡ task.Replay → IsConfig s.held s.name (Some items) → LoadsHeld s.held s.env usual_limits items (Ok (rules, refs))
+    → WritesBeforeReading (program_of rules refs.content) log log' old new → AnswersBeforeReading s log log' old new
+before_here s items rules refs log log' old new asked config l written =
+    before_map log log' (λ bytes. BeginsWithDecided (program_of rules refs.content) bytes old new) (Answered s old new) written
+    (λ bytes begins. (asked, record { program = program_of rules refs.content; accepted = loaded_accepts s items rules refs config l; is = begins }))
+
+-- a record that was replayed
+pub answers_before : (s : Setting) (now : Option NamedBytes) (limits : Limits) (items text : List ℕ) (rules : Rules) (refs : RefsState) (log log' : Option Log)
+    (old new : Option (List ℕ)) → s.task ≡ task.Replay
+    → ReadsConfig s now limits items text → LoadsHeld now s.env limits text (Ok (rules, refs))
+    → WritesBeforeReading (program_of rules refs.content) log log' old new → AnswersBeforeReading s log log' old new
+answers_before s now limits items text rules refs log log' old new asked read l written =
+    before_here s items rules refs log log' old new asked read.config
+    (here s now limits items text read (λ (h : Option NamedBytes) (m : Limits) (t : List ℕ). LoadsHeld h s.env m t (Ok (rules, refs))) l) written
+
+before_moved : (s : Setting) (log log' : Option Log) (old mid new : Option (List ℕ)) (more : List ℕ) → AnswersBeforeReading s log log' old mid
+    → Appends mid new more → AnswersBeforeReading s log log' old new
+before_moved s log log' old mid new more so_far appended =
+    before_map log log' (Answered s old mid) (Answered s old new) so_far (λ bytes answered. (
+      answered.0,
+      record {
+        program = answered.1.program;
+        accepted = answered.1.accepted;
+        is = begins_more answered.1.program bytes old mid new more answered.1.is appended;
+      },
+    ))
+
+-- and then the line of a fault
+pub before_finished : (s : Setting) (log log' : Option Log) (old mid new : Option (List ℕ)) (fault : RunFault) (status : ℕ)
+    → AnswersBeforeReading s log log' old mid → Finishes fault mid new status → AnswersBeforeReading s log log' old new
+before_finished s log log' old mid new fault status so_far (inl (same, line)) =
+    before_moved s log log' old mid new (last_line (fault_end fault)) so_far line
+before_finished s log log' old mid new fault status so_far (inr (late, part)) =
+    before_moved s log log' old mid new part.prefix so_far part.appended
 
 -- ---- what a replay is given
 

@@ -1,6 +1,7 @@
 -- Views of the code of a replay: answers that are gathered before they are written.
 use Rattle.std.specs.Prelude.{◌≡◌, ℕ, List, [], ◌++◌, Option, None, Some, option_map, Result, Ok, Err, ⊤}
 use Rattle.std.specs.Io.KnownBytes.{Appends}
+use Rattle.hx_outside.specs.Log.{Log, Logs}
 use Rattle.hx_record.specs.declared.Event.{Event}
 use Rattle.hx_record.specs.declared.Placed.{Placed}
 use Rattle.hx_core.specs.Steps.{refusal_of, world_after, answer_of}
@@ -12,7 +13,7 @@ use Rattle.hxeval.specs.Replay.{IsRecord, record_outcome, refusal_code}
 use Rattle.hxeval.specs.Program.{Program}
 use Rattle.hxeval.specs.RunFault.{WritesOutcome}
 use Rattle.hxeval.specs.declared.run_fault.RunFault.{RunFault}
-use Rattle.hxeval.specs.declared.run_fault.RunFault.TheVariants.{ConfigRefused, RecordRefused, Files, TooLarge}
+use Rattle.hxeval.specs.declared.run_fault.RunFault.TheVariants.{ConfigRefused, RecordRefused, Files, Source, TooLarge}
 
 -- this is what a program answers to the record that a source has left
 pub record IsOfRecord (program : Program) (left : Option (List ℕ)) (outcome : Outcome)
@@ -74,3 +75,9 @@ IsFailure (RecordRefused offset code) = ⊥
 IsFailure Files = ⊥
 IsFailure TooLarge = ⊥
 IsFailure _ = ⊤
+
+-- what a read adds to the log that ends with this fault: a failure where the source failed, and
+-- else nothing, since the fault came before the read
+abbrev pub LogsFailure : RunFault → (log log' : Option Log) → Type 0
+LogsFailure Source log log' = Logs log log' None
+LogsFailure _ log log' = log' ≡ log

@@ -1,5 +1,5 @@
 -- What a record is answered, event by event.
-use Rattle.std.specs.Prelude.{◌≡◌, ℕ, List, [], ◌∷◌, ◌++◌, Option, None, Some, IfSome, IsSomeAnd, option_map, ◌⊎◌}
+use Rattle.std.specs.Prelude.{◌≡◌, ℕ, List, [], ◌∷◌, ◌++◌, flat_map, Option, None, Some, IfSome, IsSomeAnd, option_map, unwrap_or, ◌⊎◌}
 use Rattle.std.specs.Io.KnownBytes.{Appends, Consumes}
 use Rattle.hx_record.specs.Record.{Items, Unknown, Done, Bad, Then, record_items, decided_items}
 use Rattle.hx_record.specs.declared.Event.{Event}
@@ -10,6 +10,7 @@ use Rattle.hx_core.specs.Steps.{answer_of, EventAsksFor, refusal_of, world_after
 use Rattle.hx_core.specs.World.{first_world, World}
 use Rattle.hx_core.specs.declared.fault.StepFault.{StepFault}
 use Rattle.hx_core.specs.declared.fault.StepFault.TheVariants.{UnknownConn, ConnOpen, TooLarge, NoMemory}
+use Rattle.hx_outside.specs.Log.{HoldsSince, Log}
 use Rattle.hx_outside.specs.Makers.{ExpressionText}
 
 -- a run that ends here without an answer
@@ -70,6 +71,31 @@ pub record WritesDecided (program : Program) (left left' old new : Option (List 
   pub consumed : Consumes left left' took
   pub going_on : (decided_outcome program took).end ≡ Undecided
   pub written : Appends old new (decided_outcome program took).answers
+
+-- the bytes that reads gave, one after the other
+abbrev pub bytes_given : Log → List ℕ
+bytes_given reads = flat_map (λ read. unwrap_or read []) reads
+
+-- Of the reads since the old log, where the new one is known: P holds of the bytes that all of them
+-- but the last gave, where there was a last.
+abbrev pub HoldsBeforeLastRead : (log log' : Option Log) → (List ℕ → Type 0) → Type 0
+HoldsBeforeLastRead log log' P = HoldsSince log log' (λ reads.
+    (before : Log) (last : Option (List ℕ)) → reads ≡ before ++ (last ∷ [])
+    → P (bytes_given before))
+
+-- what was written begins with all answers to the events that these first bytes of a record decide,
+-- whatever follows them
+pub record BeginsWithDecided (program : Program) (bytes : List ℕ) (old new : Option (List ℕ))
+    : Type 0 where
+  pub rest : List ℕ
+  pub written : Appends old new ((decided_outcome program bytes).answers ++ rest)
+
+-- What is decided is written before more is read: what was written begins with all answers to the
+-- events that the bytes of all reads but the last decide.
+abbrev pub WritesBeforeReading : Program → (log log' : Option Log) → (old new : Option (List ℕ))
+    → Type 0
+WritesBeforeReading program log log' old new =
+    HoldsBeforeLastRead log log' (λ bytes. BeginsWithDecided program bytes old new)
 
 -- the events of a record that is read to its end
 abbrev pub events_of : Items → Option (List Event)

@@ -8,6 +8,7 @@ use Rattle.std.specs.declared.vec.Vec.{Vec}
 use Rattle.hx_base.specs.Pairs.{NamedBytes, pairs_of, value_at}
 use Rattle.hx_load.specs.Loads.{GivesProgram, Judges, Loading, ReadsFile, loaded}
 use Rattle.hx_load.specs.Loads as loading
+use Rattle.hx_outside.specs.Log.{Log}
 use Rattle.hx_outside.specs.Makers.{ExpressionText}
 use Rattle.hx_outside.specs.Prefixes.{AppendsPrefix}
 use Rattle.hx_record.specs.Record.{record_items}
@@ -18,7 +19,7 @@ use Rattle.hx_rules.specs.Programs.{Rules, rule_count}
 use Rattle.hx_words.specs.Variable.{Env}
 use Rattle.hxeval.specs.Outcome.{Outcome, Completed, ConfigRefused, Undecided, status_of, text_of}
 pub use Rattle.hxeval.specs.Outcome.{config_line}
-use Rattle.hxeval.specs.Replay.{IsRecord, ReplayAsksLast, WritesDecided, record_limit, ends_with, record_outcome, events_of, AreAllowed, answers_to, initial_world}
+use Rattle.hxeval.specs.Replay.{BeginsWithDecided, HoldsBeforeLastRead, IsRecord, ReplayAsksLast, WritesDecided, record_limit, ends_with, record_outcome, events_of, AreAllowed, answers_to, initial_world}
 use Rattle.hxeval.specs.Program.{Program}
 use Rattle.hxeval.specs.declared.command.Task.{Task}
 use Rattle.hxeval.specs.declared.command.Task.TheVariants.{Check, Replay}
@@ -175,6 +176,14 @@ Checked s old new = AcceptsSome s (λ program.
 abbrev pub SourceFails : Setting → (left' old new : Option (List ℕ)) → Type 0
 SourceFails s left' old new =
     (s.task ≡ Replay) × AcceptsSome s (λ program. WritesDecided program s.left left' old new)
+
+-- The record is read only where it is to be answered and the configuration was accepted, and what is
+-- decided is written before more is read: what was written begins with all answers to the events
+-- that the bytes of all reads but the last decide.
+abbrev pub AnswersBeforeReading : Setting → (log log' : Option Log) → (old new : Option (List ℕ))
+    → Type 0
+AnswersBeforeReading s log log' old new = HoldsBeforeLastRead log log' (λ bytes.
+    (s.task ≡ Replay) × AcceptsSome s (λ program. BeginsWithDecided program bytes old new))
 
 -- The last text that was too large for the maker is one that is read as a regular expression when
 -- the configuration is loaded.

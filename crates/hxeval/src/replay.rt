@@ -6,9 +6,9 @@ ghost use Rattle.hx_outside.specs.Count.{Rose};
 ghost use Rattle.hx_outside.specs.Prefixes.{AppendsPrefix};
 ghost use Rattle.hx_record.specs.Reading.{Fills};
 ghost use Rattle.hx_record.specs.State.{remaining_work};
-ghost use Rattle.hxeval.specs.Replay.{ReplayAsksLast, WritesDecided};
+ghost use Rattle.hxeval.specs.Replay.{ReplayAsksLast, WritesBeforeReading, WritesDecided};
 ghost use Rattle.hxeval.specs.RunFault.{IsReplayFault};
-ghost use Rattle.hxeval.specs.Gathering.{Replays, Passes, AnswersEvent, GathersAnswer, IsFailure};
+ghost use Rattle.hxeval.specs.Gathering.{Replays, Passes, AnswersEvent, GathersAnswer, IsFailure, LogsFailure};
 
 use crate::answer::Answers;
 use crate::run_fault::RunFault;
@@ -32,7 +32,8 @@ const UNKNOWN_CONN: u32 = 6;
 const CONN_OPEN: u32 = 7;
 
 /// Answers the events of a record in order. Answers are gathered while the bytes that were read
-/// decide the next event, and are written before more of the record is read.
+/// decide the next event, and are written before more of the record is read: whatever comes of the
+/// replay, what the bytes of all reads but the last decide was written.
 ///
 /// `RecordRefused` exactly where the record is refused, after the answers to the events before.
 /// `Source` and `Sink` only where the count of faults of that one rose, `TooLarge` only where the
@@ -56,6 +57,9 @@ pub fn replay<S: Source, K: Sink, M: ReMaker>(
     ensures decided { IsErrOf result RunFault.Source
         → WritesDecided (record { rules = rules; references = refs.content }) (S.left record_in.old)
         (S.left record_in.new) (K.written out.old) (K.written out.new) }
+    ensures before_reading { WritesBeforeReading
+        (record { rules = rules; references = refs.content })
+        (S.log record_in.old) (S.log record_in.new) (K.written out.old) (K.written out.new) }
     ensures at_end { OnOk result (IsAtEnd (S.left record_in.new)) }
     ensures kind { IfErr result IsReplayFault }
     ensures source { IsErrOf result RunFault.Source
@@ -96,6 +100,9 @@ fn gather<S: Source, K: Sink, M: ReMaker>(
     ensures decided { IsErrOf result RunFault.Source
         → WritesDecided (record { rules = rules; references = refs.content }) (S.left record_in.old)
         (S.left record_in.new) (K.written out.old) (K.written out.new) }
+    ensures before_reading { WritesBeforeReading
+        (record { rules = rules; references = refs.content })
+        (S.log record_in.old) (S.log record_in.new) (K.written out.old) (K.written out.new) }
     ensures empty { IsErrOf result RunFault.Source → answers.new ≡ [] }
     ensures at_end { OnOk result (IsAtEnd (S.left record_in.new)) }
     ensures kind { IfErr result IsReplayFault }
@@ -202,6 +209,8 @@ fn read_more<S: Source, K: Sink>(
         → remaining_work reader.new < remaining_work reader.old) }
     ensures err { OnErr result (reader.new ≡ reader.old) }
     ensures kept { OnErr result (Keeps (S.left record_in.old) (S.left record_in.new)) }
+    ensures log { IfErr result (λ fault.
+        LogsFailure fault (S.log record_in.old) (S.log record_in.new)) }
     ensures kind { IfErr result IsFailure }
     ensures empty { answers.new ≡ [] }
     ensures prefix { AppendsPrefix (K.written out.old) (K.written out.new) answers.old }

@@ -4,7 +4,7 @@ ghost use Rattle.hx_outside.specs.Count.{Rose};
 ghost use Rattle.hx_outside.specs.Prefixes.{AppendsPrefix};
 ghost use Rattle.hxeval.specs.Command.{asked_of};
 ghost use Rattle.hxeval.specs.Run.{check_line, command_of, texts_of, setting, setting_of};
-ghost use Rattle.hxeval.specs.Run.{Checked, Ran, HasStatus, Headline};
+ghost use Rattle.hxeval.specs.Run.{AnswersBeforeReading, Checked, Ran, HasStatus, Headline};
 ghost use Rattle.hxeval.specs.Run.{RunAsksLast, RunJudgesLast, RunReads, SourceFails};
 ghost use Rattle.hxeval.specs.RunFault.{Attempted, Finishes};
 ghost use Rattle.hxeval.specs.declared.command.Task.{Task};
@@ -24,7 +24,7 @@ use std::alloc::{AllocError, Global};
 ///
 /// `run CONFIG` reads the file CONFIG as a configuration, and answers the events of the record in
 /// order: requests, and lines of the management socket. Answers are written before more of the
-/// record is read: `outside` says so of a read that fails, and tests show it of the others.
+/// record is read, at any status (`before_reading`).
 /// `check CONFIG` judges the configuration alone, and where it is accepted writes `ok RULES REFS`:
 /// how many rules and how many references it has. Files that the configuration names are read
 /// through `files` too, and regular expressions are made by `maker`.
@@ -40,10 +40,11 @@ use std::alloc::{AllocError, Global};
 /// | 7 | memory ran out |
 /// | 8 | a regular expression is too large for the maker |
 ///
-/// Where contracts don't know what the files hold, what the source has left or what was written to
-/// the sink (`held`, `left`, `written`), as of the machine's own files and streams, `headline`,
-/// `checked`, `ran`, `complete`, `outside`, `named` and `too_large` say nothing of these bytes:
-/// what the machine's adapters do with them is trusted, and tested.
+/// Where contracts don't know what the files hold, what the source has left or what its reads gave,
+/// or what was written to the sink (`held`, `left`, `log`, `written`), as of the machine's own files
+/// and streams, `headline`, `checked`, `ran`, `before_reading`, `complete`, `outside`, `named` and
+/// `too_large` say nothing of these bytes: what the machine's adapters do with them is trusted, and
+/// tested.
 pub fn run<F: Files, S: Source, K: Sink, M: ReMaker>(
     alloc: Global,
     words: &[Vec<u8>],
@@ -70,6 +71,10 @@ pub fn run<F: Files, S: Source, K: Sink, M: ReMaker>(
         Ran given (K.written out.old) (K.written out.new) result) }
     ensures at_end { result ≡ 0 → IfSome (command_of (texts_of words.now))
         (λ command. command.task ≡ Task.Replay → IsAtEnd (S.left record_in.new)) }
+    ensures before_reading { IfSome
+        (setting_of words.now env.now (F.held files.old) (S.left record_in.old)) (λ given.
+        AnswersBeforeReading given (S.log record_in.old) (S.log record_in.new)
+        (K.written out.old) (K.written out.new)) }
     ensures config_refused { result ≡ 3 → record_in.new ≡ record_in.old }
     ensures unread { IfSome (command_of (texts_of words.now))
         (λ command. command.task ≡ Task.Check → record_in.new ≡ record_in.old) }
@@ -129,6 +134,9 @@ fn attempt<F: Files, S: Source, K: Sink, M: ReMaker>(
     ensures attempted { Attempted
         (setting env.now (F.held files.old) (asked_of command.entry) (S.left record_in.old))
         (K.written out.old) (K.written out.new) result }
+    ensures before_reading { AnswersBeforeReading
+        (setting env.now (F.held files.old) (asked_of command.entry) (S.left record_in.old))
+        (S.log record_in.old) (S.log record_in.new) (K.written out.old) (K.written out.new) }
     ensures at_end { command.entry.task ≡ Task.Replay
         → OnOk result (IsAtEnd (S.left record_in.new)) }
     ensures config_refused { (line code : ℕ) → result ≡ Err (RunFault.ConfigRefused line code)

@@ -1,16 +1,18 @@
-use Rattle.std.proofs.Common.{◌≡◌, ◌+◌, ◌≤◌, arith, Ok, Err, refl, subst, sym, ◌∙◌, ap}
+use Rattle.std.proofs.Common.{arith, Ok, Err, refl, subst, sym, ◌∙◌, ap}
 use mathlib.Core.Bool.{true≢false}
 use Rattle.std.proofs.lemmas.Result.{err_from_is_err_and}
 use Rattle.hx_record.specs.declared.Next.TheVariants as next
 use Rattle.hx_outside.specs.Count.{Rose}
 use Rattle.hxeval.specs.RunFault.{reader_fault}
 use Rattle.hxeval.specs.declared.run_fault.RunFault.TheVariants as run
+use Rattle.hxeval.proofs.BeforeReadingLemmas.{before_failure, event_writes}
 use Rattle.hxeval.proofs.ReplayLemmas.{failure_not_large, handed_back, handed_on, progress_start, progress_decides, progress_fills, progress_answers, reader_not_large, replays_asks, replays_end, replays_fault, replays_lost, replays_event, no_source, writes_decided}
 use Rattle.hxeval.proofs.replay.gather.Goals as goal
 
 pub events-init : goal.events-init
 events-init g c = rw (c.new-engine.ensures, c.new-reader.ensures, c.requires.none) (record {
-  progress = progress_start (record { rules = c.args.rules; references = c.args.refs.content }) (g.S.Source.left c.args.record_in.now) (g.K.Sink.written c.args.out.now);
+  progress = progress_start (record { rules = c.args.rules; references = c.args.refs.content }) (g.S.Source.left c.args.record_in.now) (g.S.Source.log c.args.record_in.now)
+      (g.K.Sink.written c.args.out.now);
   within = omega arith;
   ended = λ is. absurd (true≢false (sym is));
   running = refl;
@@ -93,7 +95,7 @@ events-preserved g c =
     let fills = c.in_ok-read_more-in-Undecided.ensures.ok in
     let q = progress_fills (record { rules = c.args.rules; references = c.args.refs.content }) c.events.engine.world c.next_decided.new.self c.read_more.new.reader (g.S.Source.left c.args.record_in.now)
     (g.S.Source.left c.events.record_in) (g.S.Source.left c.read_more.new.record_in) (g.K.Sink.written c.args.out.now) (g.K.Sink.written c.events.out)
-    (g.K.Sink.written c.read_more.new.out) c.events.answers p undecided.0 c.in_ok-read_more-in-Undecided.ensures.written fills in
+    (g.K.Sink.written c.read_more.new.out) c.events.answers p undecided.0 undecided.1 c.in_ok-read_more-in-Undecided.ensures.written fills in
     record {
       progress = rw c.read_more.ensures.empty q;
       within = omega (arith, within, p.limit, fills.at);
@@ -176,3 +178,29 @@ returns-in_err-read_more-in-Undecided-clause-too_large g c = λ is.
     let r = err_from_is_err_and c.from_residual-in_err-read_more-in-Undecided.result c.from_residual-in_err-read_more-in-Undecided.ensures.1 in
     let large = handed_on c.from_residual-in_err-read_more-in-Undecided.result r.0 c.in_err-read_more-in-Undecided.field-0.0 run.TooLarge r.1 r.2 is in
     absurd (failure_not_large c.in_err-read_more-in-Undecided.field-0.0 c.in_err-read_more-in-Undecided.ensures.kind large)
+
+pub returns-in_err-placed-clause-before_reading : goal.returns-in_err-placed-clause-before_reading
+returns-in_err-placed-clause-before_reading g c = c.events.invariant.progress.before_reading
+
+pub returns-in_err-answer_event-in-Event-clause-before_reading : goal.returns-in_err-answer_event-in-Event-clause-before_reading
+returns-in_err-answer_event-in-Event-clause-before_reading g c =
+    event_writes (record { rules = c.args.rules; references = c.args.refs.content }) c.events.engine.world c.answer_event.new.engine.world c.in-Event.placed
+    (g.S.Source.log c.args.record_in.now) (g.S.Source.log c.events.record_in) (g.K.Sink.written c.args.out.now) (g.K.Sink.written c.events.out)
+    (g.K.Sink.written c.answer_event.new.out) c.events.answers c.answer_event.new.answers c.in_err-answer_event-in-Event.field-0.0
+    c.in_err-answer_event-in-Event.ensures.answers c.events.invariant.progress.before_reading
+
+pub returns-in_err-read_more-in-Undecided-clause-before_reading : goal.returns-in_err-read_more-in-Undecided-clause-before_reading
+returns-in_err-read_more-in-Undecided-clause-before_reading g c =
+    let decides = rw c.in-Undecided.is at c.in_ok-placed.ensures.decides in
+    let p = progress_decides (record { rules = c.args.rules; references = c.args.refs.content }) c.events.engine.world c.events.reader c.next_decided.new.self (g.S.Source.left c.args.record_in.now)
+    (g.S.Source.left c.events.record_in) (g.K.Sink.written c.args.out.now) (g.K.Sink.written c.events.out) c.events.answers
+    (Ok next.Undecided) c.events.invariant.progress decides in
+    let undecided = c.in_ok-placed.ensures.undecided (ap Ok c.in-Undecided.is) in
+    before_failure (record { rules = c.args.rules; references = c.args.refs.content }) c.events.engine.world c.next_decided.new.self (g.S.Source.left c.args.record_in.now) (g.S.Source.left c.events.record_in)
+    (g.S.Source.log c.args.record_in.now) (g.S.Source.log c.events.record_in) (g.S.Source.log c.read_more.new.record_in)
+    (g.K.Sink.written c.args.out.now) (g.K.Sink.written c.events.out) (g.K.Sink.written c.read_more.new.out)
+    c.events.answers p undecided.0 undecided.1 c.in_err-read_more-in-Undecided.field-0.0 c.in_err-read_more-in-Undecided.ensures.log
+    (λ source. c.in_err-read_more-in-Undecided.ensures.before_reading (ap Err source)) c.read_more.ensures.prefix
+
+pub returns-in-End-clause-before_reading : goal.returns-in-End-clause-before_reading
+returns-in-End-clause-before_reading g c = c.events.invariant.progress.before_reading

@@ -8,7 +8,7 @@ use Rattle.hxeval.proofs.replay.gather.Given as goal
 abbrev pub invariant-events : goal.invariant-events
 invariant-events g l = record {
   progress : Progress AreSame (record { rules = l.fn.rules; references = l.fn.refs.content }) l.engine.world l.reader (g.S.Source.left l.fn.record_in)
-      (g.S.Source.left l.record_in) (g.K.Sink.written l.fn.out) (g.K.Sink.written l.out) l.answers;
+      (g.S.Source.left l.record_in) (g.S.Source.log l.fn.record_in) (g.S.Source.log l.record_in) (g.K.Sink.written l.fn.out) (g.K.Sink.written l.out) l.answers;
   within : l.reader.at ≤ record_limit;
   ended : l.reader.ended ≡ true → IsAtEnd (g.S.Source.left l.record_in);
   running : l.engine.stopped ≡ None;

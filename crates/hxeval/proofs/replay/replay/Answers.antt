@@ -1,5 +1,6 @@
 use Rattle.std.proofs.Common.{Err, ap}
 use Rattle.std.proofs.lemmas.Result.{err_from_is_err_and}
+use Rattle.hxeval.proofs.BeforeReadingLemmas.{gathered_written}
 use Rattle.hxeval.proofs.ReplayLemmas.{handed_back, handed_on, replays_written, replays_written_part, sink_kinds, sink_not_large}
 use Rattle.hxeval.specs.RunFault.{sink_fault}
 use Rattle.hxeval.specs.declared.run_fault.RunFault.TheVariants as run
@@ -29,3 +30,15 @@ returns-in_err-write_answers-clause-uncounted g c = λ not_large no_sink no_memo
     let p = err_from_is_err_and c.from_residual.result c.from_residual.ensures.1 in
     let back = handed_back c.from_residual.result p.0 (sink_fault c.in_err-write_answers.field-0.0) in
     absurd (sink_kinds c.in_err-write_answers.field-0.0 (λ is. no_sink (back run.Sink p.1 p.2 (ap Err is))) (λ is. no_memory (back run.NoMemory p.1 p.2 (ap Err is))))
+
+pub returns-in_err-write_answers-clause-before_reading : goal.returns-in_err-write_answers-clause-before_reading
+returns-in_err-write_answers-clause-before_reading g c =
+    gathered_written (record { rules = c.args.rules; references = c.args.refs.content }) (g.S.Source.log c.args.record_in.now) (g.S.Source.log c.gather-ended.new.record_in)
+    (g.K.Sink.written c.args.out.now) (g.K.Sink.written c.gather-ended.new.out) (g.K.Sink.written c.write_answers.new.out) c.gather-ended.new.answers
+    c.gather-ended.ensures.before_reading c.write_answers.ensures.prefix
+
+pub returns-clause-before_reading : goal.returns-clause-before_reading
+returns-clause-before_reading g c =
+    gathered_written (record { rules = c.args.rules; references = c.args.refs.content }) (g.S.Source.log c.args.record_in.now) (g.S.Source.log c.gather-ended.new.record_in)
+    (g.K.Sink.written c.args.out.now) (g.K.Sink.written c.gather-ended.new.out) (g.K.Sink.written c.write_answers.new.out) c.gather-ended.new.answers
+    c.gather-ended.ensures.before_reading c.write_answers.ensures.prefix

@@ -4,7 +4,7 @@ use Rattle.hxeval.specs.Command.{asked_of}
 use Rattle.hxeval.specs.Run.{setting}
 use Rattle.hxeval.specs.RunFault.{fault_of_file, load_fault, sink_fault}
 use Rattle.hxeval.specs.declared.run_fault.RunFault.TheVariants as run
-use Rattle.hxeval.proofs.RunLemmas.{check_failed, checked_run, config_named, config_unread, file_failed, fits, load_failed, load_judges, load_large, load_named, load_reads, no_config, no_config_at_sink, no_files, only_sink, reads_config, replayed_run, run_asks, source_fails, unchecked_run, unloaded, unread}
+use Rattle.hxeval.proofs.RunLemmas.{answers_before, check_failed, checked_run, config_named, config_unread, file_failed, fits, load_failed, load_judges, load_large, load_named, load_reads, no_config, no_config_at_sink, no_files, nothing_read, only_sink, reads_config, replayed_run, run_asks, source_fails, unchecked_run, unloaded, unread}
 use Rattle.hxeval.proofs.run.attempt.Goals as goal
 
 pub returns-in_err-config-clause-attempted : goal.returns-in_err-config-clause-attempted
@@ -194,3 +194,28 @@ returns-clause-named g c =
     (reads_config (setting c.args.env.now (g.F.Files.held c.args.files.now) (asked_of c.args.command) (g.S.Source.left c.args.record_in.now)) (g.F.Files.held c.read.new.self) c.usual.result c.in_ok-config.config.items c.as_slice.result.now
     c.in_ok-config.ensures.bytes c.in_ok-config.ensures.same c.usual.ensures c.as_slice.ensures.value)
     c.in_ok-config.ensures.kept c.in_ok-rules.ensures.named
+
+pub returns-in_err-config-clause-before_reading : goal.returns-in_err-config-clause-before_reading
+returns-in_err-config-clause-before_reading g c = nothing_read (setting c.args.env.now (g.F.Files.held c.args.files.now) (asked_of c.args.command) (g.S.Source.left c.args.record_in.now))
+    (g.S.Source.log c.args.record_in.now) (g.K.Sink.written c.args.out.now) (g.K.Sink.written c.args.out.now)
+
+pub returns-in_err-rules-clause-before_reading : goal.returns-in_err-rules-clause-before_reading
+returns-in_err-rules-clause-before_reading g c = nothing_read (setting c.args.env.now (g.F.Files.held c.args.files.now) (asked_of c.args.command) (g.S.Source.left c.args.record_in.now))
+    (g.S.Source.log c.args.record_in.now) (g.K.Sink.written c.args.out.now) (g.K.Sink.written c.args.out.now)
+
+pub returns-in_err-write_check-in-Check-clause-before_reading : goal.returns-in_err-write_check-in-Check-clause-before_reading
+returns-in_err-write_check-in-Check-clause-before_reading g c = nothing_read (setting c.args.env.now (g.F.Files.held c.args.files.now) (asked_of c.args.command) (g.S.Source.left c.args.record_in.now))
+    (g.S.Source.log c.args.record_in.now) (g.K.Sink.written c.args.out.now) (g.K.Sink.written c.write_check.new.out)
+
+pub returns-clause-before_reading : goal.returns-clause-before_reading
+returns-clause-before_reading g c = nothing_read (setting c.args.env.now (g.F.Files.held c.args.files.now) (asked_of c.args.command) (g.S.Source.left c.args.record_in.now))
+    (g.S.Source.log c.args.record_in.now) (g.K.Sink.written c.args.out.now) (g.K.Sink.written c.write_check.new.out)
+
+pub returns-in-Replay-clause-before_reading : goal.returns-in-Replay-clause-before_reading
+returns-in-Replay-clause-before_reading g c =
+    answers_before (setting c.args.env.now (g.F.Files.held c.args.files.now) (asked_of c.args.command) (g.S.Source.left c.args.record_in.now))
+    (g.F.Files.held c.read.new.self) c.usual.result c.in_ok-config.config.items c.as_slice.result.now c.in_ok-rules.rules c.in_ok-rules.refs
+    (g.S.Source.log c.args.record_in.now) (g.S.Source.log c.replay.new.record_in) (g.K.Sink.written c.args.out.now) (g.K.Sink.written c.replay.new.out) c.in-Replay.is
+    (reads_config (setting c.args.env.now (g.F.Files.held c.args.files.now) (asked_of c.args.command) (g.S.Source.left c.args.record_in.now)) (g.F.Files.held c.read.new.self) c.usual.result c.in_ok-config.config.items c.as_slice.result.now
+    c.in_ok-config.ensures.bytes c.in_ok-config.ensures.same c.usual.ensures c.as_slice.ensures.value)
+    c.in_ok-rules.ensures.loads c.replay.ensures.before_reading

@@ -1,5 +1,5 @@
-use Rattle.std.proofs.Common.{◌≡◌, ◌<◌, ◌∙◌, Err, inl, inr, ap, arith, refl}
-use Rattle.hxeval.proofs.RunLemmas.{source_moved}
+use Rattle.std.proofs.Common.{◌<◌, ◌∙◌, Err, inl, inr, ap, arith, refl}
+use Rattle.hxeval.proofs.RunLemmas.{before_finished, source_moved}
 use Rattle.hxeval.proofs.StatusLemmas.{headline, checked, ran_completed, finished_status, ran_finished, finished_by, finished_line, is_config_refused, is_outside, is_large, large_line, sink_rose, complete}
 use Rattle.hxeval.proofs.run.run.Goals as goal
 
@@ -95,3 +95,12 @@ returns-in-Err-clause-complete g c = rw (← c.in-Some.ensures) (λ files source
 
 pub returns-in-Err-clause-named : goal.returns-in-Err-clause-named
 returns-in-Err-clause-named g c = rw (← c.in-Some.ensures) c.in-Err.ensures.named
+
+pub returns-in-Ok-clause-before_reading : goal.returns-in-Ok-clause-before_reading
+returns-in-Ok-clause-before_reading g c = rw (← c.in-Some.ensures) c.in-Ok.ensures.before_reading
+
+pub returns-in-Err-clause-before_reading : goal.returns-in-Err-clause-before_reading
+returns-in-Err-clause-before_reading g c = rw (← c.in-Some.ensures)
+    (before_finished _ (g.S.Source.log c.args.record_in.now) (g.S.Source.log c.attempt.new.record_in) (g.K.Sink.written c.args.out.now)
+    (g.K.Sink.written c.attempt.new.out) (g.K.Sink.written c.finish.new.out) c.in-Err.fault c.finish.result c.in-Err.ensures.before_reading
+    c.finish.ensures.finished)
