@@ -1,5 +1,6 @@
 pub mod BeforeReadingLemmas
 pub mod ExplainLemmas
+pub mod FirstVersionLemmas
 pub mod LastLineLemmas
 pub mod LogLemmas
 pub mod MachineLemmas

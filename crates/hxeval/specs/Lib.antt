@@ -1,5 +1,5 @@
 -- What a caller of `run` needs: programs, outcomes, what a record is answered, and the headline;
--- and what of it a law says of versions that are never committed.
+-- and what is said beside it of versions that are never committed.
 pub mod Outcome
 pub mod Program
 pub mod Replay

@@ -25,7 +25,7 @@ pub fn versions_that_are_never_committed_show_in_no_answer()
     ensures { (given : Setting) (old new : Option (List ℕ)) (done : Headline given old new)
         (r v : ℕ) → IsNotSearched done.program.references r v
         → IsNeverCommitted r v (initial_world done.program) done.events
-        → ShowsInNoAnswer r v done.program done.events }
+        → ShowsInNoAnswer r v (initial_world done.program) done.events old new }
 {
     laws::versions_that_are_never_committed_change_no_answer();
 }

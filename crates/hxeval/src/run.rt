@@ -7,6 +7,7 @@ ghost use Rattle.hxeval.specs.Run.{check_line, command_of, texts_of, setting, se
 ghost use Rattle.hxeval.specs.Run.{AnswersBeforeReading, Checked, Ran, HasStatus, Headline};
 ghost use Rattle.hxeval.specs.Run.{RunAsksLast, RunJudgesLast, RunReads, SourceFails};
 ghost use Rattle.hxeval.specs.RunFault.{Attempted, Finishes};
+ghost use Rattle.hxeval.specs.Unseen.{ShowsNoUncommittedVersion};
 ghost use Rattle.hxeval.specs.declared.command.Task.{Task};
 
 use crate::command::{Command, Task, command_of};
@@ -42,9 +43,9 @@ use std::alloc::{AllocError, Global};
 ///
 /// Where contracts don't know what the files hold, what the source has left or what its reads gave,
 /// or what was written to the sink (`held`, `left`, `log`, `written`), as of the machine's own files
-/// and streams, `headline`, `checked`, `ran`, `before_reading`, `complete`, `outside`, `named` and
-/// `too_large` say nothing of these bytes: what the machine's adapters do with them is trusted, and
-/// tested.
+/// and streams, `headline`, `unseen`, `checked`, `ran`, `before_reading`, `complete`, `outside`,
+/// `named` and `too_large` say nothing of these bytes: what the machine's adapters do with them is
+/// trusted, and tested.
 pub fn run<F: Files, S: Source, K: Sink, M: ReMaker>(
     alloc: Global,
     words: &[Vec<u8>],
@@ -63,6 +64,10 @@ pub fn run<F: Files, S: Source, K: Sink, M: ReMaker>(
     ensures headline { result ≡ 0 → IfSome
         (setting_of words.now env.now (F.held files.old) (S.left record_in.old)) (λ given.
         given.task ≡ Task.Replay → Headline given (K.written out.old) (K.written out.new)) }
+    ensures unseen { result ≡ 0 → IfSome
+        (setting_of words.now env.now (F.held files.old) (S.left record_in.old)) (λ given.
+        given.task ≡ Task.Replay
+        → ShowsNoUncommittedVersion given (K.written out.old) (K.written out.new)) }
     ensures checked { result ≡ 0 → IfSome
         (setting_of words.now env.now (F.held files.old) (S.left record_in.old)) (λ given.
         given.task ≡ Task.Check → Checked given (K.written out.old) (K.written out.new)) }

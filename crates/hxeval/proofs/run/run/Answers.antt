@@ -1,10 +1,15 @@
 use Rattle.std.proofs.Common.{◌<◌, ◌∙◌, Err, inl, inr, ap, arith, refl}
 use Rattle.hxeval.proofs.RunLemmas.{before_finished, source_moved}
 use Rattle.hxeval.proofs.StatusLemmas.{headline, checked, ran_completed, finished_status, ran_finished, finished_by, finished_line, is_config_refused, is_outside, is_large, large_line, sink_rose, complete}
+use Rattle.hxeval.proofs.UnseenLemmas.{shows_no_uncommitted_version}
 use Rattle.hxeval.proofs.run.run.Goals as goal
 
 pub returns-in-Ok-clause-headline : goal.returns-in-Ok-clause-headline
 returns-in-Ok-clause-headline g c = rw (← c.in-Some.ensures) (λ done asked. headline _ _ _ asked c.in-Ok.ensures.attempted)
+
+pub returns-in-Ok-clause-unseen : goal.returns-in-Ok-clause-unseen
+returns-in-Ok-clause-unseen g c =
+    rw (← c.in-Some.ensures) (λ done asked. shows_no_uncommitted_version _ _ _ (headline _ _ _ asked c.in-Ok.ensures.attempted))
 
 pub returns-in-Ok-clause-checked : goal.returns-in-Ok-clause-checked
 returns-in-Ok-clause-checked g c = rw (← c.in-Some.ensures) (λ done asked. checked _ _ _ asked c.in-Ok.ensures.attempted)
