@@ -2,6 +2,7 @@ use crate::edits::{edits_case, edits_in_case};
 use crate::fetch::fetch_case;
 use crate::http::{read_head_case, read_head_in_case};
 use crate::lists::{cookies_case, hdr_values_case, params_case};
+use crate::machine::{failing_reads_case, failing_writes_case, machine_file_case};
 use crate::outside::{
     dir_files_case, mem_files_case, read_to_end_case, reads_case, std_reads_case, std_sink_case,
     std_source_case, write_all_case, writes_case,
@@ -40,6 +41,7 @@ impl<'a, R: rt::Files> Calls for LibraryCalls<'a, R> {
     ) -> Result<(), CaseFault> {
         match name {
             b"dir_files" => dir_files_case(self.rt, alloc, out, args),
+            b"machine_file" => machine_file_case(self.rt, alloc, out, args),
             b"vars" => vars_case(alloc, &mut self.state.vars, out, args),
             b"request" => request_case(alloc, &mut self.state, args),
             b"connection" => connection_case(&mut self.state, args),
@@ -81,6 +83,7 @@ fn source_call(
         b"record_reads" => record_case(alloc, out, args, true),
         b"reads" => reads_case(alloc, out, args),
         b"std_reads" => std_reads_case(alloc, out, args),
+        b"failing_reads" => failing_reads_case(alloc, out, args),
         b"read_to_end" => read_to_end_case(alloc, out, args),
         b"std_source" => std_source_case(alloc, out, args),
         _ => sink_call(alloc, out, name, args),
@@ -97,6 +100,7 @@ fn sink_call(
     match name {
         b"writes" => writes_case(alloc, out, args),
         b"write_all" => write_all_case(alloc, out, args),
+        b"failing_writes" => failing_writes_case(alloc, out, args),
         b"std_sink" => std_sink_case(alloc, out, args),
         b"mem_files" => mem_files_case(alloc, out, args),
         _ => word_call(alloc, out, name, args),

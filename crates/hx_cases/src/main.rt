@@ -7,6 +7,7 @@ mod edits;
 mod fetch;
 mod http;
 mod lists;
+mod machine;
 mod outside;
 mod record;
 mod sample;

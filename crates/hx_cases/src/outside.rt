@@ -66,7 +66,7 @@ fn show_reads<S: Source + Drop>(
 }
 
 /// Reads once, and writes what the read gives, and what the buffer holds then.
-fn show_read<S: Source>(
+pub fn show_read<S: Source>(
     out: &mut String,
     source: &mut S,
     buf: &mut Vec<u8>,
@@ -81,7 +81,8 @@ fn show_read<S: Source>(
     show(out, buf.as_slice())
 }
 
-fn show_whole(out: &mut String, read: Result<Vec<u8>, ReadFault>) -> Result<(), CaseFault> {
+/// Writes what a source was read to, or that it failed or was too long.
+pub fn show_whole(out: &mut String, read: Result<Vec<u8>, ReadFault>) -> Result<(), CaseFault> {
     match read {
         Ok(bytes) => show(out, bytes.as_slice()),
         Err(ReadFault::Failed) => Ok(out.push_str("failed")?),
@@ -114,7 +115,8 @@ pub fn std_source_case(alloc: Global, out: &mut String, args: &[Vec<u8>]) -> Res
     show_whole(out, read)
 }
 
-fn show_written(out: &mut String, written: Result<(), SinkFault>) -> Result<(), CaseFault> {
+/// Writes whether a text was written.
+pub fn show_written(out: &mut String, written: Result<(), SinkFault>) -> Result<(), CaseFault> {
     match written {
         Ok(()) => Ok(out.push_str("ok ")?),
         Err(SinkFault::Failed) => Ok(out.push_str("failed ")?),
@@ -174,7 +176,8 @@ pub fn std_sink_case(alloc: Global, out: &mut String, args: &[Vec<u8>]) -> Resul
     show(out, held.as_slice())
 }
 
-fn show_file(out: &mut String, read: Result<Vec<u8>, FileFault>) -> Result<(), CaseFault> {
+/// Writes the bytes of a file, or that it failed.
+pub fn show_file(out: &mut String, read: Result<Vec<u8>, FileFault>) -> Result<(), CaseFault> {
     match read {
         Ok(bytes) => show(out, bytes.as_slice()),
         Err(FileFault::Failed) => Ok(out.push_str("failed")?),
