@@ -160,8 +160,9 @@ impl Reader {
         }
     }
 
-    /// Reads `source` once: takes the bytes that it gives, or its end. After `Failed`, which the
-    /// source counts, and after `NoMemory`, where nothing was read, the reader is as before.
+    /// Reads `source` once, into a buffer of 4,096 bytes at least, as tests show: takes the bytes
+    /// that it gives, or its end. After `Failed`, which the source counts, and after `NoMemory`,
+    /// where nothing was read, the reader is as before.
     pub fn fill<S: Source>(&mut self, source: &mut S) -> Result<(), RecordFault>
         requires { self.old.ended ≡ false }
         ensures ok { OnOk result (Fills self.old self.new (S.left source.old) (S.left source.new)

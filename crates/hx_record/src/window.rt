@@ -11,6 +11,9 @@ use std::marker::Model;
 /// How many bytes a buffer grows by at least.
 const GROWTH: usize = 65_536;
 
+/// How many bytes a source is asked for at least.
+const LEAST: usize = 4_096;
+
 /// The bytes that were read and not yet used, in a buffer that is used again. Contracts see the
 /// bytes, and how much room follows them.
 #[derive(Drop)]
@@ -60,7 +63,7 @@ impl Window {
     /// Makes room after the bytes, which move to the buffer's start.
     pub(crate) fn reserve(&mut self) -> Result<(), AllocError>
         ensures bytes { self.new.bytes ≡ self.old.bytes }
-        ensures room { OnOk result (0 < self.new.room) }
+        ensures room { OnOk result (4096 ≤ self.new.room) }
     {
         if self.start > 0 {
             move_to_start(&mut self.buf, self.start, self.end);
@@ -72,7 +75,7 @@ impl Window {
 
     /// Reads into the room after the bytes, and answers how many came.
     pub(crate) fn read<S: Source>(&mut self, source: &mut S) -> Result<usize, Failed>
-        requires { 0 < self.old.room }
+        requires { 4096 ≤ self.old.room }
         ensures ok { IfOk result (λ count.
             AppendsRead (S.left source.old) (S.left source.new)
             (S.log source.old) (S.log source.new) self.old.bytes self.new.bytes count) }
@@ -104,10 +107,10 @@ fn make_room(buf: &mut Vec<u8>, end: usize) -> Result<(), AllocError>
     requires { end ≤ vec_len buf.old }
     ensures prefix { take end buf.new.items ≡ take end buf.old.items }
     ensures len { vec_len buf.old ≤ vec_len buf.new }
-    ensures room { OnOk result (end < vec_len buf.new) }
+    ensures room { OnOk result (end + 4096 ≤ vec_len buf.new) }
 {
     let len = buf.len();
-    if end < len {
+    if LEAST <= len - end {
         return Ok(());
     }
     buf.resize(len + len.max(GROWTH), 0)

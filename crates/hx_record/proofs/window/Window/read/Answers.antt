@@ -1,4 +1,4 @@
-use Rattle.std.proofs.Common.{◌<◌, ◌-◌, ◌++◌, ◌∙◌, ap, length, take, drop, arith, length-take-le, length-drop}
+use Rattle.std.proofs.Common.{◌≤◌, ◌-◌, ◌++◌, ◌∙◌, ap, length, take, drop, arith, length-take-le, length-drop}
 use Rattle.hx_record.specs.Room.{BytesWithRoom}
 use Rattle.hx_record.proofs.WindowLemmas.{grown}
 use Rattle.hx_record.proofs.window.Window.read.Goals as goal
@@ -10,7 +10,7 @@ returns-clause-ok g c =
     let end = c.self.inside.end in
     let rest = drop end c.read_after.new.buf.items in
     let size = length-drop end c.read_after.new.buf.items in
-    let room : 0 < length c.self.inside.buf.items - end = rw (← c.self.view_is) at c.requires in
+    let room : 4096 ≤ length c.self.inside.buf.items - end = rw (← c.self.view_is) at c.requires in
     record {
       got = take count rest;
       consumed = read.bytes.0;
