@@ -8,7 +8,7 @@ use Rattle.hx_outside.specs.Log.{Log}
 use Rattle.hx_outside.specs.declared.SinkFault.{SinkFault}
 use Rattle.hx_outside.specs.declared.SinkFault.TheVariants as sink
 use Rattle.hx_core.specs.Steps.{answer_of, EventAsksFor, IsRefusal, refusal_of, world_after}
-use Rattle.hx_core.specs.World.{World}
+use Rattle.hx_core.specs.World.{EngineParts, World}
 use Rattle.hx_core.specs.declared.fault.StepFault.{StepFault}
 use Rattle.hx_core.specs.declared.fault.StepFault.TheVariants as step
 use Rattle.hx_outside.specs.Makers.{ExpressionText, LastIsAsked}
@@ -21,7 +21,7 @@ use Rattle.hx_record.specs.declared.Next.TheVariants as next
 use Rattle.hx_record.specs.declared.Placed.{Placed}
 use Rattle.hx_record.specs.declared.RecordFault.{RecordFault}
 use Rattle.hx_record.specs.declared.RecordFault.TheVariants as reader
-use Rattle.hxeval.specs.Gathering.{Replays, Passes, AnswersEvent, GathersAnswer, IsFailure}
+use Rattle.hxeval.specs.Gathering.{program_in, AreAtBeginning, Replays, Passes, AnswersEvent, GathersAnswer, IsFailure}
 use Rattle.hxeval.specs.Outcome.{Outcome, Completed, RecordRefused, Undecided, after_answers}
 use Rattle.hxeval.specs.Replay.{bytes_given, BeginsWithDecided, IsRecord, ItemsAskFor, ReplayAsksLast, WritesBeforeReading, WritesDecided, record_limit, initial_world, ends_with, event_outcome, refusal_code, replay_outcome, record_outcome, decided_outcome}
 use Rattle.hxeval.specs.Program.{Program}
@@ -62,7 +62,7 @@ AreSame before after = before ≡ after
 abbrev pub Answer : Result Next RecordFault → Items → Items → Type 0
 Answer result before after = AnswersNext before after result
 
-pub progress_start : (program : Program) (left : Option (List ℕ)) (log : Option Log) (out : Option (List ℕ))
+progress_start : (program : Program) (left : Option (List ℕ)) (log : Option Log) (out : Option (List ℕ))
     → Progress AreSame program (initial_world program) (record { limit = record_limit; at = 0; pending = []; ended = false }) left left log log out out []
 progress_start program left log out = record {
   took = [];
@@ -74,6 +74,14 @@ progress_start program left log out = record {
   limit = refl;
   same = λ ends more may. (items_from ends 0 more record_limit, refl, refl, λ text asked. asked);
 }
+
+pub progress_begins : (engine : EngineParts) (s : State) (left : Option (List ℕ)) (log : Option Log) (out : Option (List ℕ)) → AreAtBeginning engine s
+    → Progress AreSame (program_in engine.world) engine.world s left left log log out out []
+progress_begins engine s left log out begins =
+    let program = program_in engine.world in
+    subst (λ (t : State). Progress AreSame program engine.world t left left log log out out []) (sym begins.reading)
+    (subst (λ (w : World). Progress AreSame program w (record { limit = record_limit; at = 0; pending = []; ended = false }) left left log log out out [])
+    (sym begins.world) (progress_start program left log out))
 
 after_twice : (first second : List ℕ) (outcome : Outcome)
     → after_answers first (after_answers second outcome) ≡ after_answers (first ++ second) outcome

@@ -1,15 +1,16 @@
 -- Views of the code of a replay: answers that are gathered before they are written.
-use Rattle.std.specs.Prelude.{◌≡◌, ℕ, List, [], ◌++◌, Option, None, Some, option_map, Result, Ok, Err, ⊤}
+use Rattle.std.specs.Prelude.{◌≡◌, ℕ, false, List, [], ◌++◌, Option, None, Some, option_map, Result, Ok, Err, ⊤}
 use Rattle.std.specs.Io.KnownBytes.{Appends}
 use Rattle.hx_outside.specs.Log.{Log, Logs}
+use Rattle.hx_record.specs.State.{State}
 use Rattle.hx_record.specs.declared.Event.{Event}
 use Rattle.hx_record.specs.declared.Placed.{Placed}
 use Rattle.hx_core.specs.Steps.{refusal_of, world_after, answer_of}
-use Rattle.hx_core.specs.World.{World}
+use Rattle.hx_core.specs.World.{EngineParts, World}
 use Rattle.hx_core.specs.declared.fault.StepFault.{StepFault}
 use Rattle.hx_core.specs.declared.fault.StepFault.TheVariants as step
 use Rattle.hxeval.specs.Outcome.{Outcome}
-use Rattle.hxeval.specs.Replay.{IsRecord, record_outcome, refusal_code}
+use Rattle.hxeval.specs.Replay.{initial_world, record_limit, IsRecord, record_outcome, refusal_code}
 use Rattle.hxeval.specs.Program.{Program}
 use Rattle.hxeval.specs.RunFault.{WritesOutcome}
 use Rattle.hxeval.specs.declared.run_fault.RunFault.{RunFault}
@@ -21,6 +22,16 @@ pub record IsOfRecord (program : Program) (left : Option (List ℕ)) (outcome : 
   pub bytes : List ℕ
   pub of_source : IsRecord left bytes
   pub is : outcome ≡ record_outcome program bytes
+
+-- the program of a world that had no event yet
+abbrev pub program_in : World → Program
+program_in world = record { rules = world.rules; references = world.refs }
+
+-- an engine that had no event yet, and a reader at the beginning of a record
+pub record AreAtBeginning (engine : EngineParts) (reader : State) : Type 0 where
+  pub world : engine.world ≡ initial_world (program_in engine.world)
+  pub running : engine.stopped ≡ None
+  pub reading : reader ≡ record { limit = record_limit; at = 0; pending = []; ended = false }
 
 -- a replay of the record that a source has left
 abbrev pub Replays : Program → (left old new : Option (List ℕ)) → (gathered : List ℕ)

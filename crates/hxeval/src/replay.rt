@@ -8,7 +8,7 @@ ghost use Rattle.hx_record.specs.Reading.{Fills};
 ghost use Rattle.hx_record.specs.State.{remaining_work};
 ghost use Rattle.hxeval.specs.Replay.{ReplayAsksLast, WritesBeforeReading, WritesDecided};
 ghost use Rattle.hxeval.specs.RunFault.{IsReplayFault};
-ghost use Rattle.hxeval.specs.Gathering.{Replays, Passes, AnswersEvent, GathersAnswer, IsFailure, LogsFailure};
+ghost use Rattle.hxeval.specs.Gathering.{program_in, AreAtBeginning, Replays, Passes, AnswersEvent, GathersAnswer, IsFailure, LogsFailure};
 
 use crate::answer::Answers;
 use crate::run_fault::RunFault;
@@ -120,12 +120,48 @@ fn gather<S: Source, K: Sink, M: ReMaker>(
 {
     let mut engine = Engine::new(alloc, rules, refs);
     let mut reader = Reader::new(alloc, RECORD_LIMIT);
+    gather_from(&mut engine, &mut reader, record_in, out, answers, maker)
+}
+
+/// The same with an engine and a reader that are at the beginning.
+fn gather_from<S: Source, K: Sink, M: ReMaker>(
+    engine: &mut Engine,
+    reader: &mut Reader,
+    record_in: &mut S,
+    out: &mut K,
+    answers: &mut Answers,
+    maker: &mut M,
+) -> Result<(), RunFault>
+    requires none { answers.old ≡ [] }
+    requires start { AreAtBeginning engine.old reader.old }
+    ensures replays { Replays (program_in engine.old.world) (S.left record_in.old)
+        (K.written out.old) (K.written out.new) answers.new result }
+    ensures decided { IsErrOf result RunFault.Source
+        → WritesDecided (program_in engine.old.world) (S.left record_in.old)
+        (S.left record_in.new) (K.written out.old) (K.written out.new) }
+    ensures before_reading { WritesBeforeReading (program_in engine.old.world)
+        (S.log record_in.old) (S.log record_in.new) (K.written out.old) (K.written out.new) }
+    ensures empty { IsErrOf result RunFault.Source → answers.new ≡ [] }
+    ensures at_end { OnOk result (IsAtEnd (S.left record_in.new)) }
+    ensures kind { IfErr result IsReplayFault }
+    ensures source { IsErrOf result RunFault.Source
+        → Rose (S.faults record_in.old) (S.faults record_in.new) }
+    ensures sink { IsErrOf result RunFault.Sink → Rose (K.faults out.old) (K.faults out.new) }
+    ensures later { K.faults out.old ≤ K.faults out.new }
+    ensures too_large { IsErrOf result RunFault.TooLarge
+        → Rose (M.state maker.old).too_large (M.state maker.new).too_large
+        × ReplayAsksLast (program_in engine.old.world) (S.left record_in.old)
+        (M.state maker.new).large }
+    ensures uncounted { ¬ (IsErrOf result RunFault.TooLarge)
+        → ((M.state maker.new).too_large ≡ (M.state maker.old).too_large)
+        × ((M.state maker.new).large ≡ (M.state maker.old).large) }
+{
     'events: loop {
         match reader.next_decided()? {
             Next::Event(placed) => {
-                answer_event(&mut engine, placed, out, answers, maker)?;
+                answer_event(engine, placed, out, answers, maker)?;
             }
-            Next::Undecided => read_more(&mut reader, record_in, out, answers)?,
+            Next::Undecided => read_more(reader, record_in, out, answers)?,
             Next::End => return Ok(()),
         }
     }
@@ -196,6 +232,7 @@ fn gather_answer<M: ReMaker>(
 
 /// Writes the answers, and reads more of the record. Where it can't, reader and source are as
 /// before; the answers are written but for a fault of the sink.
+#[tactic(auto, using(crate::proofs::BeforeReadingLemmas::reader_logs, crate::proofs::BeforeReadingLemmas::sink_logs))]
 fn read_more<S: Source, K: Sink>(
     reader: &mut Reader,
     record_in: &mut S,

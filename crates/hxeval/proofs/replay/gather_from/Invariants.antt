@@ -1,13 +1,14 @@
 use Rattle.std.proofs.Common.{◌≡◌, ◌≤◌, true, None}
 use Rattle.std.specs.Io.KnownBytes.{IsAtEnd}
 use Rattle.hx_record.specs.State.{remaining_work}
+use Rattle.hxeval.specs.Gathering.{program_in}
 use Rattle.hxeval.specs.Replay.{record_limit}
 use Rattle.hxeval.proofs.ReplayLemmas.{Progress, AreSame}
-use Rattle.hxeval.proofs.replay.gather.Given as goal
+use Rattle.hxeval.proofs.replay.gather_from.Given as goal
 
 abbrev pub invariant-events : goal.invariant-events
 invariant-events g l = record {
-  progress : Progress AreSame (record { rules = l.fn.rules; references = l.fn.refs.content }) l.engine.world l.reader (g.S.Source.left l.fn.record_in)
+  progress : Progress AreSame (program_in l.fn.engine.world) l.engine.world l.reader (g.S.Source.left l.fn.record_in)
       (g.S.Source.left l.record_in) (g.S.Source.log l.fn.record_in) (g.S.Source.log l.record_in) (g.K.Sink.written l.fn.out) (g.K.Sink.written l.out) l.answers;
   within : l.reader.at ≤ record_limit;
   ended : l.reader.ended ≡ true → IsAtEnd (g.S.Source.left l.record_in);
