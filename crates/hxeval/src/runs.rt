@@ -6,7 +6,7 @@
 //! `file` adds a file of this name with these bytes. `open`, `read`, `write` and `large` number a
 //! file, a read and a write that fail, and an expression that is too large. `run` has the status
 //! and the text of `run NAME`, and `check` those of `check NAME`. `~` stands for a line feed, `^`
-//! for CR and a line feed.
+//! for CR and a line feed, and a grave accent for `^` itself.
 
 /// The runs, one after the other.
 pub const RUNS: &[u8] = b"config http-request deny if { src,map_ip(nets) -m str inner }

@@ -108,6 +108,7 @@ fn decoded(alloc: Global, text: &[u8]) -> Result<Vec<u8>, Fail> {
         match *b {
             b'~' => bytes.push(b'\n')?,
             b'^' => bytes.extend_from_slice(b"\r\n")?,
+            b'`' => bytes.push(b'^')?,
             b => bytes.push(b)?,
         }
     }
@@ -170,7 +171,7 @@ fn compared(rt: &impl Abort, alloc: Global, lines: &[u8]) -> Result<u32, Fail> {
 fn runs_end_and_answer_as_their_lines_say(rt: HostRuntime) -> Result<(), Fail> {
     assert_eq!(rt; compared(&rt, rt.alloc(), RUNS)?, 126);
     assert_eq!(rt; compared(&rt, rt.alloc(), ACTION_RUNS)?, 59);
-    assert_eq!(rt; compared(&rt, rt.alloc(), EXAMPLE_RUNS)?, 3);
+    assert_eq!(rt; compared(&rt, rt.alloc(), EXAMPLE_RUNS)?, 4);
     assert_eq!(rt; compared(&rt, rt.alloc(), COMMAND_RUNS)?, 29);
     Ok(())
 }
