@@ -1,7 +1,7 @@
 mod BitLemmas
 mod CodeLemmas
 mod PairLemmas
-mod NodeLemmas
+pub mod NodeLemmas
 mod ShapeLemmas
 mod KeyedLemmas
 mod ChangeLemmas

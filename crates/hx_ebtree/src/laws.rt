@@ -1,11 +1,12 @@
 //! Laws: what holds of trees between their calls, each the contract of a function that does nothing.
 ghost use Rattle.std.specs.Prelude.{◌≡◌, ◌+◌, ℕ, Bool, List, Option, None, length};
 ghost use Rattle.hx_pool.specs.Pool.{Pool, get, IsLive, SameValues, Updates};
-ghost use Rattle.hx_pool.specs.Chain.{AreDistinct};
+ghost use Rattle.hx_pool.specs.Chain.{AreDistinct, Relinked};
 ghost use Rattle.hx_ebtree.specs.declared.node.Node.{Node};
 ghost use Rattle.hx_ebtree.specs.declared.tree.Tree.{Tree};
+ghost use Rattle.hx_ebtree.specs.Node.{IsSameNode};
 ghost use Rattle.hx_ebtree.specs.KeyList.{KeyList, numbers_of, ids_of, IsOff, Lists, without};
-ghost use Rattle.hx_ebtree.specs.Tree.{Stands};
+ghost use Rattle.hx_ebtree.specs.Tree.{KeepsNodes, Stands};
 
 /// The numbers of a tree are live and distinct, so that without one of them there is one pair less.
 /// A number that isn't live is in no tree, and one that was taken out isn't in it any more.
@@ -38,4 +39,15 @@ pub fn a_tree_keeps_its_list<V>()
 pub fn a_tree_keeps_no_order_of_keys<V>()
     ensures { (p : Pool (Node V)) (t : Tree) (pairs others : KeyList) → Stands p t pairs
         → ((key : List Bool) → numbers_of key others ≡ numbers_of key pairs) → Stands p t others }
+{}
+
+/// Changes that keep each node's key, entry and value keep them together, and live numbers stay
+/// live. No change is such a change, and so is one of links alone.
+pub fn nodes_are_kept<V>()
+    ensures none { (p : Pool (Node V)) → KeepsNodes p p }
+    ensures both { (p q r : Pool (Node V)) → KeepsNodes p q → KeepsNodes q r → KeepsNodes p r }
+    ensures live { (old new : Pool (Node V)) (id : ℕ) → KeepsNodes old new → IsLive old id
+        → IsLive new id }
+    ensures relinked { (old new : Pool (Node V)) → Relinked IsSameNode old new
+        → KeepsNodes old new }
 {}
