@@ -35,11 +35,11 @@ use Rattle.hx_load.proofs.LoadedLemmas.{loads}
 use Rattle.hxeval.proofs.LogLemmas.{before_map, before_none, begins_more}
 
 -- the files, as far as it is known what they hold
-abbrev files_in : Option NamedBytes → NamedBytes
+abbrev pub files_in : Option NamedBytes → NamedBytes
 files_in None = []
 files_in (Some files) = files
 
-files_in_are : (held : Option NamedBytes) → HasFiles held (files_in held)
+pub files_in_are : (held : Option NamedBytes) → HasFiles held (files_in held)
 files_in_are None = tt
 files_in_are (Some files) = refl
 
@@ -52,7 +52,7 @@ abbrev pub IsConfig : Option NamedBytes → List ℕ → Option (List ℕ) → T
 IsConfig held name config = IfSome held (λ files. config ≡ value_at files name)
 
 -- files and configuration, as a setting has them
-holds : (held : Option NamedBytes) (name : List ℕ) (files : NamedBytes) (config : Option (List ℕ)) → HasFiles held files → IsConfig held name config
+pub holds : (held : Option NamedBytes) (name : List ℕ) (files : NamedBytes) (config : Option (List ℕ)) → HasFiles held files → IsConfig held name config
     → IfSome held (λ known. (files ≡ known) × (config ≡ value_at known name))
 holds None name files config of_files of_config = tt
 holds (Some known) name files config of_files of_config = (of_files, of_config)
@@ -113,7 +113,7 @@ reads_config s now limits items text known files usual bytes =
     record { config = is_config s.held s.name items known; files = files; usual = usual; bytes = bytes }
 
 -- what is said of these is said of those of the setting
-here : (s : Setting) (now : Option NamedBytes) (limits : Limits) (items text : List ℕ) → ReadsConfig s now limits items text
+pub here : (s : Setting) (now : Option NamedBytes) (limits : Limits) (items text : List ℕ) → ReadsConfig s now limits items text
     → (P : Option NamedBytes → Limits → List ℕ → Type 0) → P now limits text → P s.held usual_limits items
 here s now limits items text r P p =
     subst (λ (t : List ℕ). P s.held usual_limits t) r.bytes

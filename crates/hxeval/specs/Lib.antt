@@ -4,6 +4,7 @@ pub mod Outcome
 pub mod Program
 pub mod Replay
 pub mod Run
+pub mod RunFiles
 pub mod Unseen
 -- What `main` shows besides: the command line and the environment, the last line that went by, the
 -- last file that couldn't be read, and the text on standard error.

@@ -1,12 +1,14 @@
 ghost use Rattle.std.specs.Prelude.{◌≡◌, ◌≢◌, ◌≤◌, ◌↔◌, ◌⊎◌, ℕ, Ok, Err, None, Some, Contains, [], ◌∷◌, OnOk, IfOk, IfSome, IsErrOf, IsSomeAnd};
 ghost use Rattle.std.specs.Io.KnownBytes.{Appends, IsAtEnd};
 ghost use Rattle.hx_outside.specs.Count.{Rose};
+ghost use Rattle.hx_outside.specs.Log.{HoldsSince};
 ghost use Rattle.hx_outside.specs.Prefixes.{AppendsPrefix};
 ghost use Rattle.hxeval.specs.Command.{asked_of};
 ghost use Rattle.hxeval.specs.Run.{check_line, command_of, texts_of, setting, setting_of};
 ghost use Rattle.hxeval.specs.Run.{AnswersBeforeReading, Checked, Ran, HasStatus, Headline};
 ghost use Rattle.hxeval.specs.Run.{RunAsksLast, RunJudgesLast, RunReads, SourceFails};
 ghost use Rattle.hxeval.specs.RunFault.{Attempted, Finishes};
+ghost use Rattle.hxeval.specs.RunFiles.{ReadsFiles, result_status};
 ghost use Rattle.hxeval.specs.Unseen.{ShowsNoUncommittedVersion};
 ghost use Rattle.hxeval.specs.declared.command.Task.{Task};
 
@@ -27,8 +29,11 @@ use std::alloc::{AllocError, Global};
 /// order: requests, and lines of the management socket. Answers are written before more of the
 /// record is read, at any status (`before_reading`).
 /// `check CONFIG` judges the configuration alone, and where it is accepted writes `ok RULES REFS`:
-/// how many rules and how many references it has. Files that the configuration names are read
-/// through `files` too, and regular expressions are made by `maker`.
+/// how many rules and how many references it has. Regular expressions are made by `maker`.
+///
+/// CONFIG is read first. Once all its lines are judged, the files that it names are read through
+/// `files` too, each once, in the order in which they first appear, up to the first that can't be
+/// read or has an entry that is refused. No other file is read (`files_read`).
 ///
 /// | Status | Comes |
 /// |---|---|
@@ -41,11 +46,11 @@ use std::alloc::{AllocError, Global};
 /// | 7 | memory ran out |
 /// | 8 | a regular expression is too large for the maker |
 ///
-/// Where contracts don't know what the files hold, what the source has left or what its reads gave,
+/// Where contracts don't know what the files hold, what the source has left, what was read of either,
 /// or what was written to the sink (`held`, `left`, `log`, `written`), as of the machine's own files
 /// and streams, `headline`, `unseen`, `checked`, `ran`, `before_reading`, `complete`, `outside`,
-/// `named` and `too_large` say nothing of these bytes: what the machine's adapters do with them is
-/// trusted, and tested.
+/// `named`, `files_read` and `too_large` say nothing of these bytes and reads: what the machine's
+/// adapters do with them is trusted, and tested.
 pub fn run<F: Files, S: Source, K: Sink, M: ReMaker>(
     alloc: Global,
     words: &[Vec<u8>],
@@ -115,6 +120,11 @@ pub fn run<F: Files, S: Source, K: Sink, M: ReMaker>(
     ensures named { IfSome
         (setting_of words.now env.now (F.held files.old) (S.left record_in.old)) (λ given.
         (F.last files.new ≡ F.last files.old) ⊎ IsSomeAnd (F.last files.new) (RunReads given)) }
+    // The configuration is read first, and then the files that it names, in their order.
+    ensures files_read { IfSome
+        (setting_of words.now env.now (F.held files.old) (S.left record_in.old)) (λ given.
+        HoldsSince (F.log files.old) (F.log files.new)
+        (ReadsFiles given (F.last files.new) result)) }
 {
     let Some(command) = command_of(words) else {
         return 2;
@@ -169,6 +179,9 @@ fn attempt<F: Files, S: Source, K: Sink, M: ReMaker>(
     ensures named { (F.last files.new ≡ F.last files.old)
         ⊎ IsSomeAnd (F.last files.new) (RunReads
         (setting env.now (F.held files.old) (asked_of command.entry) (S.left record_in.old))) }
+    ensures files_read { HoldsSince (F.log files.old) (F.log files.new) (ReadsFiles
+        (setting env.now (F.held files.old) (asked_of command.entry) (S.left record_in.old))
+        (F.last files.new) (result_status result)) }
 {
     let config = files.read(alloc, command.name)?;
     let (rules, refs) = load(alloc, config.as_slice(), env, files, maker, Limits::usual())?;

@@ -1,10 +1,12 @@
-use Rattle.std.proofs.Common.{◌≡◌, Err, inl, inr, ap, refl}
+use Rattle.std.proofs.Common.{◌≡◌, Err, inl, inr, ap, refl, arith}
 use Rattle.std.proofs.lemmas.Result.{err_from_is_err_and}
 use Rattle.hxeval.specs.Command.{asked_of}
 use Rattle.hxeval.specs.Run.{setting}
-use Rattle.hxeval.specs.RunFault.{fault_of_file, load_fault, sink_fault}
+use Rattle.hxeval.specs.RunFault.{fault_of_file, fault_status, load_fault, sink_fault}
+use Rattle.hxeval.specs.RunFiles.{result_status}
 use Rattle.hxeval.specs.declared.run_fault.RunFault.TheVariants as run
 use Rattle.hxeval.proofs.RunLemmas.{answers_before, check_failed, checked_run, config_named, config_unread, file_failed, fits, load_failed, load_judges, load_large, load_named, load_reads, no_config, no_config_at_sink, no_files, nothing_read, only_sink, reads_config, replayed_run, run_asks, source_fails, unchecked_run, unloaded, unread}
+use Rattle.hxeval.proofs.FilesLemmas.{files_of_loaded, files_of_unloaded, files_of_unread, no_refusal, no_refusal_at_sink}
 use Rattle.hxeval.proofs.run.attempt.Goals as goal
 
 pub returns-in_err-config-clause-attempted : goal.returns-in_err-config-clause-attempted
@@ -219,3 +221,53 @@ returns-in-Replay-clause-before_reading g c =
     (reads_config (setting c.args.env.now (g.F.Files.held c.args.files.now) (asked_of c.args.command) (g.S.Source.left c.args.record_in.now)) (g.F.Files.held c.read.new.self) c.usual.result c.in_ok-config.config.items c.as_slice.result.now
     c.in_ok-config.ensures.bytes c.in_ok-config.ensures.same c.usual.ensures c.as_slice.ensures.value)
     c.in_ok-rules.ensures.loads c.replay.ensures.before_reading
+
+-- ---- the files that were read
+
+pub returns-in_err-config-clause-files_read : goal.returns-in_err-config-clause-files_read
+returns-in_err-config-clause-files_read g c =
+    let p = err_from_is_err_and c.from_residual.result c.from_residual.ensures.1 in
+    rw (p.1, p.2) (files_of_unread (setting c.args.env.now (g.F.Files.held c.args.files.now) (asked_of c.args.command) (g.S.Source.left c.args.record_in.now))
+    c.in_err-config.field-0.0 (g.F.Files.last c.read.new.self) (g.F.Files.log c.args.files.now) (g.F.Files.log c.read.new.self)
+    c.in_err-config.ensures.log (λ is. c.in_err-config.ensures.named (ap Err is)))
+
+pub returns-in_err-rules-clause-files_read : goal.returns-in_err-rules-clause-files_read
+returns-in_err-rules-clause-files_read g c =
+    let p = err_from_is_err_and c.from_residual-in_err-rules.result c.from_residual-in_err-rules.ensures.1 in
+    rw (p.1, p.2) (files_of_unloaded (setting c.args.env.now (g.F.Files.held c.args.files.now) (asked_of c.args.command) (g.S.Source.left c.args.record_in.now))
+    (g.F.Files.held c.read.new.self) c.usual.result c.in_ok-config.config.items c.as_slice.result.now c.in_err-rules.field-0.0 (g.F.Files.last c.load.new.files)
+    (g.F.Files.log c.args.files.now) (g.F.Files.log c.read.new.self) (g.F.Files.log c.load.new.files)
+    (reads_config (setting c.args.env.now (g.F.Files.held c.args.files.now) (asked_of c.args.command) (g.S.Source.left c.args.record_in.now)) (g.F.Files.held c.read.new.self) c.usual.result c.in_ok-config.config.items c.as_slice.result.now
+    c.in_ok-config.ensures.bytes c.in_ok-config.ensures.same c.usual.ensures c.as_slice.ensures.value)
+    c.in_ok-config.ensures.log c.in_err-rules.ensures.reads)
+
+pub returns-in-Replay-clause-files_read : goal.returns-in-Replay-clause-files_read
+returns-in-Replay-clause-files_read g c =
+    files_of_loaded (setting c.args.env.now (g.F.Files.held c.args.files.now) (asked_of c.args.command) (g.S.Source.left c.args.record_in.now))
+    (g.F.Files.held c.read.new.self) c.usual.result c.in_ok-config.config.items c.as_slice.result.now c.in_ok-rules.rules c.in_ok-rules.refs (g.F.Files.last c.load.new.files) (g.F.Files.last c.load.new.files)
+    (result_status c.replay.result) (g.F.Files.log c.args.files.now) (g.F.Files.log c.read.new.self) (g.F.Files.log c.load.new.files)
+    (no_refusal c.replay.result c.replay.ensures.kind)
+    (reads_config (setting c.args.env.now (g.F.Files.held c.args.files.now) (asked_of c.args.command) (g.S.Source.left c.args.record_in.now)) (g.F.Files.held c.read.new.self) c.usual.result c.in_ok-config.config.items c.as_slice.result.now
+    c.in_ok-config.ensures.bytes c.in_ok-config.ensures.same c.usual.ensures c.as_slice.ensures.value)
+    c.in_ok-config.ensures.log c.in_ok-rules.ensures.reads
+
+pub returns-in_err-write_check-in-Check-clause-files_read : goal.returns-in_err-write_check-in-Check-clause-files_read
+returns-in_err-write_check-in-Check-clause-files_read g c =
+    let p = err_from_is_err_and c.from_residual-in_err-write_check-in-Check.result c.from_residual-in_err-write_check-in-Check.ensures.1 in
+    rw (p.1, p.2) (files_of_loaded (setting c.args.env.now (g.F.Files.held c.args.files.now) (asked_of c.args.command) (g.S.Source.left c.args.record_in.now))
+    (g.F.Files.held c.read.new.self) c.usual.result c.in_ok-config.config.items c.as_slice.result.now c.in_ok-rules.rules c.in_ok-rules.refs (g.F.Files.last c.load.new.files) (g.F.Files.last c.load.new.files)
+    (fault_status (sink_fault c.in_err-write_check-in-Check.field-0.0)) (g.F.Files.log c.args.files.now) (g.F.Files.log c.read.new.self) (g.F.Files.log c.load.new.files)
+    (no_refusal_at_sink c.in_err-write_check-in-Check.field-0.0)
+    (reads_config (setting c.args.env.now (g.F.Files.held c.args.files.now) (asked_of c.args.command) (g.S.Source.left c.args.record_in.now)) (g.F.Files.held c.read.new.self) c.usual.result c.in_ok-config.config.items c.as_slice.result.now
+    c.in_ok-config.ensures.bytes c.in_ok-config.ensures.same c.usual.ensures c.as_slice.ensures.value)
+    c.in_ok-config.ensures.log c.in_ok-rules.ensures.reads)
+
+pub returns-clause-files_read : goal.returns-clause-files_read
+returns-clause-files_read g c =
+    files_of_loaded (setting c.args.env.now (g.F.Files.held c.args.files.now) (asked_of c.args.command) (g.S.Source.left c.args.record_in.now))
+    (g.F.Files.held c.read.new.self) c.usual.result c.in_ok-config.config.items c.as_slice.result.now c.in_ok-rules.rules c.in_ok-rules.refs (g.F.Files.last c.load.new.files) (g.F.Files.last c.load.new.files)
+    0 (g.F.Files.log c.args.files.now) (g.F.Files.log c.read.new.self) (g.F.Files.log c.load.new.files)
+    (λ is. absurd (omega (arith, is)))
+    (reads_config (setting c.args.env.now (g.F.Files.held c.args.files.now) (asked_of c.args.command) (g.S.Source.left c.args.record_in.now)) (g.F.Files.held c.read.new.self) c.usual.result c.in_ok-config.config.items c.as_slice.result.now
+    c.in_ok-config.ensures.bytes c.in_ok-config.ensures.same c.usual.ensures c.as_slice.ensures.value)
+    c.in_ok-config.ensures.log c.in_ok-rules.ensures.reads

@@ -2,6 +2,7 @@ use Rattle.std.proofs.Common.{◌<◌, ◌∙◌, Err, inl, inr, ap, arith, refl
 use Rattle.hxeval.proofs.RunLemmas.{before_finished, source_moved}
 use Rattle.hxeval.proofs.StatusLemmas.{headline, checked, ran_completed, finished_status, ran_finished, finished_by, finished_line, is_config_refused, is_outside, is_large, large_line, sink_rose, complete}
 use Rattle.hxeval.proofs.UnseenLemmas.{shows_no_uncommitted_version}
+use Rattle.hxeval.proofs.FilesLemmas.{finished_files}
 use Rattle.hxeval.proofs.run.run.Goals as goal
 
 pub returns-in-Ok-clause-headline : goal.returns-in-Ok-clause-headline
@@ -109,3 +110,11 @@ returns-in-Err-clause-before_reading g c = rw (← c.in-Some.ensures)
     (before_finished _ (g.S.Source.log c.args.record_in.now) (g.S.Source.log c.attempt.new.record_in) (g.K.Sink.written c.args.out.now)
     (g.K.Sink.written c.attempt.new.out) (g.K.Sink.written c.finish.new.out) c.in-Err.fault c.finish.result c.in-Err.ensures.before_reading
     c.finish.ensures.finished)
+
+pub returns-in-Ok-clause-files_read : goal.returns-in-Ok-clause-files_read
+returns-in-Ok-clause-files_read g c = rw (← c.in-Some.ensures) c.in-Ok.ensures.files_read
+
+pub returns-in-Err-clause-files_read : goal.returns-in-Err-clause-files_read
+returns-in-Err-clause-files_read g c = rw (← c.in-Some.ensures)
+    (finished_files _ (g.F.Files.last c.attempt.new.files) c.in-Err.fault (g.K.Sink.written c.attempt.new.out) (g.K.Sink.written c.finish.new.out) c.finish.result
+    (g.F.Files.log c.args.files.now) (g.F.Files.log c.attempt.new.files) c.finish.ensures.finished c.in-Err.ensures.files_read)
