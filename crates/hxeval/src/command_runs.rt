@@ -144,6 +144,24 @@ head GET /a HTTP/1.1^^
 head GET /c HTTP/1.1^^
 more cli 1 del map m /a~cli 1 show map m~
 run 0 @1 New version created: 1~@1 ok~@1 ok~1 pass rule~@1 0x0000000000000001 /b rule~@1 ok~@1 0x0000000100000001 /a made~@1 ok~@1 ok~2 pass rule~3 pass rule~@1 ok~@1 0x0000000100000002 /c rule~@1 ok~
+config use_backend %[str(k),map(b.map,none)]
+file b.map k old~
+more cli 1 prepare map b.map~cli 1 add map @1 b.map k new~
+head GET / HTTP/1.1^^
+more cli 1 show map~
+run 0 @1 New version created: 1~@1 ok~@1 ok~1 pass old~@1 # id (file)~@1 0 (b.map) curr_ver=0 next_ver=1 entry_cnt=2~@1 ok~
+config use_backend %[str(k),map(b.map,none)]
+file b.map k old~
+more cli 1 prepare map b.map~cli 1 add map @1 b.map <<~cli 1 k new~cli 1 k newer~cli 1~
+head GET / HTTP/1.1^^
+more cli 1 show map~
+run 0 @1 New version created: 1~@1 ok~@1 ok~1 pass old~@1 # id (file)~@1 0 (b.map) curr_ver=0 next_ver=1 entry_cnt=3~@1 ok~
+config use_backend %[str(k),map(b.map,none)]
+file b.map k old~
+more cli 1 prepare map b.map~
+head GET / HTTP/1.1^^
+more cli 1 show map~
+run 0 @1 New version created: 1~@1 ok~1 pass old~@1 # id (file)~@1 0 (b.map) curr_ver=0 next_ver=1 entry_cnt=1~@1 ok~
 config acl a path -m reg -f list
 file list x~
 more cli 1 add acl list a+~cli 1 add acl list b+~cli 1 show acl list~

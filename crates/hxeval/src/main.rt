@@ -23,6 +23,8 @@ mod last_line;
 mod last_unread;
 pub mod laws;
 mod machine;
+#[cfg(test)]
+mod outside_runs;
 mod replay;
 mod run;
 mod run_fault;

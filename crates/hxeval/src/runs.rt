@@ -3,10 +3,12 @@
 //! `config` begins a run over a configuration named `c`; its record is the line that opens
 //! connection 1, and `record` has another one in its place. `head` adds a request of connection 1
 //! with these bytes, `more` adds bytes as they are. `name` asks for another configuration, and
-//! `file` adds a file of this name with these bytes. `open`, `read`, `write` and `large` number a
-//! file, a read and a write that fail, and an expression that is too large. `run` has the status
-//! and the text of `run NAME`, and `check` those of `check NAME`. `~` stands for a line feed, `^`
-//! for CR and a line feed, and a grave accent for `^` itself.
+//! `file` adds a file of this name with these bytes. `cut` ends the record after so many bytes.
+//! `open`, `read`, `write` and `large` number the file, the read or the write that fails, and the
+//! expression that is too large. `run` has the status and the text of `run NAME`, and `check` those
+//! of `check NAME`. `each` has one of those five words, two numbers, and the status and the text of
+//! `run NAME` with each number from the first to the second. `~` stands for a line feed, `^` for CR
+//! and a line feed, and a grave accent for `^` itself.
 
 /// The runs, one after the other.
 pub const RUNS: &[u8] = b"config http-request deny if { src,map_ip(nets) -m str inner }

@@ -1,6 +1,7 @@
 use crate::action_runs::ACTION_RUNS;
 use crate::command_runs::COMMAND_RUNS;
 use crate::example_runs::EXAMPLE_RUNS;
+use crate::outside_runs::OUTSIDE_RUNS;
 use crate::run::run;
 use crate::runs::RUNS;
 use hx_outside::{FailMaker, MemFiles, MemSink, MemSource, PlainMaker, read_to_end};
@@ -13,13 +14,15 @@ use std::test::Fail;
 const CONN: &[u8] = b"conn 1 192.0.2.7 40000 203.0.113.1 80\n";
 
 /// A run of `run NAME` or `check NAME` over a configuration named `c` and other files, with the
-/// variable A of value `x`, and the numbers of the calls that fail.
+/// variable A of value `x`, the number of bytes after which the record ends, and the numbers of the
+/// calls that fail.
 #[derive(Drop)]
 struct Run {
     name: Vec<u8>,
     config: Vec<u8>,
     files: Vec<(Vec<u8>, Vec<u8>)>,
     record: Vec<u8>,
+    end: u64,
     opens: Vec<u64>,
     reads: Vec<u64>,
     writes: Vec<u64>,
@@ -33,6 +36,7 @@ impl Run {
             config,
             files: Vec::new(alloc),
             record,
+            end: u64::MAX,
             opens: Vec::new(alloc),
             reads: Vec::new(alloc),
             writes: Vec::new(alloc),
@@ -57,18 +61,36 @@ impl Run {
         } else if word == b"file".as_slice() {
             let (name, text) = word_and_text(bytes.as_slice());
             self.files.push((name.to_vec(alloc)?, text.to_vec(alloc)?))?;
+        } else {
+            return self.set(alloc, word, number_of(text));
+        }
+        Ok(true)
+    }
+
+    /// Cuts the record after so many bytes, or lets the call of this number alone fail, and answers
+    /// whether the word is known.
+    fn set(&mut self, alloc: Global, word: &[u8], number: u64) -> Result<bool, Fail> {
+        if word == b"cut".as_slice() {
+            self.end = number;
         } else if word == b"open".as_slice() {
-            self.opens.push(number_of(text))?;
+            self.opens = vec![in alloc; number]?;
         } else if word == b"read".as_slice() {
-            self.reads.push(number_of(text))?;
+            self.reads = vec![in alloc; number]?;
         } else if word == b"write".as_slice() {
-            self.writes.push(number_of(text))?;
+            self.writes = vec![in alloc; number]?;
         } else if word == b"large".as_slice() {
-            self.large.push(number_of(text))?;
+            self.large = vec![in alloc; number]?;
         } else {
             return Ok(false);
         }
         Ok(true)
+    }
+
+    /// The bytes of the record before its end.
+    fn record_before_end(&self) -> &[u8] {
+        let len = self.record.len();
+        let end = usize::try_from(self.end).unwrap_or(len).min(len);
+        &self.record[..end]
     }
 
     /// The status of the command with this first word, and what it writes.
@@ -84,7 +106,7 @@ impl Run {
             ))?;
         }
         let mut files = MemFiles::new(files, self.opens.as_slice().to_vec(alloc)?);
-        let record = self.record.as_slice().to_vec(alloc)?;
+        let record = self.record_before_end().to_vec(alloc)?;
         let mut source = MemSource::new(record, 8, self.reads.as_slice().to_vec(alloc)?);
         let mut sink = MemSink::new(alloc, 3, self.writes.as_slice().to_vec(alloc)?);
         let mut maker = FailMaker::new(self.large.as_slice().to_vec(alloc)?);
@@ -98,6 +120,22 @@ impl Run {
             &mut maker,
         );
         Ok((status, sink.bytes().to_vec(alloc)?))
+    }
+
+    /// Compares what the command with this first word answers with a status and a text.
+    fn compare(
+        &self,
+        rt: &impl Abort,
+        alloc: Global,
+        task: &[u8],
+        text: &[u8],
+        run: u32,
+    ) -> Result<(), Fail> {
+        let (status, answers) = word_and_text(text);
+        let (ended, written) = self.outcome(alloc, task)?;
+        assert_eq!(rt; u64::from(ended), number_of(status), "at run {run}");
+        assert_eq!(rt; written, decoded(alloc, answers)?, "at run {run}");
+        Ok(())
     }
 }
 
@@ -155,11 +193,18 @@ fn compared(rt: &impl Abort, alloc: Global, lines: &[u8]) -> Result<u32, Fail> {
         if word == b"config".as_slice() {
             made = Run::new(alloc, decoded(alloc, text)?, CONN.to_vec(alloc)?)?;
         } else if word == b"run".as_slice() || word == b"check".as_slice() {
-            let (status, answers) = word_and_text(text);
-            let (ended, written) = made.outcome(alloc, word)?;
-            assert_eq!(rt; u64::from(ended), number_of(status), "at run {count}");
-            assert_eq!(rt; written, decoded(alloc, answers)?, "at run {count}");
+            made.compare(rt, alloc, word, text, count)?;
             count = count.saturating_add(1);
+        } else if word == b"each".as_slice() {
+            let (word, text) = word_and_text(text);
+            let (first, text) = word_and_text(text);
+            let (last, text) = word_and_text(text);
+            for number in number_of(first)..=number_of(last) {
+                assert!(rt; made.set(alloc, word, number)?, "at run {count}");
+                made.compare(rt, alloc, b"run", text, count)?;
+                count = count.saturating_add(1);
+            }
+            made.set(alloc, word, u64::MAX)?;
         } else if !line.is_empty() {
             assert!(rt; made.take(alloc, word, text)?, "at run {count}");
         }
@@ -172,7 +217,8 @@ fn runs_end_and_answer_as_their_lines_say(rt: HostRuntime) -> Result<(), Fail> {
     assert_eq!(rt; compared(&rt, rt.alloc(), RUNS)?, 126);
     assert_eq!(rt; compared(&rt, rt.alloc(), ACTION_RUNS)?, 59);
     assert_eq!(rt; compared(&rt, rt.alloc(), EXAMPLE_RUNS)?, 4);
-    assert_eq!(rt; compared(&rt, rt.alloc(), COMMAND_RUNS)?, 29);
+    assert_eq!(rt; compared(&rt, rt.alloc(), COMMAND_RUNS)?, 32);
+    assert_eq!(rt; compared(&rt, rt.alloc(), OUTSIDE_RUNS)?, 104);
     Ok(())
 }
 
