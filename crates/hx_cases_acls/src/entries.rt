@@ -10,7 +10,6 @@ use std::fmt::Write;
 pub fn show_added(out: &mut String, added: Result<(), RefFault>) -> Result<bool, CaseFault> {
     match added {
         Ok(()) => Ok(true),
-        Err(RefFault::NoMemory) => Err(CaseFault::NoMemory),
         Err(fault) => {
             write!(out, "{fault:?}|")?;
             Ok(false)

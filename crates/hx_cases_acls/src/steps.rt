@@ -242,7 +242,7 @@ fn change(
     match refs.change(r, change, &mut PlainMaker::new()) {
         Ok(()) => Ok(out.push_str("ok|")?),
         Err(TableFault::TooLarge) => Ok(out.push_str("TooLarge|")?),
-        Err(TableFault::NoMemory) => Err(CaseFault::NoMemory),
+        Err(TableFault::NoMemory) => Ok(out.push_str("NoMemory|")?),
     }
 }
 
