@@ -177,9 +177,9 @@ abbrev pub SourceFails : Setting → (left' old new : Option (List ℕ)) → Typ
 SourceFails s left' old new =
     (s.task ≡ Replay) × AcceptsSome s (λ program. WritesDecided program s.left left' old new)
 
--- The record is read only where it is to be answered and the configuration was accepted, and what is
--- decided is written before more is read: what was written begins with all answers to the events
--- that the bytes of all reads but the last decide.
+-- The record is read only where it is to be answered and the configuration was accepted, and what
+-- is decided is written before more is read: what was written begins with all answers to the
+-- events that the bytes of all reads but the last decide.
 abbrev pub AnswersBeforeReading : Setting → (log log' : Option Log) → (old new : Option (List ℕ))
     → Type 0
 AnswersBeforeReading s log log' old new = HoldsBeforeLastRead log log' (λ bytes.

@@ -46,11 +46,11 @@ use std::alloc::{AllocError, Global};
 /// | 7 | memory ran out |
 /// | 8 | a regular expression is too large for the maker |
 ///
-/// Where contracts don't know what the files hold, what the source has left, what was read of either,
-/// or what was written to the sink (`held`, `left`, `log`, `written`), as of the machine's own files
-/// and streams, `headline`, `unseen`, `checked`, `ran`, `before_reading`, `complete`, `outside`,
-/// `named`, `files_read` and `too_large` say nothing of these bytes and reads: what the machine's
-/// adapters do with them is trusted, and tested.
+/// Where contracts don't know what the files hold, what the source has left, what was read of
+/// either, or what was written to the sink (`held`, `left`, `log`, `written`), as of the machine's
+/// own files and streams, `headline`, `unseen`, `checked`, `ran`, `before_reading`, `complete`,
+/// `outside`, `named`, `files_read` and `too_large` say nothing of these bytes and reads: what the
+/// machine's adapters do with them is trusted, and tested.
 pub fn run<F: Files, S: Source, K: Sink, M: ReMaker>(
     alloc: Global,
     words: &[Vec<u8>],
