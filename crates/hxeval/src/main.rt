@@ -19,6 +19,8 @@ mod command_runs;
 #[cfg(test)]
 mod example_runs;
 mod explain;
+#[cfg(test)]
+mod file_tests;
 mod last_line;
 mod last_unread;
 pub mod laws;
