@@ -4,8 +4,8 @@ use crate::http::{read_head_case, read_head_in_case};
 use crate::lists::{cookies_case, hdr_values_case, params_case};
 use crate::machine::{failing_reads_case, failing_writes_case, machine_file_case};
 use crate::outside::{
-    dir_files_case, mem_files_case, read_to_end_case, reads_case, std_reads_case, std_sink_case,
-    std_source_case, write_all_case, writes_case,
+    dir_files_case, log_files_case, mem_files_case, read_to_end_case, reads_case, std_reads_case,
+    std_sink_case, std_source_case, write_all_case, writes_case,
 };
 use crate::record::record_case;
 use crate::sample::{
@@ -103,6 +103,7 @@ fn sink_call(
         b"failing_writes" => failing_writes_case(alloc, out, args),
         b"std_sink" => std_sink_case(alloc, out, args),
         b"mem_files" => mem_files_case(alloc, out, args),
+        b"log_files" => log_files_case(alloc, out, args),
         _ => word_call(alloc, out, name, args),
     }
 }

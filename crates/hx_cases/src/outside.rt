@@ -2,7 +2,7 @@
 
 use hx_cases_base::{CaseFault, number, numbers, pairs, show, show_option, size};
 use hx_outside::{
-    DirFiles, FileFault, Files, LogSource, MemFiles, MemSink, MemSource, ReadFault, Sink,
+    DirFiles, FileFault, Files, LogFiles, LogSource, MemFiles, MemSink, MemSource, ReadFault, Sink,
     SinkFault, Source, StdSink, StdSource, read_to_end, write_all,
 };
 use std::alloc::Global;
@@ -204,6 +204,25 @@ fn show_files<F: Files>(
 ) -> Result<(), CaseFault> {
     for name in names {
         show_file(out, files.read(alloc, name.as_slice()))?;
+    }
+    Ok(())
+}
+
+/// `log_files FAILS FILES NAME ..`: the same, and the log of these reads.
+pub fn log_files_case(alloc: Global, out: &mut String, args: &[Vec<u8>]) -> Result<(), CaseFault> {
+    let [fails, held, names @ ..] = args else {
+        return Err(CaseFault::BadArguments);
+    };
+    let held = pairs(alloc, held.as_slice())?;
+    let within = MemFiles::new(held, numbers(alloc, fails.as_slice())?);
+    let mut files = LogFiles::new(alloc, within);
+    show_files(alloc, out, &mut files, names)?;
+    let Some(log) = files.log() else {
+        return Err(CaseFault::NoMemory);
+    };
+    out.push_str(" log ")?;
+    for name in log {
+        show(out, name.as_slice())?;
     }
     Ok(())
 }
