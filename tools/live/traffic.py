@@ -127,6 +127,7 @@ HEADS = (
     ("access", request("GET /items HTTP/1.1", "Host: shop.example, other.example")),
     ("access", request("GET http://shop.example:80/items HTTP/1.1", "Host: shop.example:80")),
     ("access", b"GET /items HTTP/1.1\r\nHost: shop.example\r\nX: \xff\xfe\r\n\r\n"),
+    ("access", request("post /items HTTP/1.1", HOST, "User-Agent: web Spider")),
     ("public", request("GET /a HTTP/1.1", "X-Forwarded-Proto: http, https", HOST)),
     ("public", request("GET /a HTTP/1.1", "X-Forwarded-Proto: https", "Cookie: a=1, preview=on")),
     ("moved", request("GET http://h.example/shop HTTP/1.1", "Host: h.example")),
@@ -200,7 +201,7 @@ def send_all(made, answered, seed):
             it.result()
     # what follows changes maps, so each request is sent after the answer to the one before
     for at, (frontend, head) in enumerate(HEADS):
-        talk(answered, frontend, proxy.SOURCES[at % 5], [head])
+        talk(answered, frontend, proxy.SOURCES[at % 3], [head])
     for frontend in ("moved", "sites", "sessions"):
         curls(answered, frontend)
         talks(answered, frontend, 10, seed)
