@@ -7,7 +7,8 @@ import time
 
 from live import proxy
 
-SECONDS = 4
+# After so many a client gives up.
+SECONDS = 20
 
 
 class Answered:

@@ -73,8 +73,8 @@ def configuration(folder):
     # the clocks of several threads may be apart, so that a command and the request after it change
     # places
     lines = ["global", "nbthread 1", f"stats socket {folder}/socket level admin", log]
-    lines += ["defaults", "mode http", "log global", "timeout connect 2s", "timeout client 5s"]
-    lines += ["timeout server 5s", "timeout http-request 2s"]
+    lines += ["defaults", "mode http", "log global", "timeout connect 5s", "timeout client 20s"]
+    lines += ["timeout server 20s"]
     for name, (port, _) in FRONTENDS.items():
         lines += [f"frontend {name}", f"bind 0.0.0.0:{port}", f"bind :::{port} v6only"]
         lines += [f"bind 0.0.0.0:{port + TLS} ssl crt {folder}/pem alpn h2,http/1.1"]
@@ -167,7 +167,7 @@ class Proxy:
 
     def wait(self):
         """Waits until connections are taken and captured."""
-        for _ in range(100):
+        for _ in range(300):
             time.sleep(0.1)
             if os.path.exists(self.capture) and os.path.getsize(self.capture) > 0:
                 if not socket.socket().connect_ex((PROXY[4], 8001)):
