@@ -69,6 +69,11 @@ def changed_heads(path):
     return {number: b"\n".join(lines) for number, lines in heads.items()}
 
 
+def is_made(shown, made, backend):
+    """Whether what hxeval shows is what HAProxy made: a head, or a location."""
+    return as_kept(shown) == as_kept(made) if backend else shown == b"location: " + made
+
+
 class Tried:
     """The files of one frontend, and what is found wrong with them."""
 
@@ -161,27 +166,28 @@ class Tried:
             self.wrong.append(f"tools/agree counts otherwise than it lists, by {way}")
         return count, alike
 
-    def compare_heads(self, answered):
-        """A backend must get the head that hxeval shows, or where it shows none the one that came.
-        The answer is the number of heads."""
+    def compare_made(self, way, answered):
+        """A backend must get the head that hxeval shows, or where it shows none the one that came,
+        and a client the location that it shows. The answer is the number of these."""
         count = 0
-        changed = changed_heads(self.path("pcap.answers"))
-        verdicts = record.numbered(self.path("pcap.answers"), record.VERDICT)
+        changed = changed_heads(self.path(f"{way}.answers"))
+        verdicts = record.numbered(self.path(f"{way}.answers"), record.VERDICT)
         for (key, request), (number, verdict) in zip(
-            self.requests("pcap").items(), enumerate(verdicts, 1)
+            self.requests(way).items(), enumerate(verdicts, 1)
         ):
-            answer = answered.answer(*key)
-            if not answer or not answer[1] or not answer[2] or not verdict.startswith("pass"):
+            _, backend, made = answered.answer(*key) or (0, None, None)
+            shown = changed.get(number, request.head)
+            # the body of an answer to HEAD is empty
+            if not made or not verdict.startswith("pass" if backend else "redirect"):
                 continue
             count += 1
-            shown = changed.get(number, request.head)
-            if as_kept(shown) == as_kept(answer[2]):
+            if is_made(shown, made, backend):
                 continue
             row = named.row_of_made(request.head)
             if row:
                 self.rows[row] += 1
             else:
-                self.wrong.append(f"{number}: hxeval shows {shown}, the backend got {answer[2]}")
+                self.wrong.append(f"{number}: hxeval shows {shown}, HAProxy made {made}")
         return count
 
     def compare_har(self):

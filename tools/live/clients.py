@@ -13,8 +13,8 @@ SECONDS = 20
 
 class Answered:
     """What each client was answered, request by request, by its frontend, address and port: the
-    status, the backend or none where the frontend itself answered, and the head as the backend got
-    it."""
+    status, the backend or none where the frontend itself answered, and what was made: the head as
+    the backend got it, or the location, or none where that isn't known."""
 
     def __init__(self):
         self.by_client = {}
@@ -41,7 +41,8 @@ class Answered:
 
 
 def read_answer(lines, method):
-    """The status, the backend and the body of the next response; none where none comes."""
+    """The status, the backend, and the body or the location of the next response; none where none
+    comes."""
     status = 100
     while status < 200 and status != 101:
         head = proxy.read_head(lines)
@@ -51,7 +52,9 @@ def read_answer(lines, method):
     backend = proxy.field(head, b"x-backend")
     empty = method in (b"HEAD", b"CONNECT") or status in (101, 204, 304)
     body = b"" if empty else proxy.read_body(head, lines)
-    return status, backend.decode() if backend else None, body
+    if not backend:
+        return status, None, proxy.field(head, b"location")
+    return status, backend.decode(), body
 
 
 def send(connection, data, how, chance):
@@ -93,13 +96,15 @@ def curl(answered, frontend, source, paths, *words, tls=False):
     port = proxy.FRONTENDS[frontend][0] + proxy.TLS * tls
     family = 6 if ":" in source else 4
     host = f"[{proxy.PROXY[6]}]" if family == 6 else proxy.PROXY[4]
-    line = "client %{local_port} %{http_code} %header{x-backend}\n"
+    line = "client %{local_port} %{http_code} %header{x-backend} %header{location}\n"
     asked = ["curl", "-sk", "--path-as-is", "--interface", source, "--max-time", str(SECONDS)]
     asked += ["-w", line, "-g", *words]
     for path in paths:
         asked += [f"http{'s' * tls}://{host}:{port}{path}", "-o", "/dev/null"]
     ran = subprocess.run(asked, stdout=subprocess.PIPE, check=False, encoding="ascii")
-    for number, status, backend in re.findall(r"client (\d+) (\d+) (\S*)\n", ran.stdout):
+    form = r"client (\d+) (\d+) (\S*) (\S*)\n"
+    for number, status, backend, location in re.findall(form, ran.stdout):
         client = (frontend, source, int(number))
         # 0 where no answer came
-        answered.add(client, (int(status), backend or None, None) if int(status) else None)
+        answered.add(client, (int(status), backend or None, location.encode() or None)
+                     if int(status) else None)
