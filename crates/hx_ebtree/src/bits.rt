@@ -10,7 +10,8 @@ pub(crate) fn bit(bytes: &[u8], index: usize) -> bool
     (bytes[index / 8] >> (7 - index % 8)) % 2 == 1
 }
 
-/// The first bit from `from` on at which the bytes differ, or `end` where there is none before that.
+/// The first bit from `from` on at which the bytes differ, or `end` where there is none before
+/// that.
 fn first_difference(a: &[u8], b: &[u8], from: usize, end: usize) -> usize
     requires from { from ≤ end }
     requires a { end ≤ 8 * length a.now }

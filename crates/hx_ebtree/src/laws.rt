@@ -1,4 +1,5 @@
-//! Laws: what holds of trees between their calls, each the contract of a function that does nothing.
+//! Laws: what holds of trees between their calls, each the contract of a function that does
+//! nothing.
 ghost use Rattle.std.specs.Prelude.{◌≡◌, ◌+◌, ℕ, Bool, List, Option, None, length};
 ghost use Rattle.hx_pool.specs.Pool.{Pool, get, IsLive, SameValues, Updates};
 ghost use Rattle.hx_pool.specs.Chain.{AreDistinct, Relinked};

@@ -1,7 +1,7 @@
 //! What a program reads and writes: sources, sinks and files, as traits whose contracts say which
 //! bytes moved and count each fault, with fakes in memory that fail at chosen calls, a source and
-//! files that log their reads, and adapters over std; and makers of regular expressions, whose contracts say
-//! which expression a text is, and count each text that is too large.
+//! files that log their reads, and adapters over std; and makers of regular expressions, whose
+//! contracts say which expression a text is, and count each text that is too large.
 //!
 //! ```
 //! fn copy<S: Source, K: Sink>(alloc: Global, from: &mut S, to: &mut K) -> Result<(), SinkFault> {

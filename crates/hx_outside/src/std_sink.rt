@@ -42,9 +42,9 @@ impl<W: Write> Sink for StdSink<W> {
     ghost faults = { λ sink. sink.faults };
 
     /// One write of the writer, and another one after each that was interrupted. Never `NoMemory`.
-    /// The count of faults rises by one with `Failed`, and with no other answer. That `Failed` comes
-    /// only where the writer answers an error of another kind or takes nothing is tested, since no
-    /// contract of std says when a writer fails.
+    /// The count of faults rises by one with `Failed`, and with no other answer. That `Failed`
+    /// comes only where the writer answers an error of another kind or takes nothing is tested,
+    /// since no contract of std says when a writer fails.
     fn write(&mut self, bytes: &[u8]) -> Result<usize, SinkFault>
         requires { 0 < length bytes.now }
         ensures some { IfOk result (λ count. 0 < count) }

@@ -15,8 +15,8 @@ use std::sync::ledger::Ledger;
 /// values, and how many slots are spare. A value doesn't move while it is in its slot, and its
 /// number is given to no other value until it is taken out.
 ///
-/// A slot that was given back holds the number of the next such slot, so that a pool takes memory in
-/// `reserve` alone. Slots that never had a value have memory, but aren't written before.
+/// A slot that was given back holds the number of the next such slot, so that a pool takes memory
+/// in `reserve` alone. Slots that never had a value have memory, but aren't written before.
 #[derive(Drop)]
 pub struct Pool<T> {
     slots: Chunks<T>,
@@ -58,9 +58,9 @@ impl<T> Pool<T> {
         }
     }
 
-    /// Takes memory until `count` slots are spare. Where memory runs out, nothing changes. A pool has
-    /// at most 2^32 slots: where more are asked for, it takes no memory, and answers as where memory
-    /// runs out.
+    /// Takes memory until `count` slots are spare. Where memory runs out, nothing changes. A pool
+    /// has at most 2^32 slots: where more are asked for, it takes no memory, and answers as where
+    /// memory runs out.
     pub fn reserve(&mut self, count: usize) -> Result<(), NoMemory>
         ensures ok { OnOk result (count ≤ self.new.spare) }
         ensures values { SameValues self.old self.new }
