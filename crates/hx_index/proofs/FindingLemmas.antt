@@ -1,9 +1,8 @@
 -- The entry that is found among the items of an index, by what its parts answer.
-use Rattle.std.proofs.Common.{◌≡◌, ℕ, zero, suc, ◌<◌, ◌≤◌, ◌^◌, slice_index, slice_index_or, Bool, true, false, List, [], ◌∷◌, filter, find, length, take, nat_eq, All, Option, Some, None, option_map, option_and_then, Result, Ok, Err, IfOk, bytes_eq, refl, sym, ap, subst, ◌∙◌, arith}
+use Rattle.std.proofs.Common.{◌≡◌, ℕ, zero, suc, ◌<◌, ◌≤◌, ◌^◌, slice_index, slice_index_or, Bool, true, false, List, [], ◌∷◌, filter, find, length, take, nat_eq, All, Option, Some, None, option_map, option_and_then, Result, Ok, Err, IfOk, refl, sym, ap, subst, ◌∙◌, arith}
 use Rattle.std.specs.Cmp.Lexicographic.{pointwise}
 use Rattle.std.specs.List.{starts_with}
 use Rattle.std.proofs.lemmas.List.Elements.{All-filter, All-head, All-tail, All-weaker}
-use Rattle.std.proofs.lemmas.Slice.Eq.{bytes_eq-Decides}
 use Rattle.hx_text.specs.declared.address.Ip.{Ip}
 use Rattle.hx_text.specs.declared.address.Ip.TheVariants.{V4, V6}
 use Rattle.hx_text.specs.declared.kinds.By.{By}
@@ -13,7 +12,7 @@ use Rattle.hx_text.specs.declared.network.Net.TheVariants.{Plain, Masked}
 use Rattle.hx_text.specs.Network.{net_of}
 use Rattle.hx_pool.specs.Pool.{get, IsLive}
 use Rattle.hx_ebtree.specs.Node.{entry_of}
-use Rattle.hx_ebtree.specs.KeyList.{exact_of, longest_of}
+use Rattle.hx_ebtree.specs.KeyList.{longest_of}
 use Rattle.hx_sample.specs.Seen.{value_of}
 use Rattle.hx_sample.specs.declared.sample.Bytes.{Bytes}
 use Rattle.hx_sample.specs.declared.sample.Sample.{Sample}
@@ -32,7 +31,7 @@ use Rattle.hx_index.specs.Index.{HasNode, Holds, IsOfUse, NodePool, entry_found,
 use Rattle.hx_index.specs.Search.{HasWidth, search_of}
 use Rattle.hx_index.proofs.ItemLemmas.{part_self}
 use Rattle.hx_index.proofs.FoundItemLemmas.{filter_all, filter_agrees, found_item, found_shown, network_measure, preferred_items}
-use Rattle.hx_index.proofs.TextKeyLemmas.{IsTextKey, exact_text, longest_text}
+use Rattle.hx_index.proofs.TextKeyLemmas.{IsTextKey, longest_text}
 use Rattle.hx_index.proofs.NearestLemmas.{none_hits}
 use Rattle.hx_index.proofs.AddressFoundLemmas.{FitsFamily}
 use Rattle.hx_index.proofs.NetworkFitLemmas.{network_fits}
@@ -109,7 +108,7 @@ entry_by_node nodes a items v number h is =
 
 -- ---- texts
 
-exact_use : (method : By) (ci : Bool) → search_of method ci ≡ Exact → (method ≡ by.Str) × (ci ≡ false)
+pub exact_use : (method : By) (ci : Bool) → search_of method ci ≡ Exact → (method ≡ by.Str) × (ci ≡ false)
 exact_use by.Str false e = (refl, refl)
 exact_use by.Str true e = cc
 exact_use by.Beg false e = cc
@@ -179,31 +178,12 @@ other_key _ ci text no_str no_beg no_ip = refl
 abbrev pub IsBytes : List ℕ → Type 0
 IsBytes text = (i : ℕ) → slice_index text i < 256
 
-str_node : (items : List Item) (text : List ℕ) → All (IsOfUse by.Str false) items → IsBytes text → exact_of (key_pairs (in_part Keyed items)) (text_bits text) ≡ option_map item_node (found_of by.Str false items (value.Str text))
-str_node items text uses bytes =
-    ap (λ xs. exact_of (key_pairs xs) (text_bits text)) (all_in Keyed by.Str false items (λ t. refl) uses)
-    ∙ exact_text item_text (λ item. pattern_key item.pattern) item_node items text
-    (All-weaker (IsOfUse by.Str false) (λ item. IsTextKey (item_text item) (pattern_key item.pattern))
-    (λ item use_is. record { whole = key_use by.Str false item use_is; bytes = use_is.text.bytes }) items uses) bytes
-
 beg_node : (items : List Item) (text : List ℕ) → All (IsOfUse by.Beg false) items → IsBytes text → longest_of (key_pairs (in_part Keyed items)) (text_bits text) ≡ option_map item_node (found_of by.Beg false items (value.Str text))
 beg_node items text uses bytes =
     ap (λ xs. longest_of (key_pairs xs) (text_bits text)) (all_in Keyed by.Beg false items (λ t. refl) uses)
     ∙ longest_text item_text (λ item. pattern_key item.pattern) item_node items text
     (All-weaker (IsOfUse by.Beg false) (λ item. IsTextKey (item_text item) (pattern_key item.pattern))
     (λ item use_is. record { whole = key_use by.Beg false item use_is; bytes = use_is.text.bytes }) items uses) bytes
-
--- no key is as long as this text
-unequal : (b : Bool) (text key : List ℕ) → bytes_eq text key ≡ b → length key < length text → b ≡ false
-unequal true text key e long =
-    let same = (bytes_eq-Decides text key).0 e in absurd (omega (arith, ap length same, long))
-unequal false text key e long = refl
-
-str_none : (items : List Item) (text : List ℕ) → All (IsOfUse by.Str false) items → 2 ^ 60 < length text → found_of by.Str false items (value.Str text) ≡ None
-str_none items text uses long =
-    none_hits item_text by.Str false items (value.Str text)
-    (All-weaker (IsOfUse by.Str false) (λ item. bytes_eq text (item_text item) ≡ false)
-    (λ item use_is. unequal (bytes_eq text (item_text item)) text (item_text item) refl (omega (arith, use_is.text.short, long))) items uses)
 
 take_cut : (m n : ℕ) (xs : List ℕ) → m ≤ n → take m (take n xs) ≡ take m xs
 take_cut zero n xs few = refl
@@ -293,18 +273,6 @@ module _ (nodes : NodePool) (a : Index) (items : List Item) (h : Holds nodes a i
   longest_other v e other =
       let u = longest_use (method_of a) (ignores_case a) e in
       none_entry v (sym (found_use by.Beg false v u.0 u.1) ∙ none_of by.Beg false v (beg_misses v other) items)
-
-  -- the node that the tree answers for a whole text
-  pub exact_node : (text : List ℕ) (node : Option ℕ) → search_of (method_of a) (ignores_case a) ≡ Exact → IsBytes text → node ≡ exact_of (key_pairs (in_part Keyed items)) (text_bits text) → node ≡ option_map item_node (found_of (method_of a) (ignores_case a) items (value.Str text))
-  exact_node text number e bytes is =
-      let u = exact_use (method_of a) (ignores_case a) e in
-      is ∙ str_node items text (uses_of by.Str false u.0 u.1) bytes
-      ∙ ap (option_map item_node) (found_use by.Str false (value.Str text) u.0 u.1)
-
-  pub exact_none : (text : List ℕ) → search_of (method_of a) (ignores_case a) ≡ Exact → 2 ^ 60 < length text → None ≡ entry_found a items (value.Str text)
-  exact_none text e long =
-      let u = exact_use (method_of a) (ignores_case a) e in
-      none_entry (value.Str text) (sym (found_use by.Str false (value.Str text) u.0 u.1) ∙ str_none items text (uses_of by.Str false u.0 u.1) long)
 
   pub longest_node : (text cut : List ℕ) (node : Option ℕ) → search_of (method_of a) (ignores_case a) ≡ Longest → cut ≡ take (2 ^ 60) text → IsBytes cut → node ≡ longest_of (key_pairs (in_part Keyed items)) (text_bits cut) → node ≡ option_map item_node (found_of (method_of a) (ignores_case a) items (value.Str text))
   longest_node text cut number e cut_is bytes is =

@@ -13,3 +13,4 @@ pub mod AddressFoundLemmas
 pub mod NetworkFitLemmas
 pub mod FindingLemmas
 pub mod PrefixLemmas
+pub mod KeyLemmas

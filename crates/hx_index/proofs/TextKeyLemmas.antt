@@ -12,10 +12,9 @@ use Rattle.std.specs.Int.{bit_at}
 use Rattle.std.specs.List.{starts_with}
 use Rattle.hx_text.specs.declared.kinds.By.TheVariants as by
 use Rattle.hx_sample.specs.declared.sample.Value.TheVariants as value
-use Rattle.hx_sample.proofs.FindLemmas.{first_filtered}
 use Rattle.hx_ebtree.specs.Bits.{bit_of, bits_from, bits_of, is_same_bit}
-use Rattle.hx_ebtree.specs.KeyList.{is_prefix, is_same_key, exact_of, longest_of}
-use Rattle.hx_index.proofs.FoundItemLemmas.{found_item, pair_by, exact_agrees, longest_agrees, first_greatest_in_bits}
+use Rattle.hx_ebtree.specs.KeyList.{is_prefix, is_same_key, longest_of}
+use Rattle.hx_index.proofs.FoundItemLemmas.{found_item, pair_by, longest_agrees, first_greatest_in_bits}
 
 -- the numbers of a text are bytes
 abbrev pub AreBytes : List ℕ → Type 0
@@ -224,18 +223,6 @@ pub record IsTextKey (key : List ℕ) (bits : List Bool) : Type 0 where
   pub bytes : AreBytes key
 
 module _ {A : Type 0} (key : A → List ℕ) (bits : A → List Bool) (node : A → ℕ) where
-  -- the scan by a text finds the item that is equal to it
-  pub exact_text : (xs : List A) (text : List ℕ) → All (λ x. IsTextKey (key x) (bits x)) xs
-      → AreBytes text
-      → exact_of (map (pair_by bits node) xs) (bits_of text (8 * length text))
-      ≡ option_map node (found_item key by.Str false xs (value.Str text))
-  exact_text xs text keys text_bytes =
-      exact_agrees bits node (λ x. bytes_eq text (key x)) xs (bits_of text (8 * length text))
-      (All-weaker (λ x. IsTextKey (key x) (bits x))
-      (λ x. is_same_key (bits x) (bits_of text (8 * length text)) ≡ bytes_eq text (key x))
-      (λ x is. rw is.whole (text_equal (key x) text is.bytes text_bytes)) xs keys)
-      ∙ ap (option_map node) (sym (first_filtered (λ x. bytes_eq text (key x)) xs))
-
   -- the scan for the longest prefix of a text finds the first of the items with the longest key
   -- that begins the text
   pub longest_text : (xs : List A) (text : List ℕ) → All (λ x. IsTextKey (key x) (bits x)) xs

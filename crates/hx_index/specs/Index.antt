@@ -1,5 +1,5 @@
 -- What it is for an index to stand in a pool of nodes for a list of items.
-use Rattle.std.specs.Prelude.{◌≡◌, ℕ, ◌+◌, ◌*◌, Bool, false, List, map, filter, length, All, Option, Some, option_map}
+use Rattle.std.specs.Prelude.{◌≡◌, ℕ, ◌+◌, ◌*◌, Bool, false, not, List, map, filter, find, length, bytes_eq, All, Option, Some, option_map}
 use Rattle.hx_text.specs.declared.kinds.By.{By}
 use Rattle.hx_text.specs.declared.kinds.By.TheVariants as by
 use Rattle.hx_pool.specs.Pool.{Pool, get}
@@ -78,3 +78,19 @@ tree_steps by.Str false (value.Str text) = 16 * length text + 3
 tree_steps by.Beg false (value.Str text) = 16 * length text + 3
 tree_steps by.Ip ci (value.Ip ip) = 325
 tree_steps _ ci v = 0
+
+-- ---- look-ups by a whole text
+
+-- whether patterns of the method and the case are in a tree, each under the bits of its text
+abbrev pub keeps_texts : By → Bool → Bool
+keeps_texts by.Str ci = not ci
+keeps_texts by.Beg ci = not ci
+keeps_texts _ ci = false
+
+-- the pattern of the item has the text
+abbrev pub has_text : List ℕ → Item → Bool
+has_text text item = bytes_eq item.pattern.text text
+
+-- the entry of the first item with the text
+abbrev pub entry_with : List ℕ → List Item → Option ℕ
+entry_with text items = option_map (λ (item : Item). item.entry) (find (has_text text) items)

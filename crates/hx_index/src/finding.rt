@@ -55,7 +55,11 @@ fn longest_or_scan(ci: bool) -> Search
 }
 
 /// The entry of a node, if there is a node. At most one step.
-fn node_entry<L: Ledger>(nodes: &Nodes, node: Option<usize>, steps: &mut Steps<L>) -> Option<usize>
+pub(crate) fn node_entry<L: Ledger>(
+    nodes: &Nodes,
+    node: Option<usize>,
+    steps: &mut Steps<L>,
+) -> Option<usize>
     requires { ForSome node (λ id. IsLive nodes.now id) }
     ensures entry { result ≡ option_and_then (λ id. option_map entry_of (get nodes.now id)) node }
     ensures cost { steps.new ≤ steps.old + 1 }
@@ -152,7 +156,7 @@ impl Index {
             + tree_steps (method_of self.now) (ignores_case self.now) (value_of sample.now) }
     {
         match sample {
-            Sample::Str(text) => self.with_text(nodes, text.as_slice(), steps),
+            Sample::Str(text) => self.first_with(nodes, text.as_slice(), steps),
             _ => None,
         }
     }
@@ -175,26 +179,6 @@ impl Index {
             Sample::Str(text) => self.with_beginning(nodes, text.as_slice(), steps),
             _ => None,
         }
-    }
-
-    /// The entry of the pattern that is the text.
-    fn with_text<L: Ledger>(
-        &self,
-        nodes: &Nodes,
-        text: &[u8],
-        steps: &mut Steps<L>,
-    ) -> Option<usize>
-        requires search { search_of (method_of self.now) (ignores_case self.now) ≡ Search.Exact }
-        requires holds { (items : List Item) × Holds nodes.now self.now items }
-        ensures found { (items : List Item) → Holds nodes.now self.now items
-            → result ≡ entry_found self.now items (value.Str text.now) }
-        ensures cost { steps.new ≤ steps.old + 16 * length text.now + 3 }
-    {
-        if text.len() > LONGEST {
-            return None;
-        }
-        let node = self.keyed.exact(nodes, text, 8 * text.len(), steps);
-        node_entry(nodes, node, steps)
     }
 
     /// The entry of the longest pattern that begins the text.

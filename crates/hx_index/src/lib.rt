@@ -21,6 +21,7 @@ mod changing;
 mod dismantling;
 mod finding;
 mod index;
+mod keys;
 pub mod laws;
 mod part;
 mod prepared;
