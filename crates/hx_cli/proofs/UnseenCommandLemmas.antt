@@ -18,7 +18,8 @@ use Rattle.hx_refs.specs.Naming.{resolution}
 use Rattle.hx_refs.specs.Numbers.{IsNotSearched}
 use Rattle.hx_refs.specs.References.{entries_in, refuses_value, searched_lists, version_entries, version_of, with_reference, Reference, References, Version}
 use Rattle.hx_refs.specs.Uses.{uses_in_order, uses_of}
-use Rattle.hx_refs.specs.Versions.{changed_entries, with_new_entries}
+use Rattle.hx_refs.specs.Rows.{changed_entries}
+use Rattle.hx_refs.specs.Versions.{with_new_entries}
 use Rattle.hx_refs.specs.declared.fault.RefFault.{RefFault}
 use Rattle.hx_refs.specs.declared.fault.RefFault.TheVariants.{BadVersion, KeyNotFound, BadValue}
 use Rattle.hx_refs.specs.declared.side.Side.{Side}

@@ -11,7 +11,7 @@ use Rattle.hx_text.specs.declared.kinds.By.{By}
 use Rattle.hx_sample.specs.Tables.{TableHead}
 use Rattle.hx_refs.specs.References.{AreEmpty, HasHadNone, Outputs, Reference, References, Version, after_output, changed_at, empty_version, new_reference, no_references, with_new, with_output}
 use Rattle.hx_refs.specs.Uses.{Use, after_use, use_place, use_with, uses_from, uses_of}
-use Rattle.hx_refs.proofs.UseLemmas.{use_is}
+use Rattle.hx_load.proofs.UseLemmas.{use_is}
 use Rattle.hx_refs.specs.declared.Limits.{Limits}
 use Rattle.hx_spell.specs.declared.HeadSpec.{HeadSpec}
 use Rattle.hx_spell.specs.declared.TableSpec.{TableSpec}

@@ -1,3 +1,4 @@
+pub mod UseLemmas
 pub mod BuiltHeadLemmas
 pub mod DeclareLemmas
 pub mod FillLemmas

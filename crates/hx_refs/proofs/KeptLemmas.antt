@@ -1,125 +1,69 @@
 -- What the code keeps of references stays as it is kept, and is shown as it is changed.
-use Rattle.std.proofs.Common.{◌≡◌, ◌≢◌, ℕ, zero, suc, ◌-◌, ◌<◌, ◌==◌, Bool, true, false, List, [], ◌∷◌, ◌++◌, length, take, drop, All, refl, ap, subst, sym, ◌∙◌, arith, inl, inr, length-append, length-set}
-use Rattle.std.specs.Prelude.{Option, None, Some, Result, Ok, Err, OnOk, OnErr, IfSome, is_some, option_map, slice_get, slice_index_or, slice_set}
+use Rattle.std.proofs.Common.{◌≡◌, ◌≢◌, ℕ, zero, suc, ◌-◌, ◌<◌, ◌==◌, Bool, true, false, List, [], ◌∷◌, ◌++◌, length, All, refl, ap, sym, ◌∙◌, arith, inl, inr, length-append, length-set}
+use Rattle.std.specs.Prelude.{Option, None, Some, Result, Ok, Err, OnOk, OnErr, IfSome, is_some, option_map, slice_get, slice_index_or, slice_set, if◌then◌else◌}
+use Rattle.std.specs.Option.{option_map_or}
 use Rattle.std.proofs.lemmas.Bool.{cases_Bool, cases_eq, eqb-true, eqb-false, cases_lt}
-use Rattle.std.proofs.lemmas.List.{map-append, map-set, set-get_or, take_all}
+use Rattle.std.proofs.lemmas.List.{map-append, map-set}
 use Rattle.std.proofs.Math.Seq.{map-set_same}
-use Rattle.std.proofs.lemmas.Option.{slice_get-map, slice_get_past, slice_get_read, get_or_from_slice_get}
+use Rattle.std.proofs.lemmas.Option.{same_Some, slice_get-map, slice_get_past, slice_get_read, get_or_from_slice_get}
 use Rattle.hx_text.specs.declared.kinds.By.{By}
 use Rattle.hx_text.specs.declared.kinds.By.TheVariants as by
-use Rattle.hx_match.specs.Patterns.{PatternText}
 use Rattle.hx_sample.specs.declared.sample.Value.{Value}
 use Rattle.hx_sample.specs.Find.{found_entry, Entry}
 use Rattle.hx_sample.specs.Tables.{found_at, TableHead}
 use Rattle.hx_refs.specs.Changes.{fault_at}
-use Rattle.hx_refs.specs.Kept.{kept_uses, shown_entries, shown_references, AreKept, AreRead, AreReadAt, Kept, TakePatterns}
-use Rattle.hx_refs.specs.References.{changed_at, searched_lists, version_entries, AreEmpty, Reference}
+use Rattle.hx_refs.specs.Costs.{find_steps, search_steps}
+use Rattle.hx_refs.specs.Kept.{kept_fault, kept_uses, shown_references, with_kept, AreKept, Kept, KeptState, TakePatterns}
+use Rattle.hx_refs.specs.References.{changed_at, searched_lists, version_entries, with_reference, AreEmpty, Reference, References}
 use Rattle.hx_refs.specs.declared.fault.RefFault.{RefFault}
 use Rattle.hx_refs.specs.declared.limits.Limits.{Limits}
-use Rattle.hx_refs.specs.Uses.{use_with, uses_of, Use}
-use Rattle.hx_refs.specs.Versions.{versions_between, AreReadEach, IsKept}
-use Rattle.hx_refs.specs.declared.stored.Stored.{Stored}
-use Rattle.hx_refs.specs.declared.versions.KeptVersion.{KeptVersion}
+use Rattle.hx_refs.specs.Uses.{after_use, use_with, uses_of, Use}
 use Rattle.hx_refs.proofs.ListLemmas.{get_last, get_more, get_past, get_set_other, get_set_same}
 use Rattle.hx_refs.proofs.NameLemmas.{own_names_more, own_names_stay, KeepsNames}
-use Rattle.hx_refs.proofs.VersionLemmas.{all_empty, have_none, HaveNone}
-use Rattle.hx_refs.proofs.UseLemmas.{known_use, use_is, uses_of_more, uses_of_others}
+use Rattle.hx_refs.proofs.UseLemmas.{known_use, uses_of_more, uses_of_others}
 
 -- ---- uses
 
-more_methods : (uses : List Use) (u : Use) → u.by ≢ by.Found → u.by ≢ by.Bool → TakePatterns uses
+pub more_methods : (uses : List Use) (u : Use) → u.by ≢ by.Found → u.by ≢ by.Bool → TakePatterns uses
     → TakePatterns (uses ++ u ∷ [])
 more_methods [] u found bool methods = (found, bool, tt)
 more_methods (v ∷ uses) u found bool methods =
     (methods.0, methods.1, more_methods uses u found bool methods.2)
 
-none_read : (uses : List Use) (entries : List Stored) → shown_entries entries ≡ [] → AreRead uses entries
-none_read uses [] none = tt
-none_read uses (stored ∷ entries) none = absurd (cc)
-
-none_read_each : (uses : List Use) (versions : List KeptVersion) → HaveNone versions → AreReadEach uses versions
-none_read_each uses [] none = tt
-none_read_each uses (v ∷ versions) none =
-    (none_read uses v.entries.items none.0, none_read_each uses versions none.1)
-
--- a use may be added where there is no entry
-pub kept_with_use : (uses : List Use) (curr next : ℕ) (versions : List KeptVersion) (u : Use)
-    → u.by ≢ by.Found → u.by ≢ by.Bool → AreEmpty (versions_between curr next versions)
-    → IsKept uses curr next versions → IsKept (uses ++ u ∷ []) curr next versions
-kept_with_use uses curr next versions u found bool empty kept = record {
-  methods = more_methods uses u found bool kept.methods;
-  order = kept.order;
-  numbers = kept.numbers;
-  read = none_read_each (uses ++ u ∷ []) versions
-      (have_none curr next versions kept.numbers
-      (λ other low high. all_empty curr (suc (next - curr)) versions empty other low (omega (arith, kept.order))));
-  counted = kept.counted;
-  rising = kept.rising;
-}
-
--- the patterns at the place of a use are by its method and with its case
-pub read_at : (uses : List Use) (place : ℕ) (u : Use) (entries : List Stored) → slice_get uses place ≡ Some u
-    → AreRead uses entries → AreReadAt (record { by = u.by; ci = u.ci; place = place }) entries
-read_at uses place u [] is read = tt
-read_at uses place u (stored ∷ entries) is read =
-    (rw (read.0, slice_get-map {A = Use} {B = PatternText} (λ v. record { by = v.by; ci = v.ci; text = stored.key }) uses place, is) refl, read_at uses place u entries is read.1)
-
-pub search_reads : (uses : List Use) (entries : List Stored) (method : By) (ci : Bool) (place : ℕ)
-    → is_some (use_with method ci uses) ≡ true → slice_get uses place ≡ use_with method ci uses
-    → AreRead uses entries → AreReadAt (record { by = method; ci = ci; place = place }) entries
-search_reads uses entries method ci place some is read = go (use_with method ci uses) refl some
-  where
-    go : (found : Option Use) → use_with method ci uses ≡ found → is_some found ≡ true
-        → AreReadAt (record { by = method; ci = ci; place = place }) entries
-    go None here none = absurd (cc)
-    go (Some u) here _ =
-        let same = use_is method ci uses u here in
-        rw (same.0, same.1) at (read_at uses place u entries (is ∙ here) read)
-
 -- ---- the reference at a position
 
+-- there is one
+pub found_within : (kept : List Kept) (r : ℕ) → r < length kept → (k : Kept) × (slice_get kept r ≡ Some k)
+found_within [] r within = absurd (omega arith)
+found_within (k ∷ kept) zero within = (k, refl)
+found_within (k ∷ kept) (suc r) within = found_within kept r (omega (arith, within))
+
 -- a change of a reference is shown as one
-pub changed_shown : (kept : List Kept) (r : ℕ) (k new : Kept) (change : Reference → Reference)
-    → r < length kept → k ≡ slice_index_or kept r k → new.shown ≡ change k.shown
-    → shown_references (slice_set kept r new) ≡ changed_at r change (shown_references kept)
-changed_shown kept r k new change within is same =
-    let found : slice_get kept r ≡ Some k = slice_get_read kept (length kept) r k refl within is in
-    rw (map-set (λ l. l.shown) kept r new, slice_get-map (λ l. l.shown) kept r, found, same) refl
+pub changed_shown : (kept : List Kept) (r : ℕ) (change : Reference → Reference)
+    → shown_references (with_kept r change kept) ≡ changed_at r change (shown_references kept)
+changed_shown kept r change = go (slice_get kept r) refl
+  where
+    go : (found : Option Kept) → slice_get kept r ≡ found
+        → shown_references (option_map_or (λ k. slice_set kept r (record k { shown = change k.shown })) found kept)
+        ≡ changed_at r change (shown_references kept)
+    go None is =
+        rw (slice_get-map {A = Kept} {B = Reference} (λ k. k.shown) kept r, is) refl
+    go (Some k) is =
+        rw (map-set {A = Kept} {B = Reference} (λ l. l.shown) kept r (record k { shown = change k.shown }), slice_get-map {A = Kept} {B = Reference} (λ l. l.shown) kept r, is) refl
 
 -- the fault of the reference at a position is its own
-pub fault_here : (limits : Limits) (heads : List TableHead) (kept : List Kept) (r : ℕ) (k : Kept) (own : Reference → Option RefFault)
-    → r < length kept → k ≡ slice_index_or kept r k
-    → fault_at (record { limits = limits; heads = heads; references = shown_references kept }) r own ≡ own k.shown
-fault_here limits heads kept r k own within is =
-    let found : slice_get kept r ≡ Some k = slice_get_read kept (length kept) r k refl within is in
-    rw (slice_get-map {A = Kept} {B = Reference} (λ l. l.shown) kept r, found) refl
-
--- a change that isn't shown
-pub shown_same : (kept : List Kept) (r : ℕ) (k new : Kept) → k ≡ slice_index_or kept r k → new.shown ≡ k.shown
-    → shown_references (slice_set kept r new) ≡ shown_references kept
-shown_same kept r k new is same =
-    map-set_same (λ l. l.shown) kept r new k (same ∙ ap (λ l. l.shown) is)
-
--- the reference of a head keeps a use of it
-pub known_at : (heads : List TableHead) (kept : List Kept) (i : ℕ) (h : TableHead) (k : Kept) → AreKept heads kept
-    → i < length heads → h ≡ slice_index_or heads i h → k ≡ slice_index_or kept h.list k
-    → (slice_get kept h.list ≡ Some k) × (is_some (use_with h.by h.ci k.uses) ≡ true)
-known_at heads kept i h k all within read is = go (slice_get kept h.list) refl
+pub fault_shown : (limits : Limits) (heads : List TableHead) (kept : List Kept) (r : ℕ) (own : Reference → Option RefFault)
+    → fault_at (record { limits = limits; heads = heads; references = shown_references kept }) r own ≡ kept_fault kept r own
+fault_shown limits heads kept r own =
+    rw (slice_get-map {A = Kept} {B = Reference} (λ k. k.shown) kept r) (go (slice_get kept r))
   where
-    some : is_some (use_with h.by h.ci (kept_uses kept h.list)) ≡ true
-    some =
-        rw (all.uses h.list) at (known_use 0 heads i h (slice_get_read heads (length heads) i h refl within read))
+    go : (found : Option Kept)
+        → option_map_or own (option_map (λ (k : Kept). k.shown) found) None
+        ≡ option_map_or (λ (k : Kept). own k.shown) found None
+    go None = refl
+    go (Some k) = refl
 
-    impossible : false ≡ true → ⊥
-    impossible e = cc
-
-    go : (found : Option Kept) → slice_get kept h.list ≡ found
-        → (slice_get kept h.list ≡ Some k) × (is_some (use_with h.by h.ci k.uses) ≡ true)
-    go None none = absurd (impossible (rw none at some))
-    go (Some other) here =
-        let same : k ≡ other = is ∙ get_or_from_slice_get kept h.list other k here in
-        rw same (here, rw here at some)
-
+-- the reference of a head is one of these
 pub reference_within : (heads : List TableHead) (kept : List Kept) (i : ℕ) (h : TableHead) → AreKept heads kept
     → i < length heads → h ≡ slice_index_or heads i h → h.list < length kept
 reference_within heads kept i h all within read =
@@ -143,18 +87,65 @@ found_here limits heads kept i h k v within read is =
     let head : slice_get heads i ≡ Some h = slice_get_read heads (length heads) i h refl within read in
     rw (head, slice_get-map {A = Reference} {B = List Entry} (λ reference. version_entries reference None) (shown_references kept) h.list, slice_get-map {A = Kept} {B = Reference} (λ l. l.shown) kept h.list, is) refl
 
+-- what a search by a head costs
+pub cost_here : (limits : Limits) (heads : List TableHead) (kept : List Kept) (i : ℕ) (h : TableHead) (k : Kept) (v : Value)
+    → i < length heads → h ≡ slice_index_or heads i h → slice_get kept h.list ≡ Some k
+    → search_steps h.by h.ci (version_entries k.shown None) v
+    ≡ find_steps (record { limits = limits; heads = heads; references = shown_references kept }) i v
+cost_here limits heads kept i h k v within read is =
+    let head : slice_get heads i ≡ Some h = slice_get_read heads (length heads) i h refl within read in
+    rw (head, slice_get-map {A = Kept} {B = Reference} (λ l. l.shown) kept h.list, is) refl
+
 -- a use that the reference doesn't keep isn't one
 pub no_use : (heads : List TableHead) (kept : List Kept) (r : ℕ) (k : Kept) (method : By) (ci : Bool)
-    → AreKept heads kept → r < length kept → k ≡ slice_index_or kept r k
+    → AreKept heads kept → slice_get kept r ≡ Some k
     → None ≡ option_map (λ u. u.head) (use_with method ci k.uses) → use_with method ci (uses_of heads r) ≡ None
-no_use heads kept r k method ci all within read none =
-    let found : slice_get kept r ≡ Some k = slice_get_read kept (length kept) r k refl within read in
+no_use heads kept r k method ci all found none =
     let same : uses_of heads r ≡ k.uses = rw found at (all.uses r) in
     rw same (go (use_with method ci k.uses) none)
   where
     go : (u : Option Use) → None ≡ option_map (λ v. v.head) u → u ≡ None
     go None e = refl
     go (Some v) e = absurd (cc)
+
+-- the content of which these are parts
+abbrev pub content_of : Limits → List TableHead → List Kept → References
+content_of limits heads kept =
+    record { limits = limits; heads = heads; references = shown_references kept }
+
+-- a use that it keeps is one
+pub known_head : (heads : List TableHead) (kept : List Kept) (r : ℕ) (k : Kept) (method : By) (ci : Bool) (head : ℕ)
+    → AreKept heads kept → slice_get kept r ≡ Some k → Some head ≡ option_map (λ u. u.head) (use_with method ci k.uses)
+    → head ≡ option_map_or (λ u. u.head) (use_with method ci (uses_of heads r)) (length heads)
+known_head heads kept r k method ci head all found is =
+    let same : uses_of heads r ≡ k.uses = rw found at (all.uses r) in
+    rw same (go (use_with method ci k.uses) is)
+  where
+    go : (u : Option Use) → Some head ≡ option_map (λ v. v.head) u → head ≡ option_map_or (λ v. v.head) u (length heads)
+    go None e = absurd (cc)
+    go (Some v) e = same_Some head v.head e
+
+pub known_heads : (limits : Limits) (heads : List TableHead) (kept : List Kept) (r : ℕ) (k : Kept) (method : By) (ci : Bool) (head : ℕ)
+    → AreKept heads kept → slice_get kept r ≡ Some k → Some head ≡ option_map (λ u. u.head) (use_with method ci k.uses)
+    → content_of limits heads kept ≡ after_use (content_of limits heads kept) r method ci
+known_heads limits heads kept r k method ci head all found is =
+    let same : uses_of heads r ≡ k.uses = rw found at (all.uses r) in
+    rw same (go (use_with method ci k.uses) is)
+  where
+    some : (u : Option Use) → Some head ≡ option_map (λ v. v.head) u → is_some u ≡ true
+    some None e = absurd (cc)
+    some (Some v) e = refl
+
+    go : (u : Option Use) → Some head ≡ option_map (λ v. v.head) u
+        → content_of limits heads kept
+        ≡ record (content_of limits heads kept) { heads = if is_some u then heads else heads ++ record { by = method; ci = ci; list = r } ∷ [] }
+    go u e = rw (some u e) refl
+
+-- nothing was added to it
+pub none_added : (kept : List Kept) (r : ℕ) (k : Kept) → slice_get kept r ≡ Some k
+    → IfSome (slice_get (shown_references kept) r) (λ reference. AreEmpty reference.versions) → AreEmpty k.shown.versions
+none_added kept r k is none =
+    rw (slice_get-map {A = Kept} {B = Reference} (λ l. l.shown) kept r, is) at none
 
 -- ---- one more reference, one more use
 
@@ -181,20 +172,24 @@ kept_with_new heads kept new few none number file all = record {
       ]
     ]
 
+-- a change that isn't shown
+pub shown_same : (kept : List Kept) (r : ℕ) (k new : Kept) → slice_get kept r ≡ Some k → new.shown ≡ k.shown
+    → shown_references (slice_set kept r new) ≡ shown_references kept
+shown_same kept r k new found same =
+    map-set_same (λ l. l.shown) kept r new k
+    (same ∙ ap (λ (l : Kept). l.shown) (sym (get_or_from_slice_get kept r k k found)))
+
 pub kept_after_use : (heads : List TableHead) (kept : List Kept) (r : ℕ) (k new : Kept) (method : By) (ci : Bool)
-    → r < length kept → k ≡ slice_index_or kept r k
+    → slice_get kept r ≡ Some k
     → new.uses ≡ k.uses ++ record { by = method; ci = ci; head = length heads } ∷ [] → new.shown ≡ k.shown
     → AreKept heads kept
     → AreKept (heads ++ record { by = method; ci = ci; list = r } ∷ []) (slice_set kept r new)
-kept_after_use heads kept r k new method ci within is more same all = record {
+kept_after_use heads kept r k new method ci found more same all = record {
   few = rw (length-set kept r new) all.few;
   uses = uses;
-  names = rw (shown_same kept r k new is same) all.names;
+  names = rw (shown_same kept r k new found same) all.names;
 }
   where
-    found : slice_get kept r ≡ Some k
-    found = slice_get_read kept (length kept) r k refl within is
-
     uses : (q : ℕ) → uses_of (heads ++ record { by = method; ci = ci; list = r } ∷ []) q ≡ kept_uses (slice_set kept r new) q
     uses q = elim (cases_Bool (r == q)) [
       | inl same ↦
@@ -208,57 +203,44 @@ kept_after_use heads kept r k new method ci within is more same all = record {
 -- ---- a change of a reference
 
 -- one that leaves its uses, its number and its file
-pub kept_after_change : (heads : List TableHead) (kept : List Kept) (r : ℕ) (k new : Kept) (change : Reference → Reference)
-    → KeepsNames change → r < length kept → k ≡ slice_index_or kept r k → new ≡ record k { shown = change k.shown }
-    → AreKept heads kept → AreKept heads (slice_set kept r new)
-kept_after_change heads kept r k new change keeps within is same all = record {
-  few = rw (length-set kept r new) all.few;
-  uses = uses;
-  names = rw (changed_shown kept r k new change within is (ap (λ l. l.shown) same))
-      (own_names_stay (shown_references kept) r change keeps all.names);
+pub kept_after_change : (heads : List TableHead) (kept : List Kept) (r : ℕ) (change : Reference → Reference)
+    → KeepsNames change → AreKept heads kept → AreKept heads (with_kept r change kept)
+kept_after_change heads kept r change keeps all = record {
+  few = rw (same_length (slice_get kept r)) all.few;
+  uses = λ q. all.uses q ∙ sym (same_uses q (slice_get kept r) refl);
+  names = rw (changed_shown kept r change) (own_names_stay (shown_references kept) r change keeps all.names);
 }
   where
-    found : slice_get kept r ≡ Some k
-    found = slice_get_read kept (length kept) r k refl within is
+    same_length : (found : Option Kept)
+        → length (option_map_or (λ k. slice_set kept r (record k { shown = change k.shown })) found kept) ≡ length kept
+    same_length None = refl
+    same_length (Some k) = length-set kept r (record k { shown = change k.shown })
 
-    same_uses : new.uses ≡ k.uses
-    same_uses = ap (λ l. l.uses) same
-
-    uses : (q : ℕ) → uses_of heads q ≡ kept_uses (slice_set kept r new) q
-    uses q = elim (cases_eq r q) [
-      | inl here ↦ rw (← here, get_set_same kept r k new found) (rw found at (all.uses r) ∙ sym same_uses)
-      | inr apart ↦ rw (get_set_other kept r q new apart) (all.uses q)
+    same_uses : (q : ℕ) (found : Option Kept) → slice_get kept r ≡ found
+        → kept_uses (option_map_or (λ k. slice_set kept r (record k { shown = change k.shown })) found kept) q
+        ≡ kept_uses kept q
+    same_uses q None is = refl
+    same_uses q (Some k) is = elim (cases_eq r q) [
+      | inl here ↦
+          rw (← here, get_set_same kept r k (record k { shown = change k.shown }) is, is) refl
+      | inr apart ↦
+          rw (get_set_other kept r q (record k { shown = change k.shown }) apart) refl
     ]
 
--- one that changes nothing
-pub kept_unchanged : (heads : List TableHead) (kept : List Kept) (r : ℕ) (k new : Kept) → k ≡ slice_index_or kept r k
-    → new ≡ k → AreKept heads kept → AreKept heads (slice_set kept r new)
-kept_unchanged heads kept r k new is same all =
-    let stays : slice_set kept r new ≡ kept = ap (λ l. slice_set kept r l) (same ∙ is) ∙ set-get_or kept r k in
-    rw stays all
+-- one where it is answered that it is done, else none
+pub kept_after_answer : {T E : Type 0} (answer : Result T E) (heads : List TableHead) (old new : KeptState) (r : ℕ)
+    (change : Reference → Reference) → KeepsNames change
+    → OnOk answer (new.kept ≡ with_kept r change old.kept) → OnErr answer (new ≡ old) → AreKept heads old.kept
+    → AreKept heads new.kept
+kept_after_answer (Ok x) heads old new r change keeps done stays all =
+    rw done (kept_after_change heads old.kept r change keeps all)
+kept_after_answer (Err e) heads old new r change keeps done stays all = rw stays all
 
--- the one where it is answered that it is done, else the other
-pub kept_after_answer : {T E : Type 0} (answer : Result T E) (heads : List TableHead) (kept : List Kept) (r : ℕ) (k new : Kept)
-    (change : Reference → Reference) → KeepsNames change → r < length kept → k ≡ slice_index_or kept r k
-    → OnOk answer (new ≡ record k { shown = change k.shown }) → OnErr answer (new ≡ k) → AreKept heads kept
-    → AreKept heads (slice_set kept r new)
-kept_after_answer (Ok x) heads kept r k new change keeps within is done stays all =
-    kept_after_change heads kept r k new change keeps within is done all
-kept_after_answer (Err e) heads kept r k new change keeps within is done stays all =
-    kept_unchanged heads kept r k new is stays all
-
--- ---- what holds of each reference
-
-each : {A : Type 0} → (P : A → Type 0) (x : A) (xs : List A) → P x → All P xs → All P (x ∷ xs)
-each P x xs here rest zero d within = here
-each P x xs here rest (suc k) d within = rest k d (omega (arith, within))
-
--- that it holds of the first, too
-pub with_first_too : (P : Reference → Type 0) (kept : List Kept) (k : Kept) (all : List Reference) → 0 < length kept
-    → k ≡ slice_index_or kept 0 k → P k.shown → (All P (shown_references kept) → All P all)
-    → All P (shown_references (take (length kept - 1) (drop 1 kept))) → All P all
-with_first_too P [] k all within is here before rest = absurd (omega arith)
-with_first_too P (x ∷ kept) k all within is here before rest =
-    let first : P x.shown = subst (λ (y : Kept). P y.shown) is here in
-    before
-    (each P x.shown (shown_references kept) first (rw (take_all (suc (length kept) - 1) kept (omega arith)) at rest))
+-- what is seen of the references after a change of one
+pub content_after : (limits : Limits) (heads : List TableHead) (old new : List Kept) (r : ℕ) (change : Reference → Reference)
+    → new ≡ with_kept r change old
+    → record { limits = limits; heads = heads; references = shown_references new }
+    ≡ with_reference r change (record { limits = limits; heads = heads; references = shown_references old })
+content_after limits heads old new r change is =
+    ap (λ (references : List Reference). record { limits = limits; heads = heads; references = references })
+    (ap shown_references is ∙ changed_shown old r change)

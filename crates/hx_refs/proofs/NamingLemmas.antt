@@ -11,10 +11,12 @@ use Rattle.hx_text.specs.Number.{number_of, number_up_to}
 use Rattle.hx_refs.specs.declared.fault.RefFault.{RefFault}
 use Rattle.hx_refs.specs.declared.fault.RefFault.TheVariants.{UnknownRef}
 use Rattle.hx_refs.specs.declared.side.Side.{Side}
+use Rattle.hx_refs.specs.declared.side.Side.TheVariants.{Acl, AclWrite, Map}
 use Rattle.hx_refs.specs.Changes.{answer}
-use Rattle.hx_refs.specs.Kept.{shown_references, Kept}
+use Rattle.hx_refs.specs.Kept.{all_filled, filled, shown_references, Kept}
 use Rattle.hx_refs.specs.Naming.{is_named, named_number, resolution, side_fault}
 use Rattle.hx_refs.specs.References.{Reference, References}
+use Rattle.hx_refs.specs.Rows.{ShownVersion}
 
 -- ---- numbers
 
@@ -114,3 +116,25 @@ pub none_named : (number : Option ℕ) (word : List ℕ) (side : Side) (position
     → Err UnknownRef ≡ resolution_from number word side position (shown_references rest)
 none_named number word side position [] none = refl
 none_named number word side position (x ∷ rest) none = absurd (omega arith)
+
+-- the versions of references don't matter
+filled_named : (number : Option ℕ) (word : List ℕ) (k : Kept) (row : List ShownVersion)
+    → is_named number word (filled k row).shown ≡ is_named number word k.shown
+filled_named None word k row = refl
+filled_named (Some n) word k row = refl
+
+filled_fault : (side : Side) (k : Kept) (row : List ShownVersion) → side_fault side (filled k row).shown ≡ side_fault side k.shown
+filled_fault Acl k row = refl
+filled_fault AclWrite k row = refl
+filled_fault Map k row = refl
+
+pub filled_resolution : (number : Option ℕ) (word : List ℕ) (side : Side) (position : ℕ) (kept : List Kept) (rows : List (List ShownVersion))
+    → resolution_from number word side position (shown_references (all_filled kept rows))
+    ≡ resolution_from number word side position (shown_references kept)
+filled_resolution number word side position [] rows = refl
+filled_resolution number word side position (k ∷ kept) [] =
+    rw (filled_named number word k [], filled_fault side k [], filled_resolution number word side (position + 1) kept [])
+    refl
+filled_resolution number word side position (k ∷ kept) (row ∷ rows) =
+    rw (filled_named number word k row, filled_fault side k row, filled_resolution number word side (position + 1) kept rows)
+    refl

@@ -1,13 +1,13 @@
 -- The numbers of entries rise, and go on rising after changes.
-use Rattle.std.proofs.Common.{◌≡◌, ℕ, ◌+◌, ◌*◌, ◌^◌, ◌≤◌, Bool, List, [], ◌∷◌, ◌++◌, length, drop, map, refl, arith, inl, inr}
+use Rattle.std.proofs.Common.{◌≡◌, ℕ, ◌+◌, ◌*◌, ◌^◌, ◌≤◌, Bool, List, [], ◌∷◌, ◌++◌, length, map, refl, arith, inl, inr}
 use Rattle.std.proofs.lemmas.Bool.{cases_Bool, cases_eq, cases_lt}
 use Rattle.hx_sample.specs.Changes.{with_value, without_chosen}
 use Rattle.hx_sample.specs.Find.{Entry}
 use Rattle.hx_refs.specs.Additions.{new_entries, Pair}
 use Rattle.hx_refs.specs.Numbers.{HasRisingNumbers, RiseBetween}
 use Rattle.hx_refs.specs.References.{Version}
-use Rattle.hx_refs.specs.Versions.{changed_entries, version_numbered, with_new_entries, AreNumbered, AreRising, ChangesVersion, IsPlace}
-use Rattle.hx_refs.specs.declared.versions.KeptVersion.{KeptVersion}
+use Rattle.hx_refs.specs.Rows.{changed_entries, version_numbered, AreBelow, AreNumbered, ChangesVersion, ShownVersion}
+use Rattle.hx_refs.specs.Versions.{with_new_entries, AreRising}
 use Rattle.hx_refs.proofs.VersionLemmas.{dropped_others, none_below}
 
 -- ---- lists of entries
@@ -74,9 +74,9 @@ pub rising_with : (number : ℕ) (test : Entry → Bool) (value : List ℕ) (ver
 rising_with number test value version rise =
     rise_with test value (number * 2 ^ 32) (number * 2 ^ 32 + version.serial) version.entries rise
 
--- ---- the versions that are kept
+-- ---- the versions in a row
 
-pub rising_after : (first last number : ℕ) (change : Version → Version) (old new : List KeptVersion)
+pub rising_after : (first last number : ℕ) (change : Version → Version) (old new : List ShownVersion)
     → ChangesVersion first last number change old new → AreRising old
     → HasRisingNumbers number (change (version_numbered number old)) → AreRising new
 rising_after first last number change old new changes rising here other = elim (cases_eq other number) [
@@ -84,9 +84,9 @@ rising_after first last number change old new changes rising here other = elim (
   | inr apart ↦ rw (changes.others other apart) (rising other)
 ]
 
-pub rising_dropped : (number place last : ℕ) (kept : List KeptVersion) → IsPlace number place kept
-    → AreNumbered number last (drop place kept) → AreRising kept → AreRising (drop place kept)
-rising_dropped number place last kept is all rising other = elim (cases_lt other number) [
-  | inl below ↦ rw (none_below other number last (drop place kept) all below) tt
-  | inr above ↦ rw (dropped_others number place other kept is above) (rising other)
+pub rising_dropped : (number last : ℕ) (dropped row : List ShownVersion) → AreBelow number dropped
+    → AreNumbered number last row → AreRising (dropped ++ row) → AreRising row
+rising_dropped number last dropped row below all rising other = elim (cases_lt other number) [
+  | inl under ↦ rw (none_below other number last row all under) tt
+  | inr above ↦ rw (dropped_others number other dropped row below above) (rising other)
 ]

@@ -1,33 +1,37 @@
-ghost use Rattle.std.specs.Prelude.{◌≡◌, ◌≢◌, ◌+◌, List, [], ◌∷◌, ◌++◌, false, None, is_some, length, IfOk, IfErr, OnOk};
+ghost use Rattle.std.specs.Prelude.{◌≡◌, ◌≢◌, ◌+◌, ◌<◌, ◌^◌, Bool, List, [], ◌∷◌, ◌++◌, false, None, is_some, length, IfOk, IfErr, OnOk};
+ghost use Rattle.hx_text.specs.declared.kinds.By.{By as Method};
 ghost use Rattle.hx_match.specs.Patterns.{text_fault};
 ghost use Rattle.hx_refs.specs.Additions.{new_entries, pairs_fault, refuses_key, AdditionCountsLarge, IsReadAs, MayRefuse, PairsAskFor};
-ghost use Rattle.hx_refs.specs.Kept.{key_fault, kept_demands, pattern_texts, shown_entries, shown_entry, AreRead, TakePatterns};
+ghost use Rattle.hx_refs.specs.Contents.{prepared_patterns};
+ghost use Rattle.hx_refs.specs.Kept.{key_fault, kept_demands, TakePatterns};
+ghost use Rattle.hx_refs.specs.NewEntries.{added_entries, added_entry, AreReadyFor, IsReadyFor};
 ghost use Rattle.hx_refs.specs.References.{refuses_value};
-ghost use Rattle.hx_refs.specs.Uses.{Use};
+ghost use Rattle.hx_refs.specs.Rows.{use_ways};
 
+use crate::content::NewEntry;
 use crate::fault::RefFault;
 use crate::limits::Limits;
 use crate::pairs::KeptPair;
 use crate::reference::KeptReference;
-use crate::stored::Stored;
+use crate::store::NewEntries;
 use crate::uses::KeptUse;
-use hx_match::{Pattern, parse};
+use hx_index::{Prepared, prepare};
 use hx_outside::{PatFault, ReMaker};
-use hx_text::{By, NoMemory, read_i64, read_ip};
+use hx_text::{By, NoMemory, Octets, read_i64, read_ip};
 use std::alloc::Global;
 
-/// The key as a pattern.
-fn read_key<M: ReMaker>(
+/// The key as a pattern, prepared for an index.
+fn prepare_key<M: ReMaker>(
     alloc: Global,
     by: By,
     ci: bool,
     key: &[u8],
     maker: &mut M,
-) -> Result<Pattern, RefFault>
+) -> Result<Prepared, RefFault>
     requires found { by ≢ By.Found }
     requires bool { by ≢ By.Bool }
-    ensures parsed { IfOk result (λ pattern.
-        pattern ≡ record { by = by; ci = ci; text = key.now }) }
+    ensures prepared { IfOk result (λ prepared.
+        prepared ≡ record { by = by; ci = ci; text = key.now }) }
     ensures read { OnOk result (is_some (text_fault by ci key.now) ≡ false) }
     ensures refused { IfErr result
         (MayRefuse (key_fault (is_some (text_fault by ci key.now)))) }
@@ -35,8 +39,8 @@ fn read_key<M: ReMaker>(
         (λ text. (by ≡ By.Reg) × (text ≡ record { text = key.now; ci = ci }))
         (M.state maker.old) (M.state maker.new) }
 {
-    match parse(alloc, by, ci, key, maker) {
-        Ok(pattern) => Ok(pattern),
+    match prepare(alloc, by, ci, key, maker) {
+        Ok(prepared) => Ok(prepared),
         Err(PatFault::BadInt) => Err(RefFault::BadPattern),
         Err(PatFault::BadRange) => Err(RefFault::BadPattern),
         Err(PatFault::BadAddress) => Err(RefFault::BadPattern),
@@ -48,29 +52,30 @@ fn read_key<M: ReMaker>(
     }
 }
 
-/// The key as the pattern of each use.
-pub(crate) fn read_keys<M: ReMaker>(
+/// The key as the pattern of each use, prepared for its index.
+pub(crate) fn prepare_keys<M: ReMaker>(
     alloc: Global,
     uses: &[KeptUse],
     key: &[u8],
     maker: &mut M,
-) -> Result<Vec<Pattern>, RefFault>
+) -> Result<Vec<Prepared>, RefFault>
     requires { TakePatterns uses.now }
-    ensures parsed { IfOk result (λ patterns. patterns.items ≡ pattern_texts uses.now key.now) }
+    ensures prepared { IfOk result (λ prepared.
+        prepared.items ≡ prepared_patterns key.now (use_ways uses.now)) }
     ensures read { OnOk result (refuses_key uses.now key.now ≡ false) }
     ensures refused { IfErr result (MayRefuse (key_fault (refuses_key uses.now key.now))) }
     ensures large { AdditionCountsLarge result (IsReadAs uses.now key.now)
         (M.state maker.old) (M.state maker.new) }
 {
-    let mut patterns = Vec::new(alloc);
+    let mut prepared = Vec::new(alloc);
     let mut rest = uses;
     while let [kept, others @ ..] = rest {
         let kept = *kept;
-        let pattern = read_key(alloc, kept.by, kept.ci, key, maker)?;
-        patterns.push(pattern)?;
+        let pattern = prepare_key(alloc, kept.by, kept.ci, key, maker)?;
+        prepared.push(pattern)?;
         rest = others;
     }
-    Ok(patterns)
+    Ok(prepared)
 }
 
 /// Whether an output can't read the value.
@@ -80,19 +85,38 @@ pub(crate) fn refuses_value(as_int: bool, as_ip: bool, value: &[u8]) -> bool
     as_int && read_i64(value).is_none() || as_ip && read_ip(value).is_none()
 }
 
-/// Entries that are to be appended, and the serial number of the last.
-#[derive(Drop)]
-pub(crate) struct Added {
-    pub(crate) entries: Vec<Stored>,
-    pub(crate) serial: u32,
+/// The entry that a pair becomes, with its key as it was prepared for each use, and a place for as
+/// many nodes.
+pub(crate) fn entry_of_pair(
+    alloc: Global,
+    number: u64,
+    pair: &KeptPair,
+    prepared: Vec<Prepared>,
+) -> Result<NewEntry, RefFault>
+    ensures entry { IfOk result (λ new. added_entry new
+        ≡ record { number = number; key = pair.now.key; value = pair.now.value }) }
+    ensures prepared { IfOk result (λ new. new.prepared.items ≡ prepared.items) }
+    ensures nodes { IfOk result (λ new. length new.nodes.items ≡ length prepared.items) }
+    ensures err { IfErr result (λ fault. fault ≡ RefFault.NoMemory) }
+{
+    let key = Octets::copy(alloc, pair.key())?;
+    let value = Octets::copy(alloc, pair.value())?;
+    let nodes = vec![in alloc; 0; prepared.len()]?;
+    Ok(NewEntry {
+        number,
+        key,
+        value,
+        prepared,
+        nodes,
+    })
 }
 
-/// Appends an entry, whose key is read by each use.
-fn push_entry(entries: &mut Vec<Stored>, entry: Stored) -> Result<(), NoMemory>
-    ensures shown { OnOk result (shown_entries entries.new.items
-        ≡ shown_entries entries.old.items ++ shown_entry entry ∷ []) }
-    ensures read { OnOk result ((uses : List Use) → AreRead uses entries.old.items
-        → entry.patterns.items ≡ pattern_texts uses entry.key → AreRead uses entries.new.items) }
+/// Appends an entry, which is ready for each use.
+fn push_entry(entries: &mut Vec<NewEntry>, entry: NewEntry) -> Result<(), NoMemory>
+    ensures shown { OnOk result (added_entries entries.new.items
+        ≡ added_entries entries.old.items ++ added_entry entry ∷ []) }
+    ensures ready { OnOk result ((ways : List (Method × Bool)) → AreReadyFor ways entries.old.items
+        → IsReadyFor ways entry → AreReadyFor ways entries.new.items) }
 {
     entries.push(entry)?;
     Ok(())
@@ -105,15 +129,17 @@ pub(crate) fn new_entries<M: ReMaker>(
     limits: Limits,
     reference: &KeptReference,
     version: u32,
-    count: usize,
+    count: u32,
     serial: u32,
     pairs: &[KeptPair],
     maker: &mut M,
-) -> Result<Added, RefFault>
+) -> Result<NewEntries, RefFault>
     ensures entries { IfOk result (λ added.
-        shown_entries added.entries.items ≡ new_entries version serial pairs.now) }
+        added_entries added.entries.items ≡ new_entries version serial pairs.now) }
     ensures serial { IfOk result (λ added. added.serial ≡ serial + length pairs.now) }
-    ensures read { IfOk result (λ added. AreRead reference.now.uses added.entries.items) }
+    ensures ready { IfOk result (λ added.
+        AreReadyFor (use_ways reference.now.uses) added.entries.items) }
+    ensures few { OnOk result (count + length pairs.now < 2 ^ 32) }
     ensures none { OnOk result (pairs_fault (kept_demands reference.now limits)
         count serial pairs.now ≡ None) }
     ensures refused { IfErr result (MayRefuse (pairs_fault (kept_demands reference.now limits)
@@ -133,5 +159,5 @@ pub(crate) fn new_entries<M: ReMaker>(
         serial += 1;
         rest = others;
     }
-    Ok(Added { entries, serial })
+    Ok(NewEntries { entries, serial })
 }

@@ -1,9 +1,10 @@
 //! Laws: what the definitions of versions imply, and what holds of references at any time.
-ghost use Rattle.std.specs.Prelude.{◌≡◌, ◌≢◌, ℕ, ◌<◌, Bool, List, Option, None, Some, All, IfSome, length, slice_get};
+ghost use Rattle.std.specs.Prelude.{◌≡◌, ◌≢◌, ℕ, ◌+◌, ◌<◌, ◌≤◌, Bool, List, Option, None, Some, All, IfSome, length, slice_get};
 ghost use Rattle.hx_refs.specs.Additions.{after_addition, Pair};
 ghost use Rattle.hx_refs.specs.Changes.{after_clearing, after_commit, after_preparation, commit_fault, fault_at};
 ghost use Rattle.hx_refs.specs.Numbers.{HasVersionsInOrder, HaveOwnNames, IsNotSearched, NumbersRise};
 ghost use Rattle.hx_refs.specs.References.{entries_in, searched_lists, with_new, with_reference, Reference, References};
+ghost use Rattle.hx_refs.specs.SlotCounts.{least_slots, most_slots, slots_in_all};
 
 use crate::refs::Refs;
 
@@ -82,3 +83,15 @@ pub fn names_stay_distinct()
         → HaveOwnNames refs.references
         → HaveOwnNames (with_reference r change refs).references }
 {}
+
+/// No slot of memory is lost: those that are in use and don't wait to be given back are, of each
+/// version of each reference, at least one for each entry and one for each entry and use, and at
+/// most those that one entry more would need.
+pub fn slots_are_counted(refs: &Refs)
+    ensures least { slots_in_all least_slots refs.now.content + refs.now.slots.retired
+        ≤ refs.now.slots.used }
+    ensures most { refs.now.slots.used
+        ≤ slots_in_all most_slots refs.now.content + refs.now.slots.retired }
+{
+    refs.have_counted_slots();
+}

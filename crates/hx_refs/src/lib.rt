@@ -8,28 +8,42 @@
 //! `laws` what follows from the definitions.
 #![tactic(auto)]
 
+mod appending;
 mod choice;
-mod entries;
+mod choosing;
+mod content;
+mod dismantling;
 mod fault;
+mod filling;
+mod finding;
+mod growing;
 mod heads;
+mod indexing;
 mod info;
 mod judging;
+mod kept_references;
 pub mod laws;
 mod limits;
 mod lines;
 mod naming;
 mod pairs;
+mod placing;
+mod pools;
+mod reaching;
+mod reading;
 mod reference;
 mod refs;
-mod searching;
+mod retiring;
 mod side;
 mod slots;
-mod stored;
+mod store;
+mod stored_entry;
+mod stored_version;
 mod table_changes;
 mod uses;
-mod versions;
+mod values;
+mod version_entries;
 
-pub use entries::Entries;
 pub use fault::RefFault;
 pub use info::RefInfo;
 pub use limits::Limits;
@@ -37,3 +51,4 @@ pub use pairs::Pairs;
 pub use refs::Refs;
 pub use side::Side;
 pub use slots::Slots;
+pub use version_entries::Entries;

@@ -1,27 +1,30 @@
-ghost use Rattle.std.specs.Prelude.{◌≡◌, ◌≢◌, ◌<◌, [], ◌∷◌, All, length, slice_get, None, Some, IfOk, IfErr, IfSome, OnOk, OnErr, option_map};
+ghost use Rattle.std.specs.Prelude.{◌≡◌, ◌≢◌, ◌+◌, ◌<◌, ◌≤◌, [], ◌∷◌, All, length, slice_get, None, Some, IfOk, IfErr, IfSome, IsOk, OnOk, OnErr, option_map};
 ghost use Rattle.std.specs.Option.{option_copied};
 ghost use Rattle.hx_refs.specs.Additions.{addition_fault, after_addition, AdditionAsksFor, AdditionCountsLarge, MayRefuse};
 ghost use Rattle.hx_refs.specs.Changes.{after_change_of_value, after_clearing, after_commit, after_deletion, after_preparation, answer, commit_fault, deletion_fault, fault_at, has_number, preparation_fault, prepared_version, value_fault, MayFail};
 ghost use Rattle.hx_sample.specs.Changes.{has_key};
+ghost use Rattle.hx_sample.specs.Seen.{value_of};
+ghost use Rattle.hx_sample.specs.Tables.{entry_of, found_at, TakesValue};
+ghost use Rattle.hx_refs.specs.Costs.{commit_steps, find_steps};
 ghost use Rattle.hx_refs.specs.Naming.{resolution};
 ghost use Rattle.hx_refs.specs.Numbers.{HasVersionsInOrder, HaveOwnNames, NumbersRise};
-ghost use Rattle.hx_refs.specs.References.{after_output, after_tidying, entries_in, file_of, info_of, no_references, no_slots, with_new, HasHadNone};
+ghost use Rattle.hx_refs.specs.References.{after_output, after_tidying, entries_in, file_of, info_of, no_references, no_slots, searched_lists, with_new, HasHadNone};
+ghost use Rattle.hx_refs.specs.SlotCounts.{least_slots, most_slots, slots_in_all};
 ghost use Rattle.hx_refs.specs.TableChanges.{is_key_of};
 ghost use Rattle.hx_refs.specs.Uses.{after_use, head_for, use_parts, uses_in_order, uses_of, KeepsToCase};
 ghost use Rattle.hx_refs.specs.Versions.{is_chosen};
 
 use crate::choice::Choice;
-use crate::entries::Entries;
 use crate::fault::RefFault;
 use crate::heads::KeptHead;
 use crate::info::RefInfo;
+use crate::kept_references::KeptReferences;
 use crate::limits::Limits;
-use crate::naming::named_number;
 use crate::pairs::{KeptPair, Pairs};
-use crate::reference::KeptReference;
 use crate::side::Side;
 use crate::slots::Slots;
 use crate::table_changes::is_fit;
+use crate::version_entries::Entries;
 use hx_outside::ReMaker;
 use hx_pool::Steps;
 use hx_sample::{Change, Hit, Sample, TableFault, Tables};
@@ -29,16 +32,6 @@ use hx_text::{By, NoMemory, Out};
 use std::alloc::Global;
 use std::marker::Model;
 use std::sync::ledger::Ledger;
-
-/// The position, unless there is a fault.
-fn answer(position: u32, fault: Option<RefFault>) -> Result<u32, RefFault>
-    ensures { result ≡ answer position fault }
-{
-    match fault {
-        None => Ok(position),
-        Some(fault) => Err(fault),
-    }
-}
 
 /// The references of a configuration, by their positions. Contracts see their content, which is the
 /// limits, the heads in the order of their numbers, and the references in their order; and how many
@@ -48,27 +41,26 @@ pub struct Refs {
     alloc: Global,
     limits: Limits,
     heads: Vec<KeptHead>,
-    references: Vec<KeptReference>,
+    kept: KeptReferences,
 }
 
 impl Model for Refs {
-    ghost use Rattle.hx_refs.specs.References.{RefsState, no_slots};
+    ghost use Rattle.hx_refs.specs.References.{RefsState};
 
     ghost Value = { RefsState };
 
-    ghost use Rattle.hx_refs.specs.Kept.{shown_references, AreKept};
+    ghost use Rattle.hx_refs.specs.Kept.{shown_references, table_heads, AreSearchable};
 
-    // Entries are kept in lists of their own, so that no slot is in use, and none waits.
     ghost view = { λ refs. record {
       content = record {
         limits = refs.limits;
-        heads = refs.heads.items;
-        references = shown_references refs.references.items;
+        heads = table_heads refs.heads.items;
+        references = shown_references refs.kept.kept;
       };
-      slots = no_slots;
+      slots = refs.kept.slots;
     } };
 
-    ghost invariant = { λ refs. AreKept refs.heads.items refs.references.items };
+    ghost invariant = { λ refs. AreSearchable refs.heads.items refs.kept.kept };
 }
 
 impl Refs {
@@ -80,7 +72,7 @@ impl Refs {
             alloc,
             limits,
             heads: Vec::new(alloc),
-            references: Vec::new(alloc),
+            kept: KeptReferences::new(alloc),
         }
     }
 
@@ -88,7 +80,7 @@ impl Refs {
     pub fn len(&self) -> u32
         ensures { result ≡ length self.now.content.references }
     {
-        self.references.len() as u32
+        self.kept.len() as u32
     }
 
     /// Appends a reference without uses, outputs and entries, and answers its position, which is
@@ -114,9 +106,8 @@ impl Refs {
             acl) }
         ensures err { OnErr result (self.new ≡ self.old) }
     {
-        let position = self.references.len() as u32;
-        let reference = KeptReference::new(self.alloc, id, file, two_column, acl)?;
-        self.references.push(reference)?;
+        let position = self.len();
+        self.kept.push(self.alloc, id, file, two_column, acl)?;
         Ok(position)
     }
 
@@ -127,8 +118,7 @@ impl Refs {
         requires { r < length self.now.content.references }
         ensures { Some result ≡ option_map info_of (slice_get self.now.content.references r) }
     {
-        let reference = &self.references[r as usize];
-        reference.info()
+        self.kept.info(r)
     }
 
     /// The file of the reference at the position `r`. None exactly where it has none.
@@ -138,8 +128,7 @@ impl Refs {
         requires { r < length self.now.content.references }
         ensures { option_copied result ≡ file_of self.now.content r }
     {
-        let reference = &self.references[r as usize];
-        reference.file()
+        self.kept.file(r)
     }
 
     /// From now on, values that are added to the reference at the position `r` have to be readable
@@ -152,8 +141,7 @@ impl Refs {
         ensures ok { OnOk result (self.new.content ≡ after_output self.old.content r out) }
         ensures err { OnErr result (self.new ≡ self.old) }
     {
-        let reference = &mut self.references[r as usize];
-        reference.add_out(out);
+        self.kept.add_out(r, out);
         Ok(())
     }
 
@@ -174,8 +162,7 @@ impl Refs {
         ensures ok { OnOk result (self.new.content ≡ after_use self.old.content r by ci) }
         ensures err { OnErr result (self.new ≡ self.old) }
     {
-        let reference = &self.references[r as usize];
-        if let Some(head) = reference.head_with(by, ci) {
+        if let Some(head) = self.kept.head_with(r, by, ci) {
             return Ok(head);
         }
         // A reference has at most 22 uses, so the number fits.
@@ -183,9 +170,14 @@ impl Refs {
             return Err(NoMemory);
         };
         self.heads.reserve(1)?;
-        let reference = &mut self.references[r as usize];
-        reference.push_use(by, ci, head)?;
-        let Ok(()) = self.heads.push(KeptHead { by, ci, list: r }) else {
+        let known = KeptHead {
+            by,
+            ci,
+            list: r,
+            place: self.kept.use_count(r),
+        };
+        self.kept.push_use(r, by, ci, head)?;
+        let Ok(()) = self.heads.push(known) else {
             unreachable!()
         };
         Ok(head)
@@ -202,8 +194,7 @@ impl Refs {
         ensures { result ≡ option_map use_parts
             (slice_get (uses_in_order (uses_of self.now.content.heads r)) k) }
     {
-        let reference = &self.references[r as usize];
-        reference.use_at(k)
+        self.kept.use_at(r, k)
     }
 
     /// The entries of a version of the reference at the position `r`, in their order: of the
@@ -215,8 +206,7 @@ impl Refs {
         requires { r < length self.now.content.references }
         ensures { result ≡ entries_in self.now.content r ver }
     {
-        let reference = &self.references[r as usize];
-        reference.entries(ver)
+        self.kept.entries(r, ver)
     }
 
     /// Whether an entry of the reference at the position `r` has the key, in the version that is
@@ -225,8 +215,7 @@ impl Refs {
         requires { r < length self.now.content.references }
         ensures { result ≡ is_key_of self.now.content r key.now }
     {
-        let reference = &self.references[r as usize];
-        reference.has_key(key)
+        self.kept.has_chosen(r, &Choice::Key(key))
     }
 
     /// Appends an entry with copies of the key and of the value to a version of the reference at
@@ -314,10 +303,7 @@ impl Refs {
             (AdditionAsksFor self.old.content r ver pairs.now)
             (M.state maker.old) (M.state maker.new) }
     {
-        let alloc = self.alloc;
-        let limits = self.limits;
-        let reference = &mut self.references[r as usize];
-        reference.add(alloc, limits, ver, pairs, maker)
+        self.kept.add(self.alloc, self.limits, r, ver, pairs, maker)
     }
 
     /// Removes all entries with the key from the version of the reference at the position `r` that
@@ -362,8 +348,7 @@ impl Refs {
             (is_chosen choice.now)) }
         ensures err { OnErr result (self.new ≡ self.old) }
     {
-        let reference = &mut self.references[r as usize];
-        reference.delete(choice)
+        self.kept.delete(r, choice)
     }
 
     /// Changes the value of all entries with the key in the version of the reference at the
@@ -417,9 +402,7 @@ impl Refs {
             (MayFail (fault_at self.old.content r (value_fault (is_chosen choice.now) value.now))) }
         ensures kept { OnErr result (self.new ≡ self.old) }
     {
-        let alloc = self.alloc;
-        let reference = &mut self.references[r as usize];
-        reference.set(alloc, choice, value)
+        self.kept.set(r, choice, value)
     }
 
     /// Removes the entries of a version of the reference at the position `r`: of the version `ver`,
@@ -433,8 +416,7 @@ impl Refs {
         requires { r < length self.old.content.references }
         ensures { self.new.content ≡ after_clearing self.old.content r ver }
     {
-        let reference = &mut self.references[r as usize];
-        reference.clear(ver);
+        self.kept.clear(r, ver);
     }
 
     /// Prepares one version more of the reference at the position `r`, without entries, and answers
@@ -451,9 +433,7 @@ impl Refs {
         ensures ok { OnOk result (self.new.content ≡ after_preparation self.old.content r) }
         ensures err { OnErr result (self.new ≡ self.old) }
     {
-        let limits = self.limits;
-        let reference = &mut self.references[r as usize];
-        reference.prepare(limits)
+        self.kept.prepare(self.limits, r)
     }
 
     /// The version `ver` of the reference at the position `r` is searched from now on, with the
@@ -467,27 +447,23 @@ impl Refs {
         &mut self,
         r: u32,
         ver: u32,
-        _steps: &mut Steps<L>,
+        steps: &mut Steps<L>,
     ) -> Result<(), RefFault>
         requires { r < length self.old.content.references }
         ensures answer { result ≡ answer tt (fault_at self.old.content r (commit_fault ver)) }
         ensures ok { OnOk result (self.new.content ≡ after_commit self.old.content r ver) }
+        ensures used { self.new.slots.used ≡ self.old.slots.used }
         ensures err { OnErr result (self.new ≡ self.old) }
+        ensures cost { steps.new ≤ steps.old + commit_steps self.old.content r ver }
     {
-        let reference = &mut self.references[r as usize];
-        reference.commit(ver)
+        self.kept.commit(r, ver, steps)
     }
 
     /// How many slots of memory are in use, and how many of these wait to be given back.
     pub fn slots(&self) -> Slots
         ensures { result ≡ self.now.slots }
     {
-        // Each reference keeps its entries in lists of its own.
-        let _lists = &self.references;
-        Slots {
-            used: 0,
-            retired: 0,
-        }
+        self.kept.slots()
     }
 
     /// Gives back `n` of the slots of memory that no version needs any more, or all where fewer
@@ -496,9 +472,7 @@ impl Refs {
         ensures content { self.new.content ≡ self.old.content }
         ensures slots { self.new.slots ≡ after_tidying n self.old.slots }
     {
-        // A commit drops the lists of older versions at once, so that none waits.
-        let _lists = &self.references;
-        let _ = n;
+        self.kept.tidy(n);
     }
 
     /// The position of the reference that a word names for a side. `#` and decimal digits, which
@@ -514,17 +488,7 @@ impl Refs {
     pub fn resolve(&self, word: &[u8], side: Side) -> Result<u32, RefFault>
         ensures { result ≡ resolution self.now.content word.now side }
     {
-        let number = named_number(word);
-        let mut position = 0;
-        let mut rest = self.references.as_slice();
-        while let [reference, others @ ..] = rest {
-            if reference.is_named(number, word) {
-                return answer(position, reference.side_fault(side));
-            }
-            position += 1;
-            rest = others;
-        }
-        Err(RefFault::UnknownRef)
+        self.kept.resolve(word, side)
     }
 }
 
@@ -544,17 +508,24 @@ impl Tables for Refs {
 
     fn find<L: Ledger>(
         &self,
-        alloc: Global,
+        _alloc: Global,
         head: u32,
         sample: &Sample<'_>,
-        _steps: &mut Steps<L>,
-    ) -> Result<Option<Hit<'_>>, NoMemory> {
+        steps: &mut Steps<L>,
+    ) -> Result<Option<Hit<'_>>, NoMemory>
+        requires head { head < length self.now.content.heads }
+        requires kind { TakesValue self.now.content.heads head (value_of sample.now) }
+        ensures found { IfOk result (λ hit. option_map entry_of hit
+            ≡ found_at self.now.content.heads (searched_lists self.now.content) head
+            (value_of sample.now)) }
+        ensures free { IfSome (slice_get self.now.content.heads head)
+            (λ h. h.by ≢ By.Reg → IsOk result) }
+        ensures cost { steps.new ≤ steps.old
+            + find_steps self.now.content head (value_of sample.now) }
+    {
         let known = self.heads[head as usize];
-        let reference = &self.references[known.list as usize];
-        match reference.find(alloc, known.by, known.ci, sample)? {
-            Some(entry) => Ok(Some(entry.hit())),
-            None => Ok(None),
-        }
+        self.kept
+            .find(known.list, known.place, known.by, known.ci, sample, steps)
     }
 
     fn change<M: ReMaker>(
@@ -577,17 +548,23 @@ impl Refs {
         ensures versions { All HasVersionsInOrder self.now.content.references }
         ensures entries { All NumbersRise self.now.content.references }
     {
-        let mut rest = self.references.as_slice();
-        while let [reference, others @ ..] = rest {
-            reference.is_numbered();
-            rest = others;
-        }
+        self.kept.are_numbered();
     }
 
     /// Does nothing. No two references have the same number, and no two the same file.
     pub(crate) fn have_own_names(&self)
         ensures { HaveOwnNames self.now.content.references }
     {
-        let _references = &self.references;
+        let _kept = &self.kept;
+    }
+
+    /// Does nothing. The slots that are in use and don't wait are as many as the versions need.
+    pub(crate) fn have_counted_slots(&self)
+        ensures least { slots_in_all least_slots self.now.content + self.now.slots.retired
+            ≤ self.now.slots.used }
+        ensures most { self.now.slots.used
+            ≤ slots_in_all most_slots self.now.content + self.now.slots.retired }
+    {
+        self.kept.have_counted_slots();
     }
 }

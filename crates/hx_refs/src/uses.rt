@@ -49,20 +49,6 @@ pub(crate) fn use_with(uses: &[KeptUse], by: By, ci: bool) -> Option<KeptUse>
     None
 }
 
-/// The place of the use by a method and a case among these, and their number where there is none.
-pub(crate) fn place_with(uses: &[KeptUse], by: By, ci: bool) -> usize
-    ensures { slice_get uses.now result ≡ use_with by ci uses.now }
-{
-    let wanted = use_place(by, ci);
-    for (place, kept) in uses.iter().enumerate() {
-        let kept = *kept;
-        if use_place(kept.by, kept.ci) == wanted {
-            return place;
-        }
-    }
-    uses.len()
-}
-
 /// The methods and cases, in the order in which uses are told.
 const WAYS: [(By, bool); 22] = [
     (By::Int, false),

@@ -1,23 +1,24 @@
-use Rattle.std.proofs.Common.{[], ap}
 use Rattle.std.proofs.lemmas.List.{length-map}
+use Rattle.std.proofs.Common.{[]}
 use Rattle.hx_refs.specs.Changes.{with_entries}
-use Rattle.hx_refs.proofs.KeptLemmas.{changed_shown, kept_after_change}
+use Rattle.hx_refs.specs.Kept.{table_heads}
+use Rattle.hx_refs.proofs.KeptLemmas.{content_after, kept_after_change}
 use Rattle.hx_refs.proofs.NameLemmas.{entries_keep}
 use Rattle.hx_refs.proofs.refs.Refs.clear.Goals as goal
 
 pub invariant_of-self : goal.invariant_of-self
-invariant_of-self c =
-    let kept = c.self.inside.references.items in
-    let within = rw (length-map kept (λ k. k.shown)) at (rw (← c.self.view_is) at c.requires) in
-    kept_after_change c.self.inside.heads.items kept c.args.r c.index_mut-reference.result.now c.clear.new.self
-    (with_entries c.args.ver (λ _. [])) (entries_keep c.args.ver (λ _. [])) within c.index_mut-reference.ensures.value
-    c.clear.ensures c.self.invariant
+invariant_of-self c = record {
+  all = rw c.clear.ensures
+      (kept_after_change (table_heads c.self.inside.heads.items) c.self.inside.kept.kept c.args.r (with_entries c.args.ver (λ _. []))
+      (entries_keep c.args.ver (λ _. [])) c.self.invariant.all);
+  placed = c.self.invariant.placed;
+}
 
 pub returns : goal.returns
 returns c =
-    let kept = c.self.inside.references.items in
-    let within = rw (length-map kept (λ k. k.shown)) at (rw (← c.self.view_is) at c.requires) in
     rw (← c.self.view_is)
-    (ap (λ references. record { limits = c.self.inside.limits; heads = c.self.inside.heads.items; references = references })
-    (changed_shown kept c.args.r c.index_mut-reference.result.now c.clear.new.self (with_entries c.args.ver (λ _. []))
-    within c.index_mut-reference.ensures.value (ap (λ k. k.shown) c.clear.ensures)))
+    (content_after c.self.inside.limits (table_heads c.self.inside.heads.items) c.self.inside.kept.kept c.clear.new.self.kept c.args.r
+    (with_entries c.args.ver (λ _. [])) c.clear.ensures)
+
+pub clear-requires : goal.clear-requires
+clear-requires c = rw (length-map c.self.inside.kept.kept (λ k. k.shown)) at (rw (← c.self.view_is) at c.requires)

@@ -1,29 +1,35 @@
-use Rattle.std.proofs.Common.{ap}
 use Rattle.std.proofs.lemmas.List.{length-map}
+use Rattle.std.proofs.Common.{ap, refl, sym, ◌∙◌}
 use Rattle.std.proofs.lemmas.Result.{on_ok_weaker}
 use Rattle.std.specs.Prelude.{None}
 use Rattle.hx_sample.specs.Changes.{without_chosen}
-use Rattle.hx_refs.specs.Changes.{with_entries}
+use Rattle.hx_refs.specs.Changes.{answer, deletion_fault, with_entries}
 use Rattle.hx_refs.specs.Versions.{is_chosen}
-use Rattle.hx_refs.proofs.KeptLemmas.{changed_shown, kept_after_answer}
+use Rattle.hx_refs.specs.Kept.{table_heads}
+use Rattle.hx_refs.proofs.KeptLemmas.{fault_shown}
 use Rattle.hx_refs.proofs.NameLemmas.{entries_keep}
+use Rattle.hx_refs.proofs.KeptLemmas.{content_after, kept_after_answer}
 use Rattle.hx_refs.proofs.refs.Refs.delete.Goals as goal
 
 pub invariant_of-self : goal.invariant_of-self
-invariant_of-self c =
-    let kept = c.self.inside.references.items in
-    let within = rw (length-map kept (λ k. k.shown)) at (rw (← c.self.view_is) at c.requires) in
-    kept_after_answer c.delete.result c.self.inside.heads.items kept c.args.r c.index_mut-reference.result.now c.delete.new.self
-    (with_entries None (without_chosen (is_chosen c.args.choice.now))) (entries_keep None (without_chosen (is_chosen c.args.choice.now))) within c.index_mut-reference.ensures.value
-    c.delete.ensures.ok c.delete.ensures.err c.self.invariant
+invariant_of-self c = record {
+  all = kept_after_answer c.delete.result (table_heads c.self.inside.heads.items) c.self.inside.kept c.delete.new.self c.args.r (with_entries None (without_chosen (is_chosen c.args.choice.now))) (entries_keep None (without_chosen (is_chosen c.args.choice.now)))
+      c.delete.ensures.ok c.delete.ensures.err c.self.invariant.all;
+  placed = c.self.invariant.placed;
+}
 
 pub returns-clause-ok : goal.returns-clause-ok
 returns-clause-ok c =
-    let kept = c.self.inside.references.items in
-    let within = rw (length-map kept (λ k. k.shown)) at (rw (← c.self.view_is) at c.requires) in
     rw (← c.self.view_is)
     (on_ok_weaker c.delete.result
-    (λ same. ap (λ references. record { limits = c.self.inside.limits; heads = c.self.inside.heads.items; references = references })
-    (changed_shown kept c.args.r c.index_mut-reference.result.now c.delete.new.self (with_entries None (without_chosen (is_chosen c.args.choice.now)))
-    within c.index_mut-reference.ensures.value (ap (λ k. k.shown) same)))
+    (content_after c.self.inside.limits (table_heads c.self.inside.heads.items) c.self.inside.kept.kept c.delete.new.self.kept c.args.r (with_entries None (without_chosen (is_chosen c.args.choice.now))))
     c.delete.ensures.ok)
+
+pub returns-clause-answer : goal.returns-clause-answer
+returns-clause-answer c =
+    rw (← c.self.view_is)
+    (c.delete.ensures.answer
+    ∙ ap (answer tt) (sym (fault_shown c.self.inside.limits (table_heads c.self.inside.heads.items) c.self.inside.kept.kept c.args.r (deletion_fault (is_chosen c.args.choice.now)))))
+
+pub delete-requires : goal.delete-requires
+delete-requires c = rw (length-map c.self.inside.kept.kept (λ k. k.shown)) at (rw (← c.self.view_is) at c.requires)

@@ -1,0 +1,245 @@
+-- A change of one version of one of the references.
+use Rattle.std.proofs.Common.{◌≡◌, ℕ, ◌+◌, ◌<◌, ◌≤◌, Bool, true, false, List, [], ◌∷◌, length, refl, ap, subst, sym, ◌∙◌, arith}
+use Rattle.std.specs.Prelude.{Option, None, Some, Result, Ok, Err, IfOk, OnOk, OnErr, slice_get, slice_index_or, slice_set, option_and_then, unwrap_or}
+use Rattle.std.specs.List.{list_any}
+use Rattle.hx_text.specs.declared.kinds.By.{By}
+use Rattle.hx_outside.specs.Makers.{ExpressionText}
+use Rattle.hx_sample.specs.Find.{Entry}
+use Rattle.hx_refs.specs.Additions.{new_entries, pairs_fault, with_pairs, Pair, PairsAskFor, VersionAsksFor}
+use Rattle.hx_refs.specs.Changes.{commit_fault, deletion_fault, value_fault, with_version}
+use Rattle.hx_refs.specs.declared.limits.Limits.{Limits}
+use Rattle.hx_refs.specs.Kept.{all_filled, filled, kept_demands, kept_fault, version_fault, with_kept, AreFilled, IsAdded, IsFilled, Kept}
+use Rattle.hx_refs.specs.Numbers.{HasRisingNumbers}
+use Rattle.hx_refs.specs.References.{refuses_value, version_entries, version_of, version_place, Reference, Version}
+use Rattle.hx_refs.specs.declared.fault.RefFault.{RefFault}
+use Rattle.hx_refs.specs.declared.fault.RefFault.TheVariants.{BadValue, KeyNotFound}
+use Rattle.hx_refs.specs.Rows.{row_at, use_ways, version_numbered, with_last_entries, AreCounted, AreSearchedBy, Changes, StoreView}
+use Rattle.hx_refs.specs.Versions.{HasVersion}
+use Rattle.hx_refs.proofs.FilledLemmas.{filled_get, kept_at, row_changed, row_filled, row_within, same_rows, seen_from, set_itself}
+use Rattle.hx_refs.proofs.ReferenceLemmas.{change_shown, committable, entries_numbered, few_added, filled_after, none_appended, pairs_shown, rising_with_added, searched_place, version_here}
+
+-- the references stay filled, and what is seen of them is changed
+pub record Changed (kept : List Kept) (old new : StoreView) (r : ℕ) (change : Reference → Reference) : Type 0 where
+  pub is_filled : AreFilled kept new
+  pub shown : all_filled kept new.rows ≡ with_kept r change (all_filled kept old.rows)
+
+-- both hold of a value
+pub if_ok_both : {T E : Type 0} {P Q R : T → Type 0} (r : Result T E) → ((x : T) → P x → Q x → R x) → IfOk r P → IfOk r Q → IfOk r R
+if_ok_both (Ok x) f p q = f x p q
+if_ok_both (Err e) f p q = tt
+
+pub ok_of_each : {T E : Type 0} (P : Type 0) (r : Result T E) → OnOk r P → IfOk r (λ x. P)
+ok_of_each P (Ok x) p = p
+ok_of_each P (Err e) p = tt
+
+-- either of what holds where it is answered that it is done, and where it is refused
+pub either : {T E : Type 0} {P Q R : Type 0} (r : Result T E) → (P → R) → (Q → R) → OnOk r P → OnErr r Q → R
+either (Ok x) ok err p q = ok p
+either (Err e) ok err p q = err q
+
+module _ (kept : List Kept) (old new : StoreView) (r : ℕ) (k : Kept) (requires : r < length (all_filled kept old.rows))
+    (is : k ≡ slice_index_or kept r k) (all : AreFilled kept old) (others : new.rows ≡ slice_set old.rows r (row_at new r)) where
+  found : slice_get kept r ≡ Some k
+  found = kept_at kept old.rows r k requires is
+
+  here : IsFilled k (row_at old r)
+  here = all.each r k found
+
+  -- a version of the reference is changed
+  pub version_changed : (number : ℕ) (ver : Option ℕ) (change : Version → Version) → HasVersion k.shown number
+      → version_place k.shown ver ≡ version_place k.shown (Some number) → Changes number change (row_at old r) (row_at new r)
+      → ((ways : List (By × Bool)) → AreSearchedBy ways (row_at old r) → AreSearchedBy ways (row_at new r))
+      → (AreCounted (row_at old r) → AreCounted (row_at new r))
+      → ((version : Version) → HasRisingNumbers number version → HasRisingNumbers number (change version))
+      → Changed kept old new r (with_version ver change)
+  version_changed number ver change has place changes searched counted rising = record {
+    is_filled = row_filled kept old new r k found (row_within kept old r requires all) all others
+        (filled_after k number change (row_at old r) (row_at new r) here has changes
+        (searched (use_ways k.uses) here.searched) (counted here.counted)
+        (rising (version_numbered number (row_at old r)) (here.rising number)));
+    shown = row_changed kept old new r k found (row_within kept old r requires all) all others (with_version ver change)
+        (change_shown k ver number change (row_at old r) (row_at new r) here has place changes);
+  }
+
+  -- that which is searched
+  pub searched_changed : (number : ℕ) (change : Version → Version) → number ≡ k.shown.curr
+      → Changes number change (row_at old r) (row_at new r)
+      → ((ways : List (By × Bool)) → AreSearchedBy ways (row_at old r) → AreSearchedBy ways (row_at new r))
+      → (AreCounted (row_at old r) → AreCounted (row_at new r))
+      → ((version : Version) → HasRisingNumbers number version → HasRisingNumbers number (change version))
+      → Changed kept old new r (with_version None change)
+  searched_changed number change same changes searched counted rising =
+      version_changed number None change (omega (arith, same), omega (arith, same, here.order))
+      (rw same (searched_place k.shown here.order)) changes searched counted rising
+
+  -- entries that pairs become are appended
+  pub entries_appended : (number : ℕ) (pairs : List Pair) (entries : List Entry) (serial : ℕ) → HasVersion k.shown number
+      → IsAdded (filled k (row_at old r)) number pairs entries serial
+      → Changes number (with_last_entries entries serial) (row_at old r) (row_at new r)
+      → AreSearchedBy (use_ways k.uses) (row_at new r) → AreCounted (row_at new r)
+      → Changed kept old new r (with_pairs (Some number) pairs)
+  entries_appended number pairs entries serial has added changes searched counted = record {
+    is_filled = row_filled kept old new r k found (row_within kept old r requires all) all others
+        (filled_after k number (with_last_entries entries serial) (row_at old r) (row_at new r) here has changes searched counted
+        (rising_with_added k number (row_at old r) pairs entries serial here has added));
+    shown = row_changed kept old new r k found (row_within kept old r requires all) all others (with_pairs (Some number) pairs)
+        (pairs_shown k number pairs entries serial (row_at old r) (row_at new r) here has changes added);
+  }
+
+-- ---- additions
+
+module _ (kept : List Kept) (old : StoreView) (r : ℕ) (k : Kept) (requires : r < length (all_filled kept old.rows))
+    (is : k ≡ slice_index_or kept r k) (all : AreFilled kept old) where
+  at : slice_get kept r ≡ Some k
+  at = kept_at kept old.rows r k requires is
+
+  pub holds_here : IsFilled k (row_at old r)
+  holds_here = all.each r k at
+
+  -- the reference as it is seen
+  pub seen_here : slice_get (all_filled kept old.rows) r ≡ Some (filled k (row_at old r))
+  seen_here = filled_get kept old.rows r k at
+
+  -- what holds of the entries of a version holds of them in the row
+  pub few_in_row : (number count most : ℕ)
+      → length (version_entries (filled k (row_at old r)).shown (Some number)) + count < most
+      → length (version_numbered number (row_at old r)).entries + count < most
+  few_in_row number count most few =
+      rw (entries_numbered k (row_at old r) (Some number) holds_here) at few
+
+  -- where there are some, the row has no more entries than additions
+  pub counted_in_row : (number : ℕ) (pairs : List Pair) (entries : List Entry) (serial count : ℕ) → HasVersion k.shown number
+      → IsAdded (filled k (row_at old r)) number pairs entries serial → length entries ≡ count
+      → length (version_numbered number (row_at old r)).entries + count ≤ serial
+  counted_in_row number pairs entries serial count has added same =
+      rw same at (few_added k number (row_at old r) pairs entries serial holds_here has added)
+
+  -- where there are none, nothing is changed
+  pub none_pairs : (number : ℕ) (pairs : List Pair) (entries : List Entry) (serial : ℕ) (seen : Kept) → HasVersion k.shown number
+      → entries ≡ [] → slice_get (all_filled kept old.rows) r ≡ Some seen → IsAdded seen number pairs entries serial
+      → all_filled kept old.rows ≡ with_kept r (with_pairs (Some number) pairs) (all_filled kept old.rows)
+  none_pairs number pairs entries serial seen has none there added =
+      let same = seen_from kept old r k seen requires is there in
+      let here : IsAdded (filled k (row_at old r)) number pairs [] serial =
+      rw (same, none) at added in
+      let within = row_within kept old r requires all in
+      (entries_appended kept old old r k requires is all (same_rows kept old r k at within all) number pairs [] serial has here
+      (none_appended k number pairs serial (row_at old r) has here) holds_here.searched holds_here.counted).shown
+
+  -- a version that is asked for is that of its number
+  pub same_version : (ver : Option ℕ) (number : ℕ) (seen : Kept) → version_place k.shown ver ≡ version_place k.shown (Some number)
+      → slice_get (all_filled kept old.rows) r ≡ Some seen → version_of seen.shown ver ≡ version_of seen.shown (Some number)
+  same_version ver number seen place there =
+      subst (λ (x : Kept). version_of x.shown ver ≡ version_of x.shown (Some number))
+      (sym (seen_from kept old r k seen requires is there))
+      (ap (option_and_then (slice_get (filled k (row_at old r)).shown.versions)) place)
+
+  pub has_version : (number : ℕ) (seen : Kept) → HasVersion k.shown number
+      → slice_get (all_filled kept old.rows) r ≡ Some seen → HasVersion seen.shown number
+  has_version number seen has there =
+      subst (λ (x : Kept). HasVersion x.shown number) (sym (seen_from kept old r k seen requires is there)) has
+
+  -- a version that the reference hasn't
+  pub no_version : (ver : Option ℕ) (seen : Kept) → version_place k.shown ver ≡ None
+      → slice_get (all_filled kept old.rows) r ≡ Some seen → version_of seen.shown ver ≡ None
+  no_version ver seen none there =
+      subst (λ (x : Kept). version_of x.shown ver ≡ None) (sym (seen_from kept old r k seen requires is there))
+      (ap (option_and_then (slice_get (filled k (row_at old r)).shown.versions)) none)
+
+  -- nothing is changed in a version that the reference hasn't
+  pub none_changed : (ver : Option ℕ) (change : Version → Version) → version_place k.shown ver ≡ None
+      → all_filled kept old.rows ≡ with_kept r (with_version ver change) (all_filled kept old.rows)
+  none_changed ver change none =
+      rw (seen_here, none) (sym (set_itself (all_filled kept old.rows) r (filled k (row_at old r)) seen_here))
+
+  -- the version of a number, as it is seen
+  pub seen_version : (number : ℕ) (seen : Kept) → HasVersion k.shown number
+      → slice_get (all_filled kept old.rows) r ≡ Some seen
+      → version_of seen.shown (Some number) ≡ Some (version_numbered number (row_at old r))
+  seen_version number seen has there =
+      subst (λ (x : Kept). version_of x.shown (Some number) ≡ Some (version_numbered number (row_at old r)))
+      (sym (seen_from kept old r k seen requires is there)) (version_here k (row_at old r) number has)
+
+  -- additions to it are refused as the reference refuses them
+  pub fault_seen : (limits : Limits) (number count serial : ℕ) (pairs : List Pair) (seen : Kept) → HasVersion k.shown number
+      → count ≡ length (version_numbered number (row_at old r)).entries → serial ≡ (version_numbered number (row_at old r)).serial
+      → slice_get (all_filled kept old.rows) r ≡ Some seen
+      → version_fault (kept_demands seen limits) (version_of seen.shown (Some number)) pairs
+      ≡ pairs_fault (kept_demands k limits) count serial pairs
+  fault_seen limits number count serial pairs seen has entries last there =
+      subst (λ (x : Kept). version_fault (kept_demands x limits) (version_of x.shown (Some number)) pairs ≡ pairs_fault (kept_demands k limits) count serial pairs)
+      (sym (seen_from kept old r k seen requires is there))
+      (rw (version_here k (row_at old r) number has, entries, last) refl)
+
+  pub asked_seen : (limits : Limits) (number count serial : ℕ) (pairs : List Pair) (seen : Kept) → HasVersion k.shown number
+      → count ≡ length (version_numbered number (row_at old r)).entries → serial ≡ (version_numbered number (row_at old r)).serial
+      → slice_get (all_filled kept old.rows) r ≡ Some seen → (text : ExpressionText)
+      → PairsAskFor (kept_demands k limits) count serial pairs text
+      → VersionAsksFor (kept_demands seen limits) (version_of seen.shown (Some number)) pairs text
+  asked_seen limits number count serial pairs seen has entries last there text asked =
+      subst (λ (x : Kept). VersionAsksFor (kept_demands x limits) (version_of x.shown (Some number)) pairs text)
+      (sym (seen_from kept old r k seen requires is there))
+      (rw (version_here k (row_at old r) number has, ← entries, ← last) asked)
+
+  -- entries that pairs become are those of the reference as it is seen
+  pub added_seen : (number serial last : ℕ) (pairs : List Pair) (entries : List Entry) (seen : Kept) → HasVersion k.shown number
+      → serial ≡ (version_numbered number (row_at old r)).serial → slice_get (all_filled kept old.rows) r ≡ Some seen
+      → entries ≡ new_entries number serial pairs → last ≡ serial + length pairs → IsAdded seen number pairs entries last
+  added_seen number serial last pairs entries seen has before there are after =
+      subst (λ (x : Kept). IsAdded x number pairs entries last) (sym (seen_from kept old r k seen requires is there))
+      (rw (version_here k (row_at old r) number has, ← before) (are, after))
+
+  -- there are few of them
+  pub few_seen : (number count more most : ℕ) (seen : Kept) → HasVersion k.shown number
+      → count ≡ length (version_numbered number (row_at old r)).entries → slice_get (all_filled kept old.rows) r ≡ Some seen
+      → count + more < most → length (version_entries seen.shown (Some number)) + more < most
+  few_seen number count more most seen has entries there few =
+      subst (λ (x : Kept). length (version_entries x.shown (Some number)) + more < most)
+      (sym (seen_from kept old r k seen requires is there))
+      (rw (version_here k (row_at old r) number has, ← entries) few)
+
+  -- the reference may be committed
+  pub may_commit : (number : ℕ) (seen : Kept) → None ≡ commit_fault number k.shown
+      → slice_get (all_filled kept old.rows) r ≡ Some seen → HasVersion seen.shown number
+  may_commit number seen none there = has_version number seen (committable k.shown number none) there
+
+  -- its fault is that of the reference at the position
+  pub fault_here : (own : Reference → Option RefFault) → kept_fault (all_filled kept old.rows) r own ≡ own (filled k (row_at old r)).shown
+  fault_here own = rw seen_here refl
+
+-- the fault of the reference at a position
+pub fault_of : (kept : List Kept) (r : ℕ) (k : Kept) (own : Reference → Option RefFault) → slice_get kept r ≡ Some k
+    → kept_fault kept r own ≡ own k.shown
+fault_of kept r k own is = rw is refl
+
+-- pairs that are added to a version by its number
+pub with_pairs_at : (kept : List Kept) (r : ℕ) (ver : Option ℕ) (number : ℕ) (pairs : List Pair) (k : Kept)
+    → slice_get kept r ≡ Some k → version_place k.shown ver ≡ version_place k.shown (Some number)
+    → unwrap_or ver k.shown.curr ≡ number
+    → with_kept r (with_pairs (Some number) pairs) kept ≡ with_kept r (with_pairs ver pairs) kept
+with_pairs_at kept r ver number pairs k found place given =
+    rw (found, place, given) refl
+
+-- ---- removals and changes of values
+
+pub lacking_deletion : (test : Entry → Bool) (reference : Reference) → list_any test (version_entries reference None) ≡ false
+    → deletion_fault test reference ≡ Some KeyNotFound
+lacking_deletion test reference none = rw none refl
+
+pub chosen_deletion : (test : Entry → Bool) (reference : Reference) → list_any test (version_entries reference None) ≡ true
+    → deletion_fault test reference ≡ None
+chosen_deletion test reference some = rw some refl
+
+pub lacking_value : (test : Entry → Bool) (value : List ℕ) (reference : Reference)
+    → list_any test (version_entries reference None) ≡ false → value_fault test value reference ≡ Some KeyNotFound
+lacking_value test value reference none = rw none refl
+
+pub refused_value : (test : Entry → Bool) (value : List ℕ) (reference : Reference)
+    → list_any test (version_entries reference None) ≡ true → refuses_value reference.outputs value ≡ true
+    → value_fault test value reference ≡ Some BadValue
+refused_value test value reference some refused = rw (some, refused) refl
+
+pub fine_value : (test : Entry → Bool) (value : List ℕ) (reference : Reference)
+    → list_any test (version_entries reference None) ≡ true → refuses_value reference.outputs value ≡ false
+    → value_fault test value reference ≡ None
+fine_value test value reference some fine = rw (some, fine) refl
