@@ -26,6 +26,8 @@ mod last_unread;
 pub mod laws;
 mod machine;
 #[cfg(test)]
+mod many_tests;
+#[cfg(test)]
 mod outside_runs;
 mod replay;
 mod run;
