@@ -1,9 +1,9 @@
 pub mod BeforeReadingLemmas
+pub mod EndLemmas
 pub mod ExplainLemmas
 pub mod FilesLemmas
 pub mod FirstVersionLemmas
-pub mod LastLineLemmas
-pub mod LastUnreadLemmas
+pub mod KnownFilesLemmas
 pub mod LogLemmas
 pub mod MachineLemmas
 pub mod OutcomeLemmas

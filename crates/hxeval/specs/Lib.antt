@@ -6,11 +6,10 @@ pub mod Replay
 pub mod Run
 pub mod RunFiles
 pub mod Unseen
--- What `main` shows besides: the command line and the environment, the last line that went by, the
--- last file that couldn't be read, and the text on standard error.
+-- What `main` shows besides: the command line and the environment, what it knows of the files that
+-- were read, and the text on standard error.
 pub mod Machine
-pub mod LastLine
-pub mod LastUnread
+pub mod KnownFiles
 pub mod Explanation
 -- Views of the code, for private contracts.
 pub mod Command

@@ -87,3 +87,14 @@ abbrev pub Finishes : RunFault → (old new : Option (List ℕ)) → ℕ → Typ
 Finishes fault old new status =
     ((status ≡ fault_status fault) × Appends old new (last_line (fault_end fault)))
     ⊎ (Contains (6 ∷ 7 ∷ []) status × AppendsPrefix old new (last_line (fault_end fault)))
+
+-- a run under this setting has an outcome that ends so
+pub record HasEnd (s : Setting) (end : End) : Type 0 where
+  pub outcome : Outcome
+  pub of_setting : HasOutcome s outcome
+  pub is : outcome.end ≡ end
+
+-- the same of a refusal; of any other fault nothing is said
+abbrev pub EndsAs : Setting → End → Type 0
+EndsAs s Undecided = ⊤
+EndsAs s end = HasEnd s end

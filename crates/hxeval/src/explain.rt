@@ -1,186 +1,38 @@
-ghost use Rattle.std.specs.Prelude.{◌≡◌, ℕ, ◌^◌, ◌<◌, ◌≤◌, ◌++◌, OnOk, IsErrOf, map};
-ghost use Rattle.std.specs.Fmt.{decimal};
-ghost use Rattle.std.specs.Option.{option_copied};
+ghost use Rattle.std.specs.Prelude.{◌≡◌, ◌≤◌, ◌++◌, Some, OnOk, IsErrOf, map};
 ghost use Rattle.std.specs.Io.KnownBytes.{Appends};
 ghost use Rattle.hx_outside.specs.Count.{Rose};
 ghost use Rattle.hx_outside.specs.Prefixes.{AppendsPrefix};
-ghost use Rattle.hxeval.specs.Replay.{record_line};
-ghost use Rattle.hxeval.specs.Run.{config_line, texts_of};
-ghost use Rattle.hxeval.specs.Explanation.{all_of, explanation, refusal_text, config_refused};
-ghost use Rattle.hxeval.specs.Explanation.{record_refused, meaning_of, status_text, cut_or_end, location_of};
-ghost use Rattle.hxeval.specs.Explanation.{code_in, given_name, unread_text};
+ghost use Rattle.hxeval.specs.Run.{texts_of};
+ghost use Rattle.hxeval.specs.Explanation.{all_of, code_of, explanation, explanation_of, fault_text};
+ghost use Rattle.hxeval.specs.Explanation.{given_name, meaning_of, number_of, reason_of};
+ghost use Rattle.hxeval.specs.Explanation.{refusal_text, status_text, told_of};
 
+use crate::codes::{CONFIG_CODES, RECORD_CODES, Row, meaning_of};
 use crate::command::command_of;
+use crate::run::Ended;
+use crate::run_fault::RunFault;
 use hx_outside::{Sink, SinkFault, write_all};
-use hx_text::cut_at;
+use itoa::Buffer;
 
-/// A code of a refusal: as it is written, its name, and its reason.
-type Row = (&'static [u8], &'static [u8], &'static [u8]);
-
-/// The codes of a configuration that is refused.
-const CONFIG_CODES: [Row; 23] = [
-    (b"1", b"OpenQuote", b"the line ends inside a quote"),
-    (
-        b"2",
-        b"BadEscape",
-        b"\\x needs two hexadecimal digits after it",
-    ),
-    (
-        b"3",
-        b"BadVariable",
-        b"$ in double quotes needs NAME or {NAME} after it",
-    ),
-    (b"4", b"TooManyWords", b"the line has more than 256 words"),
-    (
-        b"5",
-        b"ArgUnclosed",
-        b"a call of this line has no closing )",
-    ),
-    (
-        b"6",
-        b"ArgAfterClose",
-        b"after the ) of a call stands something else than a comma",
-    ),
-    (
-        b"7",
-        b"ArgEscape",
-        b"\\x in an argument needs two hexadecimal digits after it",
-    ),
-    (b"8", b"ArgQuote", b"an argument ends inside a quote"),
-    (
-        b"9",
-        b"Unsupported",
-        b"unknown or unsupported statement, option, action, flag, fetch or converter",
-    ),
-    (
-        b"10",
-        b"BadArgument",
-        b"a statement, a flag or a call has a wrong number of arguments, or one that it can't take",
-    ),
-    (
-        b"11",
-        b"BadType",
-        b"a converter or a match method can't take the type of what stands before it",
-    ),
-    (
-        b"12",
-        b"BadName",
-        b"the name of an ACL, a variable, a header, a frontend or a backend isn't of its form",
-    ),
-    (
-        b"13",
-        b"UnknownAcl",
-        b"a condition names an ACL that is neither declared above nor predefined",
-    ),
-    (
-        b"14",
-        b"BadCondition",
-        b"the condition is empty, isn't closed, or has no ACL where one must stand",
-    ),
-    (
-        b"15",
-        b"BadFormat",
-        b"a % in a format is followed by neither % nor [",
-    ),
-    (
-        b"16",
-        b"BadPattern",
-        b"a pattern, or a regular expression, is malformed, isn't UTF-8, or is nested too deep",
-    ),
-    (
-        b"17",
-        b"FileKind",
-        b"this file is used as a list of patterns on one line and as a map on another",
-    ),
-    (
-        b"18",
-        b"BadValue",
-        b"a value of a map of this line isn't of the type that is looked up in it",
-    ),
-    (
-        b"19",
-        b"Misplaced",
-        b"frontend isn't the first statement, or default_backend stands here a second time",
-    ),
-    (
-        b"20",
-        b"FileTooLong",
-        b"a file of this line has more than 1000000 entries",
-    ),
-    (
-        b"21",
-        b"UnknownTable",
-        b"a rule changes this file, and no -f and no map names it",
-    ),
-    (
-        b"22",
-        b"IdTaken",
-        b"-u gives a number that another reference has",
-    ),
-    (
-        b"23",
-        b"TooManyRefs",
-        b"the configuration has more than 65536 files and lists of patterns",
-    ),
-];
-
-/// The codes of a record that is refused. The last line doesn't say what is wrong of a bad line, so
-/// its reason lists what may be.
-const RECORD_CODES: [Row; 7] = [
-    (
-        b"1",
-        b"BadLine",
-        b"unknown event, words missing or too many, a word that is no address, \
-          or another byte than a line feed after a request",
-    ),
-    (
-        b"2",
-        b"BadNumber",
-        b"a number of this line isn't digits, or is above its limit",
-    ),
-    (
-        b"3",
-        b"CutRequest",
-        b"the record ends inside the request that begins here",
-    ),
-    (
-        b"4",
-        b"TooLong",
-        b"the record goes on after 4294967296 bytes",
-    ),
-    (b"5", b"LineTooLong", b"this line has more than 65536 bytes"),
-    (
-        b"6",
-        b"UnknownConn",
-        b"the connection of this line isn't open",
-    ),
-    (
-        b"7",
-        b"ConnOpen",
-        b"the connection of this line is open already",
-    ),
-];
-
-/// The name and the reason of any other code.
-const UNKNOWN_CODE: (&[u8], &[u8]) = (b"Unknown", b"unknown code");
+/// What the program takes, and how it ends.
+pub const USAGE: &[u8] = b"usage: hxeval run CONFIG\n\
+    \x20      hxeval check CONFIG\n\
+    \x20      hxeval --help\n\
+    \x20      hxeval --version\n\
+    \n\
+    run replays the record on standard input through the rules of the file CONFIG. It\n\
+    writes for each request its verdict, its head where the rules change it, and where it\n\
+    is redirected to; and for each management command its reply. check only judges CONFIG,\n\
+    and writes ok, the number of its rules, and that of its files and lists of patterns.\n\
+    \n\
+    Exit status: 0 done, 2 wrong words, 3 configuration refused, 4 record refused,\n\
+    5 a file or the record can't be read, 6 an answer can't be written, 7 out of memory,\n\
+    8 a regular expression is too large.\n";
 
 /// What is said of the statuses that need no more.
 const STATUS_TEXTS: [(u8, &[u8]); 4] = [
     (0, b""),
-    (
-        2,
-        b"usage: hxeval run CONFIG\n\
-          \x20      hxeval check CONFIG\n\
-          \n\
-          run replays the record on standard input through the rules of the file CONFIG. It\n\
-          writes for each request its verdict, its head where the rules change it, and where it\n\
-          is redirected to; and for each management command its reply. check only judges CONFIG,\n\
-          and writes ok, the number of its rules, and that of its files and lists of patterns.\n\
-          \n\
-          Exit status: 0 done, 2 wrong words, 3 configuration refused, 4 record refused,\n\
-          5 a file or the record can't be read, 6 an answer can't be written, 7 out of memory,\n\
-          8 a regular expression is too large.\n",
-    ),
+    (2, USAGE),
     (
         6,
         b"hxeval: the answers can't be written to standard output\n",
@@ -195,53 +47,84 @@ const RECORD_UNREAD: &[u8] = b"hxeval: the record can't be read from standard in
 const UNKNOWN_STATUS: &[u8] = b"hxeval: ended with an unknown status\n";
 
 /// A text in its parts.
-type Parts<'t> = [&'t [u8]; 11];
+type Parts<'t> = [&'t [u8]; 12];
 
-/// Writes to `err`, in plain words for a person, why a run ended with this status; of status 0,
-/// nothing.
+/// What is told of a run beside its fault. Contracts see the texts.
+#[derive(Clone, Copy)]
+pub struct Told<'t> {
+    /// the name of the configuration
+    pub name: &'t [u8],
+    /// where the fault is, as far as that is known: nothing, or words that end in `: `
+    pub place: &'t [u8],
+    /// what is wrong there, where more is known than the code says; else nothing
+    pub reason: &'t [u8],
+    /// the name of the file that was read last
+    pub file: &'t [u8],
+    /// the last regular expression that was too large
+    pub large: &'t [u8],
+}
+
+/// Writes to `err`, in plain words for a person, why a run ended so; of a run without a fault and
+/// with status 0, nothing.
 ///
-/// `words` are those of the command line, `unread` is the name of the file that couldn't be read,
-/// if one couldn't, `last_line` the last line that was written, and `large` the text of the last
-/// regular expression that was too large.
-///
-/// A refused configuration is explained as `hxeval: CONFIG:LINE: REASON (CODE NAME)`, a refused
-/// record as `hxeval: record, byte OFFSET: REASON (CODE NAME)`, by the code's row in its table.
+/// A refused configuration is explained as `hxeval: CONFIG:LINE: PLACE: REASON (CODE NAME)`, a
+/// refused record as `hxeval: record, byte OFFSET: PLACE: REASON (CODE NAME)`, by the code's row in
+/// its table. LINE, OFFSET and CODE are those of the fault. What `told` has of the place and the
+/// reason is handed on as it is.
 ///
 /// `Failed` only where the count of faults of `err` rose, and `NoMemory` where memory ran out: a
 /// prefix of the text was then written.
-pub fn explain<K: Sink>(
-    err: &mut K,
-    status: u8,
-    words: &[Vec<u8>],
-    unread: Option<&[u8]>,
-    last_line: &[u8],
-    large: &[u8],
-) -> Result<(), SinkFault>
+pub(crate) fn explain<K: Sink>(err: &mut K, ended: Ended, told: &Told<'_>) -> Result<(), SinkFault>
     ensures ok { OnOk result (Appends (K.written err.old) (K.written err.new)
-        (explanation status (given_name (texts_of words.now)) (option_copied unread.entry)
-        last_line.now large.now)) }
+        (explanation ended.status ended.fault (told_of told.now))) }
     ensures prefix { AppendsPrefix (K.written err.old) (K.written err.new)
-        (explanation status (given_name (texts_of words.now)) (option_copied unread.entry)
-        last_line.now large.now) }
+        (explanation ended.status ended.fault (told_of told.now)) }
     ensures failed { IsErrOf result SinkFault.Failed → Rose (K.faults err.old) (K.faults err.new) }
-    // The text of a refusal names the line or the offset, and the code, that the last line has.
-    ensures config { (line code : ℕ) → line < 2 ^ 64 → code < 2 ^ 64
-        → last_line.now ≡ config_line line code
-        → explanation 3 (given_name (texts_of words.now)) (option_copied unread.entry)
-        last_line.now large.now
-        ≡ config_refused (given_name (texts_of words.now)) (decimal line) (decimal code) }
-    ensures record { (offset code : ℕ) → offset < 2 ^ 64 → code < 2 ^ 64
-        → last_line.now ≡ record_line offset code
-        → explanation 4 (given_name (texts_of words.now)) (option_copied unread.entry)
-        last_line.now large.now
-        ≡ record_refused (decimal offset) (decimal code) }
 {
-    let name = given_name(words);
-    write_parts(err, &explanation(status, name, unread, last_line, large))
+    let (number, code) = numbers(ended.fault);
+    let mut of_number = Buffer::new();
+    let mut of_code = Buffer::new();
+    let number = of_number.format(number).as_bytes();
+    let code = of_code.format(code).as_bytes();
+    // made anew, so that its texts live as long as the numbers
+    let told = Told {
+        name: told.name,
+        place: told.place,
+        reason: told.reason,
+        file: told.file,
+        large: told.large,
+    };
+    write_parts(err, &explanation(ended, &told, number, code))
+}
+
+/// The numbers of a fault that is a refusal: its line or its offset, and its code. Else zeros.
+fn numbers(fault: Option<RunFault>) -> (u64, u32)
+    ensures number { result.0 ≡ number_of fault }
+    ensures code { result.1 ≡ code_of fault }
+{
+    match fault {
+        Some(fault) => fault_numbers(fault),
+        None => (0, 0),
+    }
+}
+
+fn fault_numbers(fault: RunFault) -> (u64, u32)
+    ensures number { result.0 ≡ number_of (Some fault) }
+    ensures code { result.1 ≡ code_of (Some fault) }
+{
+    match fault {
+        RunFault::ConfigRefused { line, code } => (line, code),
+        RunFault::RecordRefused { offset, code } => (offset, code),
+        RunFault::Files => (0, 0),
+        RunFault::Source => (0, 0),
+        RunFault::Sink => (0, 0),
+        RunFault::TooLarge => (0, 0),
+        RunFault::NoMemory => (0, 0),
+    }
 }
 
 /// The name of the configuration that a command line gives, or words for one.
-fn given_name(words: &[Vec<u8>]) -> &[u8]
+pub(crate) fn given_name(words: &[Vec<u8>]) -> &[u8]
     ensures { result.now ≡ given_name (texts_of words.now) }
 {
     match command_of(words) {
@@ -263,74 +146,116 @@ fn write_parts<K: Sink>(out: &mut K, parts: &[&[u8]]) -> Result<(), SinkFault>
     Ok(())
 }
 
-/// Why a run ended with this status, where its configuration has this name.
-#[tactic(auto, unfolding(crate::specs::Explanation::explanation))]
-fn explanation<'t>(
-    status: u8,
-    name: &'t [u8],
-    unread: Option<&'t [u8]>,
-    last_line: &'t [u8],
-    large: &'t [u8],
-) -> Parts<'t>
+/// Why a run ended so, where the numbers of its fault are written so.
+#[tactic(auto, unfolding(crate::specs::Explanation::explanation_of))]
+fn explanation<'t>(ended: Ended, told: &Told<'t>, number: &'t [u8], code: &'t [u8]) -> Parts<'t>
     ensures { all_of result
-        ≡ explanation status name.now (option_copied unread.entry) last_line.now large.now }
+        ≡ explanation_of ended.status ended.fault (told_of told.now) number.now code.now }
 {
-    match status {
-        3 => refusal(name, b":", last_line, &CONFIG_CODES),
-        4 => refusal(b"record", b", byte ", last_line, &RECORD_CODES),
-        5 => unread_parts(unread),
-        8 => three_parts(
-            b"hxeval: this regular expression is too large: ",
-            large,
-            b"\n",
-        ),
-        _ => three_parts(
-            text_of_status(&STATUS_TEXTS, status, UNKNOWN_STATUS),
-            b"",
-            b"",
-        ),
+    match ended.fault {
+        Some(fault) => ended_parts(ended.status, fault, told, number, code),
+        None => status_parts(ended.status),
     }
 }
 
-/// Which file can't be read; where there is none, it is the record.
-fn unread_parts<'t>(unread: Option<&'t [u8]>) -> Parts<'t>
-    ensures { all_of result ≡ unread_text (option_copied unread.entry) }
+/// The same of a run that a fault ended.
+#[tactic(auto, unfolding(crate::specs::Explanation::explanation_of))]
+fn ended_parts<'t>(
+    status: u8,
+    fault: RunFault,
+    told: &Told<'t>,
+    number: &'t [u8],
+    code: &'t [u8],
+) -> Parts<'t>
+    ensures { all_of result
+        ≡ explanation_of status (Some fault) (told_of told.now) number.now code.now }
 {
-    match unread {
-        Some(file) => three_parts(b"hxeval: ", file, b" can't be read\n"),
-        None => three_parts(RECORD_UNREAD, b"", b""),
+    if status == fault.status() {
+        fault_parts(fault, told, number, code)
+    } else {
+        status_parts(status)
     }
+}
+
+/// What is said of a fault, where its numbers are written so.
+fn fault_parts<'t>(fault: RunFault, told: &Told<'t>, number: &'t [u8], code: &'t [u8]) -> Parts<'t>
+    ensures { all_of result ≡ fault_text fault (told_of told.now) number.now code.now }
+{
+    match fault {
+        RunFault::ConfigRefused { .. } => {
+            refusal(told.name, b":", number, told, code, &CONFIG_CODES)
+        }
+        RunFault::RecordRefused { .. } => {
+            refusal(b"record", b", byte ", number, told, code, &RECORD_CODES)
+        }
+        RunFault::Files => [
+            b"hxeval: ",
+            told.place,
+            told.file,
+            b" can't be read\n",
+            b"",
+            b"",
+            b"",
+            b"",
+            b"",
+            b"",
+            b"",
+            b"",
+        ],
+        RunFault::Source => three_parts(RECORD_UNREAD, b"", b""),
+        RunFault::Sink => status_parts(6),
+        RunFault::TooLarge => three_parts(
+            b"hxeval: this regular expression is too large: ",
+            told.large,
+            b"\n",
+        ),
+        RunFault::NoMemory => status_parts(7),
+    }
+}
+
+/// What is said of a status.
+fn status_parts<'t>(status: u8) -> Parts<'t>
+    ensures { all_of result ≡ status_text UNKNOWN_STATUS.now
+        (map (λ row. (row.0, row.1.now)) STATUS_TEXTS) status }
+{
+    three_parts(
+        text_of_status(&STATUS_TEXTS, status, UNKNOWN_STATUS),
+        b"",
+        b"",
+    )
 }
 
 /// A text of three parts.
 fn three_parts<'t>(first: &'t [u8], second: &'t [u8], third: &'t [u8]) -> Parts<'t>
     ensures { all_of result ≡ first.now ++ (second.now ++ third.now) }
 {
-    [first, second, third, b"", b"", b"", b"", b"", b"", b"", b""]
+    [
+        first, second, third, b"", b"", b"", b"", b"", b"", b"", b"", b"",
+    ]
 }
 
-/// Where in the configuration or the record, and why, it is refused, by the last line and the table
-/// of codes.
+/// Where in the configuration or the record, and why, it is refused, by the table of codes.
 fn refusal<'t>(
     subject: &'t [u8],
     separator: &'t [u8],
-    last_line: &'t [u8],
+    number: &'t [u8],
+    told: &Told<'t>,
+    code: &'t [u8],
     rows: &'static [Row],
 ) -> Parts<'t>
-    ensures { let code = code_in last_line.now in
-        let texts = map (λ row. (row.0.now, row.1.now, row.2.now)) rows.now in
-        all_of result ≡ refusal_text subject.now separator.now (location_of last_line.now) code
-        (meaning_of texts code) }
+    ensures { let texts = map (λ row. (row.0.now, row.1.now, row.2.now)) rows.now in
+        all_of result ≡ refusal_text subject.now separator.now number.now (told_of told.now)
+        code.now (meaning_of texts code.now) }
 {
-    let code = code(last_line);
     let (name, reason) = meaning_of(rows, code);
     [
         b"hxeval: ",
         subject,
         separator,
-        location(last_line),
+        number,
         b": ",
-        reason,
+        told.place,
+        reason_of(told.reason, reason),
         b" (",
         code,
         b" ",
@@ -339,18 +264,11 @@ fn refusal<'t>(
     ]
 }
 
-/// The name and the reason of a code; without a row, those of an unknown one.
-fn meaning_of<'t>(mut rows: &'static [Row], code: &'t [u8]) -> (&'t [u8], &'t [u8])
-    ensures { (result.0.now, result.1.now)
-        ≡ meaning_of (map (λ row. (row.0.now, row.1.now, row.2.now)) rows.entry.now) code.now }
+/// The reason that is known; without one, that of the code.
+fn reason_of<'t>(known: &'t [u8], of_code: &'t [u8]) -> &'t [u8]
+    ensures { result.now ≡ reason_of known.now of_code.now }
 {
-    while let [row, rest @ ..] = rows {
-        if row.0 == code {
-            return (row.1, row.2);
-        }
-        rows = rest;
-    }
-    UNKNOWN_CODE
+    if known.is_empty() { of_code } else { known }
 }
 
 /// The text of a status; without a row, `other`.
@@ -371,83 +289,69 @@ fn text_of_status<'t>(
     other
 }
 
-/// The second word of a line, which is the line or the offset of a refusal.
-fn location(line: &[u8]) -> &[u8]
-    ensures { result.now ≡ location_of line.now }
-{
-    cut_or_end(b' ', cut_or_end(b' ', line).1).0
-}
-
-/// The third word of a line, which is the code of a refusal.
-fn code(line: &[u8]) -> &[u8]
-    ensures { result.now ≡ code_in line.now }
-{
-    cut_or_end(b'\n', cut_or_end(b' ', cut_or_end(b' ', line).1).1).0
-}
-
-/// The text before the first byte of this value and the text after it; without such a byte, the
-/// whole text and nothing.
-fn cut_or_end(byte: u8, text: &[u8]) -> (&[u8], &[u8])
-    ensures { (result.0.now, result.1.now) ≡ cut_or_end byte text.now }
-{
-    match cut_at(byte, text) {
-        Some(parts) => parts,
-        None => (text, b""),
-    }
-}
-
 #[cfg(test)]
 mod tests {
     use super::*;
     use hx_outside::MemSink;
     use std::test::Fail;
 
-    /// Whether a run of `run deny.cfg` that ended so is explained by this text.
+    /// Whether a run of `run deny.cfg` that ended so is explained by this text, where nothing is
+    /// known of the place.
     fn is_explained(
         rt: &HostRuntime,
         status: u8,
-        unread: Option<&[u8]>,
-        last_line: &[u8],
+        fault: Option<RunFault>,
         text: &[u8],
     ) -> Result<bool, Fail> {
         let alloc = rt.alloc();
-        let words = vec![in alloc; b"run".to_vec(alloc)?, b"deny.cfg".to_vec(alloc)?]?;
         let mut err = MemSink::new(alloc, 9, Vec::new(alloc));
-        explain(&mut err, status, &words, unread, last_line, b"(a|b)")?;
+        let told = Told {
+            name: b"deny.cfg",
+            place: b"",
+            reason: b"",
+            file: b"names.map",
+            large: b"(a|b)",
+        };
+        let requests = 0;
+        let ended = Ended {
+            status,
+            fault,
+            requests,
+        };
+        explain(&mut err, ended, &told)?;
         Ok(err.bytes() == text)
     }
 
     #[test]
     fn each_status_is_explained(rt: HostRuntime) -> Result<(), Fail> {
-        let usage = b"usage: hxeval run CONFIG\n\
-            \x20      hxeval check CONFIG\n\
-            \n\
-            run replays the record on standard input through the rules of the file CONFIG. It\n\
-            writes for each request its verdict, its head where the rules change it, and where it\n\
-            is redirected to; and for each management command its reply. check only judges CONFIG,\n\
-            and writes ok, the number of its rules, and that of its files and lists of patterns.\n\
-            \n\
-            Exit status: 0 done, 2 wrong words, 3 configuration refused, 4 record refused,\n\
-            5 a file or the record can't be read, 6 an answer can't be written, 7 out of memory,\n\
-            8 a regular expression is too large.\n";
         let file = b"hxeval: names.map can't be read\n";
         let record = b"hxeval: the record can't be read from standard input\n";
         let answers = b"hxeval: the answers can't be written to standard output\n";
         let large = b"hxeval: this regular expression is too large: (a|b)\n";
-        assert!(rt; is_explained(&rt, 0, None, b"9 pass -\n", b"")?);
-        assert!(rt; is_explained(&rt, 1, None, b"", b"hxeval: ended with an unknown status\n")?);
-        assert!(rt; is_explained(&rt, 2, None, b"", usage)?);
-        assert!(rt; is_explained(&rt, 5, Some(b"names.map"), b"", file)?);
-        assert!(rt; is_explained(&rt, 5, None, b"", record)?);
-        assert!(rt; is_explained(&rt, 6, None, b"", answers)?);
-        assert!(rt; is_explained(&rt, 7, None, b"", b"hxeval: out of memory\n")?);
-        assert!(rt; is_explained(&rt, 8, None, b"", large)?);
+        let sink = Some(RunFault::Sink);
+        let memory = Some(RunFault::NoMemory);
+        let refused = Some(RunFault::ConfigRefused { line: 1, code: 9 });
+        assert!(rt; is_explained(&rt, 0, None, b"")?);
+        assert!(rt; is_explained(&rt, 1, None, b"hxeval: ended with an unknown status\n")?);
+        assert!(rt; is_explained(&rt, 2, None, USAGE)?);
+        assert!(rt; is_explained(&rt, 5, Some(RunFault::Files), file)?);
+        assert!(rt; is_explained(&rt, 5, Some(RunFault::Source), record)?);
+        assert!(rt; is_explained(&rt, 6, sink, answers)?);
+        assert!(rt; is_explained(&rt, 6, refused, answers)?);
+        assert!(rt; is_explained(&rt, 7, memory, b"hxeval: out of memory\n")?);
+        assert!(rt; is_explained(&rt, 8, Some(RunFault::TooLarge), large)?);
         Ok(())
     }
 
-    /// Whether a configuration that is refused, as its last line says, is explained by this text.
-    fn is_config_explained(rt: &HostRuntime, last_line: &[u8], text: &[u8]) -> Result<bool, Fail> {
-        is_explained(rt, 3, None, last_line, text)
+    /// Whether a configuration that is refused on this line, with this code, is explained by this
+    /// text.
+    fn is_config_explained(
+        rt: &HostRuntime,
+        line: u64,
+        code: u32,
+        text: &[u8],
+    ) -> Result<bool, Fail> {
+        is_explained(rt, 3, Some(RunFault::ConfigRefused { line, code }), text)
     }
 
     #[test]
@@ -460,7 +364,7 @@ mod tests {
         let too_many_words =
             b"hxeval: deny.cfg:14: the line has more than 256 words (4 TooManyWords)\n";
         let arg_unclosed =
-            b"hxeval: deny.cfg:15: a call of this line has no closing ) (5 ArgUnclosed)\n";
+            b"hxeval: deny.cfg:15: a call has no closing ), or %[ has no closing ] (5 ArgUnclosed)\n";
         let arg_after_close = b"hxeval: deny.cfg:16: after the ) of a call stands something else \
             than a comma (6 ArgAfterClose)\n";
         let arg_escape = b"hxeval: deny.cfg:17: \\x in an argument needs two hexadecimal digits \
@@ -497,36 +401,41 @@ mod tests {
         let too_many_refs = b"hxeval: deny.cfg:33: the configuration has more than 65536 files \
             and lists of patterns (23 TooManyRefs)\n";
         let unknown = b"hxeval: deny.cfg:34: unknown code (24 Unknown)\n";
-        assert!(rt; is_config_explained(&rt, b"config 11 1\n", open_quote)?);
-        assert!(rt; is_config_explained(&rt, b"config 12 2\n", bad_escape)?);
-        assert!(rt; is_config_explained(&rt, b"config 13 3\n", bad_variable)?);
-        assert!(rt; is_config_explained(&rt, b"config 14 4\n", too_many_words)?);
-        assert!(rt; is_config_explained(&rt, b"config 15 5\n", arg_unclosed)?);
-        assert!(rt; is_config_explained(&rt, b"config 16 6\n", arg_after_close)?);
-        assert!(rt; is_config_explained(&rt, b"config 17 7\n", arg_escape)?);
-        assert!(rt; is_config_explained(&rt, b"config 18 8\n", arg_quote)?);
-        assert!(rt; is_config_explained(&rt, b"config 19 9\n", unsupported)?);
-        assert!(rt; is_config_explained(&rt, b"config 20 10\n", bad_argument)?);
-        assert!(rt; is_config_explained(&rt, b"config 21 11\n", bad_type)?);
-        assert!(rt; is_config_explained(&rt, b"config 22 12\n", bad_name)?);
-        assert!(rt; is_config_explained(&rt, b"config 23 13\n", unknown_acl)?);
-        assert!(rt; is_config_explained(&rt, b"config 24 14\n", bad_condition)?);
-        assert!(rt; is_config_explained(&rt, b"config 25 15\n", bad_format)?);
-        assert!(rt; is_config_explained(&rt, b"config 26 16\n", bad_pattern)?);
-        assert!(rt; is_config_explained(&rt, b"config 27 17\n", file_kind)?);
-        assert!(rt; is_config_explained(&rt, b"config 28 18\n", bad_value)?);
-        assert!(rt; is_config_explained(&rt, b"config 29 19\n", misplaced)?);
-        assert!(rt; is_config_explained(&rt, b"config 30 20\n", file_too_long)?);
-        assert!(rt; is_config_explained(&rt, b"config 31 21\n", unknown_table)?);
-        assert!(rt; is_config_explained(&rt, b"config 32 22\n", id_taken)?);
-        assert!(rt; is_config_explained(&rt, b"config 33 23\n", too_many_refs)?);
-        assert!(rt; is_config_explained(&rt, b"config 34 24\n", unknown)?);
+        assert!(rt; is_config_explained(&rt, 11, 1, open_quote)?);
+        assert!(rt; is_config_explained(&rt, 12, 2, bad_escape)?);
+        assert!(rt; is_config_explained(&rt, 13, 3, bad_variable)?);
+        assert!(rt; is_config_explained(&rt, 14, 4, too_many_words)?);
+        assert!(rt; is_config_explained(&rt, 15, 5, arg_unclosed)?);
+        assert!(rt; is_config_explained(&rt, 16, 6, arg_after_close)?);
+        assert!(rt; is_config_explained(&rt, 17, 7, arg_escape)?);
+        assert!(rt; is_config_explained(&rt, 18, 8, arg_quote)?);
+        assert!(rt; is_config_explained(&rt, 19, 9, unsupported)?);
+        assert!(rt; is_config_explained(&rt, 20, 10, bad_argument)?);
+        assert!(rt; is_config_explained(&rt, 21, 11, bad_type)?);
+        assert!(rt; is_config_explained(&rt, 22, 12, bad_name)?);
+        assert!(rt; is_config_explained(&rt, 23, 13, unknown_acl)?);
+        assert!(rt; is_config_explained(&rt, 24, 14, bad_condition)?);
+        assert!(rt; is_config_explained(&rt, 25, 15, bad_format)?);
+        assert!(rt; is_config_explained(&rt, 26, 16, bad_pattern)?);
+        assert!(rt; is_config_explained(&rt, 27, 17, file_kind)?);
+        assert!(rt; is_config_explained(&rt, 28, 18, bad_value)?);
+        assert!(rt; is_config_explained(&rt, 29, 19, misplaced)?);
+        assert!(rt; is_config_explained(&rt, 30, 20, file_too_long)?);
+        assert!(rt; is_config_explained(&rt, 31, 21, unknown_table)?);
+        assert!(rt; is_config_explained(&rt, 32, 22, id_taken)?);
+        assert!(rt; is_config_explained(&rt, 33, 23, too_many_refs)?);
+        assert!(rt; is_config_explained(&rt, 34, 24, unknown)?);
         Ok(())
     }
 
-    /// Whether a record that is refused, as its last line says, is explained by this text.
-    fn is_record_explained(rt: &HostRuntime, last_line: &[u8], text: &[u8]) -> Result<bool, Fail> {
-        is_explained(rt, 4, None, last_line, text)
+    /// Whether a record that is refused at this offset, with this code, is explained by this text.
+    fn is_record_explained(
+        rt: &HostRuntime,
+        offset: u64,
+        code: u32,
+        text: &[u8],
+    ) -> Result<bool, Fail> {
+        is_explained(rt, 4, Some(RunFault::RecordRefused { offset, code }), text)
     }
 
     #[test]
@@ -547,13 +456,13 @@ mod tests {
             b"hxeval: record, byte 9: the connection of this line isn't open (6 UnknownConn)\n";
         let open =
             b"hxeval: record, byte 9: the connection of this line is open already (7 ConnOpen)\n";
-        assert!(rt; is_record_explained(&rt, b"record 38 1\n", line)?);
-        assert!(rt; is_record_explained(&rt, b"record 0 2\n", number)?);
-        assert!(rt; is_record_explained(&rt, b"record 38 3\n", cut)?);
-        assert!(rt; is_record_explained(&rt, b"record 4294967296 4\n", long)?);
-        assert!(rt; is_record_explained(&rt, b"record 0 5\n", long_line)?);
-        assert!(rt; is_record_explained(&rt, b"record 9 6\n", unknown)?);
-        assert!(rt; is_record_explained(&rt, b"record 9 7\n", open)?);
+        assert!(rt; is_record_explained(&rt, 38, 1, line)?);
+        assert!(rt; is_record_explained(&rt, 0, 2, number)?);
+        assert!(rt; is_record_explained(&rt, 38, 3, cut)?);
+        assert!(rt; is_record_explained(&rt, 4294967296, 4, long)?);
+        assert!(rt; is_record_explained(&rt, 0, 5, long_line)?);
+        assert!(rt; is_record_explained(&rt, 9, 6, unknown)?);
+        assert!(rt; is_record_explained(&rt, 9, 7, open)?);
         Ok(())
     }
 }

@@ -1,21 +1,12 @@
-//! Laws of definitions: what pins the explanation of a run, and what follows from the headline.
-ghost use Rattle.std.specs.Prelude.{◌≡◌, ℕ, List, Option, [], ◌∷◌, ◌++◌, true, take};
-ghost use Rattle.hx_base.specs.Bytes.{ascii};
+//! What follows from the headline.
+ghost use Rattle.std.specs.Prelude.{ℕ, List, Option};
 ghost use Rattle.hx_core.specs.Unseen.{IsNeverCommitted};
 ghost use Rattle.hx_refs.specs.Numbers.{IsNotSearched};
-ghost use Rattle.hxeval.specs.LastLine.{LineStart, is_inside, start_after_all};
 ghost use Rattle.hxeval.specs.Replay.{initial_world};
 ghost use Rattle.hxeval.specs.Run.{Headline, Setting};
 ghost use Rattle.hxeval.specs.Unseen.{ShowsInNoAnswer};
 
 use hx_core::laws;
-
-/// Once a whole line went by, what is known is that line's beginning, whatever came before it.
-pub fn last_line()
-    ensures { (before : LineStart) (line : List ℕ) → before.ended ≡ true → is_inside line ≡ true
-        → start_after_all before (line ++ ascii "\n" ∷ [])
-        ≡ record { bytes = take 64 (line ++ ascii "\n" ∷ []); ended = true } }
-{}
 
 /// Where the headline holds, a version of a reference that isn't searched when the configuration is
 /// loaded, and that no event of the record commits, shows in no answer: without the events that

@@ -42,7 +42,8 @@ const CONN_OPEN: u32 = 7;
 /// after `Source` exactly the answers to the events that the bytes taken decide. No other fault
 /// comes.
 ///
-/// The references have the heads and the lists that the rules name.
+/// The references have the heads and the lists that the rules name. `requests` rises with each
+/// request that is answered, as tests show.
 pub fn replay<S: Source, K: Sink, M: ReMaker>(
     alloc: Global,
     rules: Program,
@@ -50,6 +51,7 @@ pub fn replay<S: Source, K: Sink, M: ReMaker>(
     record_in: &mut S,
     out: &mut K,
     maker: &mut M,
+    requests: &mut u64,
 ) -> Result<(), RunFault>
     requires { FitRules refs.content rules }
     ensures replays { Replays (record { rules = rules; references = refs.content })
@@ -77,7 +79,16 @@ pub fn replay<S: Source, K: Sink, M: ReMaker>(
         × ((M.state maker.new).large ≡ (M.state maker.old).large) }
 {
     let mut answers = Answers::new(alloc);
-    let ended = gather(alloc, rules, refs, record_in, out, &mut answers, maker);
+    let ended = gather(
+        alloc,
+        rules,
+        refs,
+        record_in,
+        out,
+        &mut answers,
+        maker,
+        requests,
+    );
     write_answers(out, &mut answers)?;
     ended
 }
@@ -92,6 +103,7 @@ fn gather<S: Source, K: Sink, M: ReMaker>(
     out: &mut K,
     answers: &mut Answers,
     maker: &mut M,
+    requests: &mut u64,
 ) -> Result<(), RunFault>
     requires none { answers.old ≡ [] }
     requires fit { FitRules refs.content rules }
@@ -120,7 +132,15 @@ fn gather<S: Source, K: Sink, M: ReMaker>(
 {
     let mut engine = Engine::new(alloc, rules, refs);
     let mut reader = Reader::new(alloc, RECORD_LIMIT);
-    gather_from(&mut engine, &mut reader, record_in, out, answers, maker)
+    gather_from(
+        &mut engine,
+        &mut reader,
+        record_in,
+        out,
+        answers,
+        maker,
+        requests,
+    )
 }
 
 /// The same with an engine and a reader that are at the beginning.
@@ -131,6 +151,7 @@ fn gather_from<S: Source, K: Sink, M: ReMaker>(
     out: &mut K,
     answers: &mut Answers,
     maker: &mut M,
+    requests: &mut u64,
 ) -> Result<(), RunFault>
     requires none { answers.old ≡ [] }
     requires start { AreAtBeginning engine.old reader.old }
@@ -159,7 +180,7 @@ fn gather_from<S: Source, K: Sink, M: ReMaker>(
     'events: loop {
         match reader.next_decided()? {
             Next::Event(placed) => {
-                answer_event(engine, placed, out, answers, maker)?;
+                answer_event(engine, placed, out, answers, maker, requests)?;
             }
             Next::Undecided => read_more(reader, record_in, out, answers)?,
             Next::End => return Ok(()),
@@ -174,6 +195,7 @@ fn answer_event<K: Sink, M: ReMaker>(
     out: &mut K,
     answers: &mut Answers,
     maker: &mut M,
+    requests: &mut u64,
 ) -> Result<(), RunFault>
     requires { engine.old.stopped ≡ None }
     ensures answers { AnswersEvent engine.old.world engine.new.world placed
@@ -193,6 +215,7 @@ fn answer_event<K: Sink, M: ReMaker>(
     let Placed { offset, event } = placed;
     match gather_answer(engine, &event, answers, maker) {
         Ok(()) => {
+            count_request(&event, requests);
             write_many(out, answers)?;
             Ok(())
         }
@@ -206,6 +229,13 @@ fn answer_event<K: Sink, M: ReMaker>(
         }),
         Err(StepFault::TooLarge) => Err(RunFault::TooLarge),
         Err(StepFault::NoMemory) => Err(RunFault::NoMemory),
+    }
+}
+
+/// Counts an event that is a request.
+fn count_request(event: &Event, requests: &mut u64) {
+    if let Event::Req { .. } = event {
+        *requests = requests.saturating_add(1);
     }
 }
 

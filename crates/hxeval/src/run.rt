@@ -7,7 +7,7 @@ ghost use Rattle.hxeval.specs.Command.{asked_of};
 ghost use Rattle.hxeval.specs.Run.{check_line, command_of, texts_of, setting, setting_of};
 ghost use Rattle.hxeval.specs.Run.{AnswersBeforeReading, Checked, Ran, HasStatus, Headline};
 ghost use Rattle.hxeval.specs.Run.{RunAsksLast, RunJudgesLast, RunReads, SourceFails};
-ghost use Rattle.hxeval.specs.RunFault.{Attempted, Finishes};
+ghost use Rattle.hxeval.specs.RunFault.{Attempted, EndsAs, Finishes, fault_end, fault_status};
 ghost use Rattle.hxeval.specs.RunFiles.{ReadsFiles, result_status};
 ghost use Rattle.hxeval.specs.Unseen.{ShowsNoUncommittedVersion};
 ghost use Rattle.hxeval.specs.declared.command.Task.{Task};
@@ -21,6 +21,15 @@ use hx_refs::{Limits, Refs};
 use hx_rules::Program;
 use itoa::Buffer;
 use std::alloc::{AllocError, Global};
+
+/// How a run ended: the exit status, and the fault that ended it, if one did.
+#[derive(Clone, Copy, Debug, PartialEq, Eq)]
+pub(crate) struct Ended {
+    pub(crate) status: u8,
+    pub(crate) fault: Option<RunFault>,
+    /// how many requests were answered, as tests show
+    pub(crate) requests: u64,
+}
 
 /// Runs the command that `words` are, the words of a command line without the program's name, under
 /// the environment `env`, and answers the exit status.
@@ -126,12 +135,126 @@ pub fn run<F: Files, S: Source, K: Sink, M: ReMaker>(
         HoldsSince (F.log files.old) (F.log files.new)
         (ReadsFiles given (F.last files.new) result)) }
 {
+    run_to_end(alloc, words, env, files, record_in, out, maker).status
+}
+
+/// Runs the command that `words` are as `run` does, and answers its status together with the fault
+/// that ended it, for whoever tells why.
+///
+/// The status is that of the fault, but where the line that tells a refusal couldn't be written:
+/// then it is 6 or 7 (`fault_status`). Without a fault it is 0 or 2 (`no_fault`). A refusal is the
+/// one with which the outcome of the configuration and the record ends, so its line and its code
+/// are those that `Loads` has, and its offset and its code those of the record (`told`).
+pub(crate) fn run_to_end<F: Files, S: Source, K: Sink, M: ReMaker>(
+    alloc: Global,
+    words: &[Vec<u8>],
+    env: &[(Vec<u8>, Vec<u8>)],
+    files: &mut F,
+    record_in: &mut S,
+    out: &mut K,
+    maker: &mut M,
+) -> Ended
+    ensures status { Contains (0 ∷ 2 ∷ 3 ∷ 4 ∷ 5 ∷ 6 ∷ 7 ∷ 8 ∷ []) result.status }
+    ensures usage { (result.status ≡ 2) ↔ (command_of (texts_of words.now) ≡ None) }
+    ensures untouched { result.status ≡ 2
+        → (files.new ≡ files.old) × (record_in.new ≡ record_in.old) × (out.new ≡ out.old)
+        × (maker.new ≡ maker.old) }
+
+    ensures headline { result.status ≡ 0 → IfSome
+        (setting_of words.now env.now (F.held files.old) (S.left record_in.old)) (λ given.
+        given.task ≡ Task.Replay → Headline given (K.written out.old) (K.written out.new)) }
+    ensures unseen { result.status ≡ 0 → IfSome
+        (setting_of words.now env.now (F.held files.old) (S.left record_in.old)) (λ given.
+        given.task ≡ Task.Replay
+        → ShowsNoUncommittedVersion given (K.written out.old) (K.written out.new)) }
+    ensures checked { result.status ≡ 0 → IfSome
+        (setting_of words.now env.now (F.held files.old) (S.left record_in.old)) (λ given.
+        given.task ≡ Task.Check → Checked given (K.written out.old) (K.written out.new)) }
+    ensures ran { IfSome
+        (setting_of words.now env.now (F.held files.old) (S.left record_in.old)) (λ given.
+        Ran given (K.written out.old) (K.written out.new) result.status) }
+    ensures at_end { result.status ≡ 0 → IfSome (command_of (texts_of words.now))
+        (λ command. command.task ≡ Task.Replay → IsAtEnd (S.left record_in.new)) }
+    ensures before_reading { IfSome
+        (setting_of words.now env.now (F.held files.old) (S.left record_in.old)) (λ given.
+        AnswersBeforeReading given (S.log record_in.old) (S.log record_in.new)
+        (K.written out.old) (K.written out.new)) }
+    ensures config_refused { result.status ≡ 3 → record_in.new ≡ record_in.old }
+    ensures unread { IfSome (command_of (texts_of words.now))
+        (λ command. command.task ≡ Task.Check → record_in.new ≡ record_in.old) }
+
+    ensures outside { result.status ≡ 5 → IfSome
+        (setting_of words.now env.now (F.held files.old) (S.left record_in.old)) (λ given.
+        (Rose (F.faults files.old) (F.faults files.new)
+        × IsSomeAnd (F.last files.new) (RunReads given)
+        × Appends (K.written out.old) (K.written out.new) [])
+        ⊎ (Rose (S.faults record_in.old) (S.faults record_in.new)
+        × SourceFails given (S.left record_in.new) (K.written out.old) (K.written out.new))) }
+    ensures sink { result.status ≡ 6 → Rose (K.faults out.old) (K.faults out.new) }
+    // A text of the configuration is too large before anything is written; one that a rule or a
+    // command adds may be so after some answers, of which `ran` says that they are a prefix.
+    ensures too_large { result.status ≡ 8 → IfSome
+        (setting_of words.now env.now (F.held files.old) (S.left record_in.old)) (λ given.
+        Rose (M.state maker.old).too_large (M.state maker.new).too_large
+        × ((RunJudgesLast given (M.state maker.new).large
+        × Appends (K.written out.old) (K.written out.new) [])
+        ⊎ RunAsksLast given (M.state maker.new).large)) }
+    // Where nothing outside failed, the status is the one that the configuration and the record
+    // have, unless memory ran out.
+    ensures complete { IfSome
+        (setting_of words.now env.now (F.held files.old) (S.left record_in.old)) (λ given.
+        ¬ (Rose (F.faults files.old) (F.faults files.new))
+        → ¬ (Rose (S.faults record_in.old) (S.faults record_in.new))
+        → ¬ (Rose (K.faults out.old) (K.faults out.new))
+        → ¬ (Rose (M.state maker.old).too_large (M.state maker.new).too_large)
+        → (result.status ≡ 7) ⊎ HasStatus given result.status) }
+
+    ensures held { F.held files.new ≡ F.held files.old }
+    // No file was read in vain but the configuration and those to which it comes.
+    ensures named { IfSome
+        (setting_of words.now env.now (F.held files.old) (S.left record_in.old)) (λ given.
+        (F.last files.new ≡ F.last files.old) ⊎ IsSomeAnd (F.last files.new) (RunReads given)) }
+    // The configuration is read first, and then the files that it names, in their order.
+    ensures files_read { IfSome
+        (setting_of words.now env.now (F.held files.old) (S.left record_in.old)) (λ given.
+        HoldsSince (F.log files.old) (F.log files.new)
+        (ReadsFiles given (F.last files.new) result.status)) }
+
+    ensures told { IfSome
+        (setting_of words.now env.now (F.held files.old) (S.left record_in.old)) (λ given.
+        IfSome result.fault (λ fault. EndsAs given (fault_end fault))) }
+    ensures fault_status { IfSome result.fault (λ fault. (result.status ≡ fault_status fault)
+        ⊎ Contains (6 ∷ 7 ∷ []) result.status) }
+    ensures no_fault { result.fault ≡ None → Contains (0 ∷ 2 ∷ []) result.status }
+{
     let Some(command) = command_of(words) else {
-        return 2;
+        return Ended {
+            status: 2,
+            fault: None,
+            requests: 0,
+        };
     };
-    match attempt(alloc, env, files, command, record_in, out, maker) {
-        Ok(()) => 0,
-        Err(fault) => finish(alloc, fault, out),
+    let mut requests = 0u64;
+    match attempt(
+        alloc,
+        env,
+        files,
+        command,
+        record_in,
+        out,
+        maker,
+        &mut requests,
+    ) {
+        Ok(()) => Ended {
+            status: 0,
+            fault: None,
+            requests,
+        },
+        Err(fault) => Ended {
+            status: finish(alloc, fault, out),
+            fault: Some(fault),
+            requests,
+        },
     }
 }
 
@@ -145,6 +268,7 @@ fn attempt<F: Files, S: Source, K: Sink, M: ReMaker>(
     record_in: &mut S,
     out: &mut K,
     maker: &mut M,
+    requests: &mut u64,
 ) -> Result<(), RunFault>
     ensures attempted { Attempted
         (setting env.now (F.held files.old) (asked_of command.entry) (S.left record_in.old))
@@ -186,7 +310,7 @@ fn attempt<F: Files, S: Source, K: Sink, M: ReMaker>(
     let config = files.read(alloc, command.name)?;
     let (rules, refs) = load(alloc, config.as_slice(), env, files, maker, Limits::usual())?;
     match command.task {
-        Task::Replay => replay(alloc, rules, refs, record_in, out, maker),
+        Task::Replay => replay(alloc, rules, refs, record_in, out, maker, requests),
         Task::Check => Ok(write_check(alloc, &rules, &refs, out)?),
     }
 }

@@ -11,7 +11,7 @@ use std::process::Abort;
 use std::test::Fail;
 
 /// The line that opens connection 1.
-const CONN: &[u8] = b"conn 1 192.0.2.7 40000 203.0.113.1 80\n";
+pub(crate) const CONN: &[u8] = b"conn 1 192.0.2.7 40000 203.0.113.1 80\n";
 
 /// A run of `run NAME` or `check NAME` over a configuration named `c` and other files, with the
 /// variable A of value `x`, the number of bytes after which the record ends, and the numbers of the
@@ -140,7 +140,7 @@ impl Run {
 }
 
 /// The text with `~` and `^` read as `RUNS` says.
-fn decoded(alloc: Global, text: &[u8]) -> Result<Vec<u8>, Fail> {
+pub(crate) fn decoded(alloc: Global, text: &[u8]) -> Result<Vec<u8>, Fail> {
     let mut bytes = Vec::new(alloc);
     for b in text {
         match *b {
@@ -177,7 +177,7 @@ fn crowded_head(alloc: Global, lines: u64) -> Result<Vec<u8>, Fail> {
 }
 
 /// The first word of a line, and what stands after the space that follows it.
-fn word_and_text(line: &[u8]) -> (&[u8], &[u8]) {
+pub(crate) fn word_and_text(line: &[u8]) -> (&[u8], &[u8]) {
     match cut_at(b' ', line) {
         Some(cut) => cut,
         None => (line, b""),

@@ -1,7 +1,7 @@
 -- The log of files to which each read came.
 use Rattle.std.proofs.Common.{ℕ, Bool, true, false, List, Option}
 use Rattle.hx_outside.specs.Log.{FileLog, Logs}
-use Rattle.hxeval.specs.LastUnread.{log_where}
+use Rattle.hxeval.specs.KnownFiles.{log_where}
 
 -- a read that comes to the files is logged as theirs is
 pub logs_where : (complete : Bool) (old new : Option FileLog) (name : List ℕ) → Logs old new name

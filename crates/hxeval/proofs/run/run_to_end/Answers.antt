@@ -1,9 +1,10 @@
 use Rattle.std.proofs.Common.{◌<◌, ◌∙◌, Err, inl, inr, ap, arith, refl}
 use Rattle.hxeval.proofs.RunLemmas.{before_finished, source_moved}
+use Rattle.hxeval.proofs.EndLemmas.{ends_as, of_fault}
 use Rattle.hxeval.proofs.StatusLemmas.{headline, checked, ran_completed, finished_status, ran_finished, finished_by, finished_line, is_config_refused, is_outside, is_large, large_line, sink_rose, complete}
 use Rattle.hxeval.proofs.UnseenLemmas.{shows_no_uncommitted_version}
 use Rattle.hxeval.proofs.FilesLemmas.{finished_files}
-use Rattle.hxeval.proofs.run.run.Goals as goal
+use Rattle.hxeval.proofs.run.run_to_end.Goals as goal
 
 pub returns-in-Ok-clause-headline : goal.returns-in-Ok-clause-headline
 returns-in-Ok-clause-headline g c = rw (← c.in-Some.ensures) (λ done asked. headline _ _ _ asked c.in-Ok.ensures.attempted)
@@ -118,3 +119,11 @@ pub returns-in-Err-clause-files_read : goal.returns-in-Err-clause-files_read
 returns-in-Err-clause-files_read g c = rw (← c.in-Some.ensures)
     (finished_files _ (g.F.Files.last c.attempt.new.files) c.in-Err.fault (g.K.Sink.written c.attempt.new.out) (g.K.Sink.written c.finish.new.out) c.finish.result
     (g.F.Files.log c.args.files.now) (g.F.Files.log c.attempt.new.files) c.finish.ensures.finished c.in-Err.ensures.files_read)
+
+pub returns-in-Err-clause-told : goal.returns-in-Err-clause-told
+returns-in-Err-clause-told g c = rw (← c.in-Some.ensures)
+    (ends_as _ (g.K.Sink.written c.args.out.now) (g.K.Sink.written c.attempt.new.out) c.in-Err.fault c.in-Err.ensures.attempted)
+
+pub returns-in-Err-clause-fault_status : goal.returns-in-Err-clause-fault_status
+returns-in-Err-clause-fault_status g c =
+    of_fault c.in-Err.fault (g.K.Sink.written c.attempt.new.out) (g.K.Sink.written c.finish.new.out) c.finish.result c.finish.ensures.finished

@@ -1,6 +1,6 @@
 use Rattle.std.proofs.Common.{◌≡◌, map, length}
 use Rattle.hxeval.specs.Explanation.{meaning_of}
-use Rattle.hxeval.proofs.explain.meaning_of.Given as goal
+use Rattle.hxeval.proofs.codes.meaning_of.Given as goal
 
 abbrev pub invariant-loop-rows : goal.invariant-loop-rows
 invariant-loop-rows l =
