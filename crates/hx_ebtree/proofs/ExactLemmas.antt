@@ -5,6 +5,7 @@ use Rattle.hx_pool.specs.Pool.{Pool, get, IsLive}
 use Rattle.hx_pool.specs.Chain.{first_or}
 use Rattle.hx_ebtree.specs.declared.node.Down.{Down}
 use Rattle.hx_ebtree.specs.declared.node.Down.TheVariants.{Leaf, Branch}
+use Rattle.hx_ebtree.specs.declared.node.Up.{Up}
 use Rattle.hx_ebtree.specs.declared.node.Branch.{Branch as Fork}
 use Rattle.hx_ebtree.specs.declared.node.Node.{Node}
 use Rattle.hx_ebtree.specs.Bits.{code_of, IsPrefix}
@@ -21,7 +22,7 @@ use Rattle.hx_ebtree.proofs.SeekLemmas.{IsLeafHere, leaf_here, IsForkHere, fork_
 by_numbers : (pairs : KeyList) (x : List Bool) (xs : List ℕ) (o : Option ℕ) → numbers_of x pairs ≡ xs → o ≡ first_or xs None → o ≡ exact_of pairs x
 by_numbers pairs x xs o e f = f ∙ sym (exact_is pairs x ∙ ap (λ l. first_or l None) e)
 
-some_same : {A : Type 0} {a b : A} → Some a ≡ Some b → a ≡ b
+pub some_same : {A : Type 0} {a b : A} → Some a ≡ Some b → a ≡ b
 some_same e = cc
 
 module _ (f : Leaves) (g : Forks) (root : Option Down) (pairs : KeyList) (x : List Bool) where
@@ -115,12 +116,13 @@ module _ (f : Leaves) (g : Forks) (pairs : KeyList) (x : List Bool) (id depth : 
         ∙ none_below (at_fork.shared ++ true ∷ []) at_fork.right x keyed.2
         (λ q. absurd (omega (arith, limit, prefix_length (at_fork.shared ++ true ∷ []) (code_of x) q, length-append at_fork.shared (true ∷ []), code_length x)))) refl
 
-module _ {V : Type 0} (p : Pool (Node V)) (pairs : KeyList) (x : List Bool) (id depth : ℕ) where
-  pub way_leaf_live : IsOnWayTo (leaves_of p) (forks_of p) pairs x (Leaf id) depth → IsLive p id
-  way_leaf_live r = let h = leaf_here (leaves_of p) (forks_of p) r.up r.here id r.hangs in key_live p id h.key h.seen
+-- what hangs somewhere is in a live node
+module _ {V : Type 0} (p : Pool (Node V)) (up : Option Up) (s : Shape) (id : ℕ) where
+  pub leaf_lives : HangsAt (leaves_of p) (forks_of p) up s (Leaf id) → IsLive p id
+  leaf_lives at = let h = leaf_here (leaves_of p) (forks_of p) up s id at in key_live p id h.key h.seen
 
-  pub way_fork_live : IsOnWayTo (leaves_of p) (forks_of p) pairs x (Branch id) depth → IsLive p id
-  way_fork_live r = let h = fork_here (leaves_of p) (forks_of p) r.up r.here id r.hangs in fork_live p id _ h.here
+  pub fork_lives : HangsAt (leaves_of p) (forks_of p) up s (Branch id) → IsLive p id
+  fork_lives at = let h = fork_here (leaves_of p) (forks_of p) up s id at in fork_live p id _ h.here
 
-  pub way_fork_has : (n : Node V) → get p id ≡ Some n → n.branch ≡ None → IsOnWayTo (leaves_of p) (forks_of p) pairs x (Branch id) depth → ⊥
-  way_fork_has n at none r = let h = fork_here (leaves_of p) (forks_of p) r.up r.here id r.hangs in let a = h.here in let b = fork_seen p id n at in cc
+  pub fork_is_there : (n : Node V) → get p id ≡ Some n → n.branch ≡ None → HangsAt (leaves_of p) (forks_of p) up s (Branch id) → ⊥
+  fork_is_there n got none at = let h = fork_here (leaves_of p) (forks_of p) up s id at in let a = h.here in let b = fork_seen p id n got in cc

@@ -15,6 +15,7 @@ pub mod FrameLemmas
 mod InsertSteps
 mod LongestLemmas
 mod LongestSteps
+mod LongestReads
 mod RemoveLemmas
 mod UnchainLemmas
 mod NextLemmas

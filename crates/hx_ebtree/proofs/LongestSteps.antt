@@ -11,16 +11,16 @@ use Rattle.hx_ebtree.specs.declared.node.Up.{Up}
 use Rattle.hx_ebtree.specs.declared.node.Branch.{Branch as Fork}
 use Rattle.hx_ebtree.specs.Bits.{code_of, IsPrefix, is_same_bit, split_of}
 use Rattle.hx_ebtree.specs.KeyList.{KeyList, numbers_of}
-use Rattle.hx_ebtree.specs.Shape.{Shape, leaf, fork, pairs_of, IsKeyed, Leaves, Forks, key_in, left_of, HangsAt}
-use Rattle.hx_ebtree.specs.ShapeContext.{hole_up, hole_shared}
+use Rattle.hx_ebtree.specs.Shape.{Shape, leaf, fork, pairs_of, IsAbove, IsKeyed, Leaves, Forks, key_in, left_of, right_of, HangsAt}
 use Rattle.hx_ebtree.specs.Tree.{StandsAs}
-use Rattle.hx_ebtree.specs.Seat.{split_before_of, side_of, Reaches, left_leaf, leaf_longest_of, better_of}
+use Rattle.hx_ebtree.specs.Seat.{split_before_of, side_of, leaf_number, leaf_longest_of, ending_of}
 use Rattle.hx_ebtree.proofs.BitLemmas.{code_even, code_length}
-use Rattle.hx_ebtree.proofs.CodeLemmas.{prefix_on, prefix_under, prefix_length, prefix_bit, prefix_clash, prefix_self, split_parts, split_same, same_bits, Parts, parts_in}
+use Rattle.hx_ebtree.proofs.CodeLemmas.{prefix_on, prefix_under, prefix_length, prefix_bit, prefix_clash, prefix_more, prefix_next, prefix_none, prefix_self, bits_clash, split_parts, split_same, same_bits, Parts, parts_in, parts_past}
 use Rattle.hx_ebtree.proofs.PairLemmas.{key_cases, numbers_append, numbers_with, numbers_other}
-use Rattle.hx_ebtree.proofs.KeyedLemmas.{keyed_hole, none_below, numbers_in_hole}
+use Rattle.hx_ebtree.proofs.KeyedLemmas.{none_below}
+use Rattle.hx_ebtree.proofs.ExactLemmas.{some_same}
 use Rattle.hx_ebtree.proofs.LongestLemmas.{prefix_taken, taken_prefix, IsLongestOrNone}
-use Rattle.hx_ebtree.proofs.SeekLemmas.{IsLeafHere, leaf_here, AtFork, side_shape, step_down, before_some, reach_root, seat_at_root}
+use Rattle.hx_ebtree.proofs.SeekLemmas.{IsLeafHere, leaf_here, IsForkHere, fork_here, below_fork, before_none, before_some, seat_at_root}
 
 -- what a prefix's code begins with, but for its end, the whole's begins with
 pub code_agrees : (k x q : List Bool) → IsPrefix k x → IsPrefix q (code_of k) → length q ≤ 2 * length k → IsPrefix q (code_of x)
@@ -88,57 +88,123 @@ abbrev pub IsBest : KeyList → List Bool → Option ℕ → ℕ → Type 0
 IsBest pairs x None least = least ≡ 0
 IsBest pairs x (Some id) least = (m : ℕ) × (least ≡ suc m) × (m ≤ length x) × (first_or (numbers_of (take m x) pairs) None ≡ Some id)
 
-module _ (f : Leaves) (g : Forks) (at_root : Option Down) (pairs : KeyList) (x : List Bool) where
-  -- the search came to a hole, and the longest prefix outside it is known
-  pub record IsOnWay (at : Down) (depth : ℕ) (best : Option ℕ) : Type 0 where
+-- the code of what is taken of a key begins as the key's, but for its end
+code_taken : (m : ℕ) (k q : List Bool) → m ≤ length k → IsPrefix q (code_of k) → length q ≤ 2 * m → IsPrefix q (code_of (take m k))
+code_taken m k [] le p short = (code_of (take m k), refl)
+code_taken zero k (c ∷ q) le p short = absurd (omega arith)
+code_taken (suc m) [] (c ∷ q) le p short = absurd (omega arith)
+code_taken (suc m) (b ∷ k) (c ∷ []) le p short = let e = p.1 in let one : true ≡ c = cc in (b ∷ code_of (take m k), ap (λ w. w ∷ (b ∷ code_of (take m k))) one)
+code_taken (suc m) (b ∷ k) (c ∷ d ∷ q) le p short =
+    let e = p.1 in let one : true ≡ c = cc in let two : b ≡ d = cc in let rest : code_of k ≡ q ++ p.0 = cc in
+    let r = code_taken m k q (omega arith) (p.0, rest) (omega arith) in
+    (r.0, ap (λ l. true ∷ b ∷ l) r.1 ∙ ap (λ w. w ∷ b ∷ (q ++ r.0)) one ∙ ap (λ w. c ∷ w ∷ (q ++ r.0)) two)
+
+-- a shape has a key
+some_key : (p : List Bool) (s : Shape) → IsKeyed p s → (k : List Bool) × IsPrefix p (code_of k)
+some_key p (leaf key id more) keyed = (key, keyed)
+some_key p (fork h sh l r) keyed = let w = some_key (sh ++ false ∷ []) l keyed.1 in (w.0, prefix_on p sh (code_of w.0) keyed.0 (prefix_under sh false (code_of w.0) w.1))
+
+-- a code that has its end bit here is no longer
+ends_here : (k sh : List Bool) (j : ℕ) → length sh ≡ 2 * j → IsPrefix (sh ++ false ∷ []) (code_of k) → length k ≡ j
+ends_here k sh j even p =
+    let bit : get_or (code_of k) (length sh) false ≡ false = prefix_bit sh false (code_of k) p in
+    let at : get_or (code_of k) (length sh) false ≡ nat_lt j (length k) = ap (λ w. get_or (code_of k) w false) even ∙ code_even k j in
+    let no : nat_lt j (length k) ≡ false = sym at ∙ bit in
+    let le : length k ≤ j = grind (arith, nat_tests) in
+    omega (arith, prefix_length (sh ++ false ∷ []) (code_of k) p, length-append sh (false ∷ []), code_length k)
+
+prefix_whole : (p q : List Bool) → IsPrefix p q → length p ≡ length q → q ≡ p
+prefix_whole p q (rest, e) same = by rest e
+  where
+    by : (rest : List Bool) → q ≡ p ++ rest → q ≡ p
+    by [] e = e ∙ append-nil p
+    by (b ∷ rest) e = absurd (omega (arith, ap length e, length-append p (b ∷ rest)))
+
+-- a prefix of the key whose code goes to the other side of a fork ends there
+other_side : (x : List Bool) (m : ℕ) (sh : List Bool) (right : Bool) → m ≤ length x → right ≡ get_or (code_of x) (length sh) false → IsPrefix (sh ++ not right ∷ []) (code_of (take m x)) → (length sh ≡ 2 * m) × (right ≡ true)
+other_side x m sh right le right_is there = by (le_or (length sh) (2 * m)) right refl
+  where
+    t : IsPrefix (take m x) x × (length (take m x) ≡ m)
+    t = taken_prefix m x le
+
+    le_or : (i n : ℕ) → (i < n) ⊎ (n ≤ i)
+    le_or i zero = inr (omega arith)
+    le_or zero (suc n) = inl (omega arith)
+    le_or (suc i) (suc n) = elim (le_or i n) [ inl a ↦ inl (omega arith) | inr b ↦ inr (omega arith) ]
+
+    within : length sh ≤ 2 * m
+    within = omega (arith, prefix_length (sh ++ not right ∷ []) (code_of (take m x)) there, length-append sh (not right ∷ []), code_length (take m x), t.1)
+
+    by : (length sh < 2 * m) ⊎ (2 * m ≤ length sh) → (r : Bool) → r ≡ right → (length sh ≡ 2 * m) × (right ≡ true)
+    by (inl lt) r e =
+        let whole = code_agrees (take m x) x (sh ++ not right ∷ []) t.0 there (omega (arith, length-append sh (not right ∷ []), t.1)) in
+        absurd (bits_clash right (right_is ∙ prefix_bit sh (not right) (code_of x) whole))
+    by (inr ge) true e = (omega (arith, within), sym e)
+    by (inr ge) false e =
+        let at : length sh ≡ 2 * m = omega (arith, within) in
+        let last : get_or (code_of (take m x)) (length sh) false ≡ not right = prefix_bit sh (not right) (code_of (take m x)) there in
+        let is_last : get_or (code_of (take m x)) (length sh) false ≡ nat_lt m (length (take m x)) = ap (λ k. get_or (code_of (take m x)) k false) at ∙ code_even (take m x) m in
+        let none : nat_lt m (length (take m x)) ≡ false = rw t.1 (grind (arith, nat_tests)) in
+        let clash : not right ≡ false = sym last ∙ is_last ∙ none in
+        absurd (true≢false (ap not e ∙ clash))
+
+module _ (f : Leaves) (g : Forks) (pairs : KeyList) (x : List Bool) where
+  -- The search came to a shape, and the longest prefix outside it is known. The code of the key was
+  -- compared with those in the shape up to a bit, and agrees with them so far.
+  pub record IsOnWay (at : Down) (depth checked : ℕ) (best : Option ℕ) : Type 0 where
     pub up : Option Up
-    pub reach : Reaches f g at_root pairs x up at depth
+    pub here : Shape
+    pub shared : List Bool
+    pub hangs : HangsAt f g up here at
+    pub keyed : IsKeyed shared here
+    pub above : IsAbove here
+    pub deep : depth ≡ length shared
+    pub agreed : List Bool
+    pub long : checked ≡ length agreed
+    pub within : IsPrefix agreed shared
+    pub leads : IsPrefix agreed (code_of x)
     pub least : ℕ
     pub best_is : IsBest pairs x best least
-    pub later : (m : ℕ) → least ≤ m → m ≤ length x → numbers_of (take m x) pairs ≡ numbers_of (take m x) (pairs_of reach.here)
-    pub deep : (k : List Bool) → IsPrefix (hole_shared reach.context) (code_of k) → least ≤ length k
+    pub later : (m : ℕ) → least ≤ m → m ≤ length x → numbers_of (take m x) pairs ≡ numbers_of (take m x) (pairs_of here)
+    pub low : (k : List Bool) → IsPrefix shared (code_of k) → least ≤ length k
+    pub only : (k : List Bool) → IsPrefix shared (code_of k) → numbers_of k pairs ≡ numbers_of k (pairs_of here)
 
-  pub nothing_more : (at : Down) (depth : ℕ) (best : Option ℕ) (w : IsOnWay at depth best) → ((m : ℕ) → w.least ≤ m → m ≤ length x → numbers_of (take m x) (pairs_of w.reach.here) ≡ []) → IsLongestOrNone pairs x best
-  nothing_more at depth None w none = λ m le. let zero_is = w.best_is in w.later m (omega arith) le ∙ none m (omega arith) le
-  nothing_more at depth (Some id) w none = let b = w.best_is in record {
+  nothing_more : (at : Down) (depth checked : ℕ) (best : Option ℕ) (w : IsOnWay at depth checked best) → ((m : ℕ) → w.least ≤ m → m ≤ length x → numbers_of (take m x) (pairs_of w.here) ≡ []) → IsLongestOrNone pairs x best
+  nothing_more at depth checked None w none = λ m le. let zero_is = w.best_is in w.later m (omega arith) le ∙ none m (omega arith) le
+  nothing_more at depth checked (Some id) w none = let b = w.best_is in record {
     length_of = b.0;
     within = b.2;
     first = b.3;
     longer = λ m lt le. w.later m (omega (arith, b.1)) le ∙ none m (omega (arith, b.1)) le;
   }
 
-  -- the keys of a hole are only there
-  pub in_hole : (at : Down) (depth : ℕ) (best : Option ℕ) (w : IsOnWay at depth best) (k : List Bool) → IsPrefix (hole_shared w.reach.context) (code_of k) → numbers_of k pairs ≡ numbers_of k (pairs_of w.reach.here)
-  in_hole at depth best w k leads =
-      w.reach.hole.stands.same k ∙ numbers_in_hole w.reach.context w.reach.here k w.reach.hole.stands.sound.keyed leads
-
-  pub end_at_leaf : (id depth : ℕ) (best : Option ℕ) → IsOnWay (Leaf id) depth best → (y : List Bool) → key_in f id ≡ Some y → (found : Option ℕ) → found ≡ split_of y x → (r : Option ℕ) → r ≡ leaf_longest_of id (length y) found best → IsLongestOrNone pairs x r
-  end_at_leaf id depth best w y seen found split r r_is = by found split r_is
+  pub end_at_leaf : (id depth checked : ℕ) (best : Option ℕ) → IsOnWay (Leaf id) depth checked best → (y : List Bool) → key_in f id ≡ Some y → (found : Option ℕ) → found ≡ split_of y x → (r : Option ℕ) → r ≡ leaf_longest_of id (length y) found best → IsLongestOrNone pairs x r
+  end_at_leaf id depth checked best w y seen found split r r_is = by found split r_is
     where
-      here : IsLeafHere f g w.reach.here id
-      here = leaf_here f g (hole_up w.reach.context) w.reach.here id w.reach.hole.inside
+      here : IsLeafHere f g w.here id
+      here = leaf_here f g w.up w.here id w.hangs
 
       same_key : here.key ≡ y
       same_key = let a = here.seen in cc
 
-      shape : w.reach.here ≡ leaf y id here.more
+      shape : w.here ≡ leaf y id here.more
       shape = here.shape ∙ ap (λ k. leaf k id here.more) same_key
 
-      keyed : IsPrefix (hole_shared w.reach.context) (code_of y)
-      keyed = let k : IsKeyed (hole_shared w.reach.context) (leaf y id here.more) = subst (IsKeyed (hole_shared w.reach.context)) shape (keyed_hole w.reach.context w.reach.here w.reach.hole.stands.sound.keyed) in k
+      keyed : IsPrefix w.shared (code_of y)
+      keyed = let k : IsKeyed w.shared (leaf y id here.more) = subst (IsKeyed w.shared) shape w.keyed in k
 
       hit : IsPrefix y x → IsLongestOrNone pairs x (Some id)
       hit p = let t = prefix_taken y x p in record {
         length_of = length y;
         within = t.1;
         first = ap (λ k. first_or (numbers_of k pairs) None) (sym t.0)
-            ∙ ap (λ l. first_or l None) (in_hole (Leaf id) depth best w y keyed ∙ ap (λ s. numbers_of y (pairs_of s)) shape ∙ numbers_with y (id ∷ here.more));
-        longer = λ m lt le. w.later m (omega (arith, w.deep y keyed)) le ∙ ap (λ s. numbers_of (take m x) (pairs_of s)) shape
+            ∙ ap (λ l. first_or l None) (w.only y keyed ∙ ap (λ s. numbers_of y (pairs_of s)) shape ∙ numbers_with y (id ∷ here.more));
+        longer = λ m lt le. w.later m (omega (arith, w.low y keyed)) le ∙ ap (λ s. numbers_of (take m x) (pairs_of s)) shape
             ∙ numbers_other (take m x) y (id ∷ here.more) (elim (key_cases y (take m x)) [ inl e ↦ absurd (omega (arith, ap length e, (taken_prefix m x le).1)) | inr d ↦ d ]);
       }
 
       miss : (IsPrefix y x → ⊥) → IsLongestOrNone pairs x best
-      miss off = nothing_more (Leaf id) depth best w (λ m ge le. ap (λ s. numbers_of (take m x) (pairs_of s)) shape
+      miss off = nothing_more (Leaf id) depth checked best w (λ m ge le. ap (λ s. numbers_of (take m x) (pairs_of s)) shape
           ∙ numbers_other (take m x) y (id ∷ here.more) (elim (key_cases y (take m x)) [ inl e ↦ absurd (off (subst (λ k. IsPrefix k x) (sym e) (taken_prefix m x le).0)) | inr d ↦ d ]))
 
       by_at : (at : ℕ) (b : Bool) → (at == length y * 2) ≡ b → Some at ≡ split_of y x → r ≡ cond b (Some id) best → IsLongestOrNone pairs x r
@@ -151,194 +217,266 @@ module _ (f : Leaves) (g : Forks) (at_root : Option Down) (pairs : KeyList) (x :
       by None e is = subst (IsLongestOrNone pairs x) (sym is) (hit (subst (IsPrefix y) (split_same y x (sym e)) (prefix_self y)))
       by (Some at) e is = by_at at (at == length y * 2) refl e is
 
-  -- a fork whose codes part from the key's has no prefix of it
-  pub end_at_split : (id depth : ℕ) (best : Option ℕ) (w : IsOnWay (Branch id) depth best) (y : List Bool) (b : Fork) → (a : AtFork f g at_root pairs x w.up id depth w.reach y b) → (bit : ℕ) → Some bit ≡ split_before_of b.bit (split_of x y) → IsLongestOrNone pairs x best
-  end_at_split id depth best w y b a bit found =
-      nothing_more (Branch id) depth best w (λ m ge le.
-      ap (λ s. numbers_of (take m x) (pairs_of s)) a.branch.shape
-      ∙ numbers_append (take m x) (pairs_of a.branch.left) (pairs_of a.branch.right)
-      ∙ ap (λ l. l ++ numbers_of (take m x) (pairs_of a.branch.right)) (none_below (a.branch.shared ++ false ∷ []) a.branch.left (take m x) a.keyed.1 (off m le false))
-      ∙ none_below (a.branch.shared ++ true ∷ []) a.branch.right (take m x) a.keyed.2 (off m le true))
-    where
-      s : (split_of x y ≡ Some bit) × (bit < b.bit)
-      s = before_some b.bit bit (split_of x y) found
+  -- at a fork
+  module _ (id depth checked : ℕ) (best : Option ℕ) (w : IsOnWay (Branch id) depth checked best) (b : Fork) (here : g id ≡ Some b) where
+    pub at_fork : IsForkHere f g w.here w.up id
+    at_fork = fork_here f g w.up w.here id w.hangs
 
-      limit : b.bit ≡ length a.branch.shared
-      limit = ap (λ (v : Fork). v.bit) a.is
+    is : b ≡ record { bit = length at_fork.shared; left = at_fork.to_left; right = at_fork.to_right; up = w.up }
+    is = some_same (sym here ∙ at_fork.here)
 
-      p : (right : Bool) × Parts x y bit right
-      p = split_parts x y bit s.0
+    limit : b.bit ≡ length at_fork.shared
+    limit = ap (λ (v : Fork). v.bit) is
 
-      off : (m : ℕ) → m ≤ length x → (c : Bool) → IsPrefix (a.branch.shared ++ c ∷ []) (code_of (take m x)) → ⊥
-      off m le c q =
-          let t = taken_prefix m x le in
-          let short : length a.branch.shared ≤ 2 * length (take m x) = omega (arith, prefix_length (a.branch.shared ++ c ∷ []) (code_of (take m x)) q, length-append a.branch.shared (c ∷ []), code_length (take m x)) in
-          let whole : IsPrefix a.branch.shared (code_of x) = code_agrees (take m x) x a.branch.shared t.0 (prefix_under a.branch.shared c (code_of (take m x)) q) short in
-          prefix_clash p.1.shared p.0 (code_of x) p.1.first
-          (prefix_on (p.1.shared ++ not p.0 ∷ []) a.branch.shared (code_of x) (parts_in x y bit p.0 a.branch.shared p.1 a.below (omega (arith, s.1, limit))) whole)
+    keyed : IsKeyed w.shared (fork id at_fork.shared at_fork.left at_fork.right)
+    keyed = subst (IsKeyed w.shared) at_fork.shape w.keyed
 
-  -- a prefix of the key whose code goes to the other side of a fork ends there
-  other_side : (m : ℕ) (sh : List Bool) (right : Bool) → m ≤ length x → IsPrefix (sh ++ right ∷ []) (code_of x) → IsPrefix (sh ++ not right ∷ []) (code_of (take m x)) → (length sh ≡ 2 * m) × (right ≡ true)
-  other_side m sh right le here there = by (le_or (length sh) (2 * m)) right refl
-    where
-      t : IsPrefix (take m x) x × (length (take m x) ≡ m)
-      t = taken_prefix m x le
+    above : IsAbove (fork id at_fork.shared at_fork.left at_fork.right)
+    above = subst IsAbove at_fork.shape w.above
 
-      le_or : (i n : ℕ) → (i < n) ⊎ (n ≤ i)
-      le_or i zero = inr (omega arith)
-      le_or zero (suc n) = inl (omega arith)
-      le_or (suc i) (suc n) = elim (le_or i n) [ inl a ↦ inl (omega arith) | inr b ↦ inr (omega arith) ]
+    left_hangs : HangsAt f g (left_of id) at_fork.left b.left
+    left_hangs = subst (HangsAt f g (left_of id) at_fork.left) (sym (ap (λ (v : Fork). v.left) is)) at_fork.hangs_left
 
-      within : length sh ≤ 2 * m
-      within = omega (arith, prefix_length (sh ++ not right ∷ []) (code_of (take m x)) there, length-append sh (not right ∷ []), code_length (take m x), t.1)
+    right_hangs : HangsAt f g (right_of id) at_fork.right b.right
+    right_hangs = subst (HangsAt f g (right_of id) at_fork.right) (sym (ap (λ (v : Fork). v.right) is)) at_fork.hangs_right
 
-      by : (length sh < 2 * m) ⊎ (2 * m ≤ length sh) → (r : Bool) → r ≡ right → (length sh ≡ 2 * m) × (right ≡ true)
-      by (inl lt) r e = absurd (prefix_clash sh right (code_of x) here (code_agrees (take m x) x (sh ++ not right ∷ []) t.0 there (omega (arith, length-append sh (not right ∷ []), t.1))))
-      by (inr ge) true e = (omega (arith, within), sym e)
-      by (inr ge) false e =
-          let at : length sh ≡ 2 * m = omega (arith, within) in
-          let last : get_or (code_of (take m x)) (length sh) false ≡ not right = prefix_bit sh (not right) (code_of (take m x)) there in
-          let is_last : get_or (code_of (take m x)) (length sh) false ≡ nat_lt m (length (take m x)) = ap (λ k. get_or (code_of (take m x)) k false) at ∙ code_even (take m x) m in
-          let none : nat_lt m (length (take m x)) ≡ false = rw t.1 (grind (arith, nat_tests)) in
-          let clash : not right ≡ false = sym last ∙ is_last ∙ none in
-          absurd (true≢false (ap not e ∙ clash))
+    pub fork_is_deeper : depth ≤ b.bit
+    fork_is_deeper = omega (arith, limit, w.deep, prefix_length w.shared at_fork.shared keyed.0)
 
-  -- the code of what is taken of a key begins as the key's, but for its end
-  code_taken : (m : ℕ) (k q : List Bool) → m ≤ length k → IsPrefix q (code_of k) → length q ≤ 2 * m → IsPrefix q (code_of (take m k))
-  code_taken m k [] le p short = (code_of (take m k), refl)
-  code_taken zero k (c ∷ q) le p short = absurd (omega arith)
-  code_taken (suc m) [] (c ∷ q) le p short = absurd (omega arith)
-  code_taken (suc m) (b ∷ k) (c ∷ []) le p short = let e = p.1 in let one : true ≡ c = cc in (b ∷ code_of (take m k), ap (λ w. w ∷ (b ∷ code_of (take m k))) one)
-  code_taken (suc m) (b ∷ k) (c ∷ d ∷ q) le p short =
-      let e = p.1 in let one : true ≡ c = cc in let two : b ≡ d = cc in let rest : code_of k ≡ q ++ p.0 = cc in
-      let r = code_taken m k q (omega arith) (p.0, rest) (omega arith) in
-      (r.0, ap (λ l. true ∷ b ∷ l) r.1 ∙ ap (λ w. w ∷ b ∷ (q ++ r.0)) one ∙ ap (λ w. c ∷ w ∷ (q ++ r.0)) two)
+    -- the key of the node that holds the branch is below it
+    pub below_here : (y : List Bool) → key_in f id ≡ Some y → IsPrefix at_fork.shared (code_of y)
+    below_here y seen =
+        let c = below_fork f g id at_fork.shared at_fork.left at_fork.right at_fork.to_left at_fork.to_right y seen above.0 keyed.1 keyed.2 at_fork.hangs_left at_fork.hangs_right in
+        prefix_under at_fork.shared c.0 (code_of y) c.1
 
-  -- a shape has a key
-  some_key : (p : List Bool) (s : Shape) → IsKeyed p s → (k : List Bool) × IsPrefix p (code_of k)
-  some_key p (leaf key id more) keyed = (key, keyed)
-  some_key p (fork h sh l r) keyed = let w = some_key (sh ++ false ∷ []) l keyed.1 in (w.0, prefix_on p sh (code_of w.0) keyed.0 (prefix_under sh false (code_of w.0) w.1))
+    -- what was compared, the key of that node begins with
+    pub agreed_here : (y : List Bool) → key_in f id ≡ Some y → IsPrefix w.agreed (code_of y)
+    agreed_here y seen =
+        prefix_on w.agreed w.shared (code_of y) w.within (prefix_on w.shared at_fork.shared (code_of y) keyed.0 (below_here y seen))
 
-  -- a code that has its end bit here is no longer
-  ends_here : (k sh : List Bool) (j : ℕ) → length sh ≡ 2 * j → IsPrefix (sh ++ false ∷ []) (code_of k) → length k ≡ j
-  ends_here k sh j even p =
-      let bit : get_or (code_of k) (length sh) false ≡ false = prefix_bit sh false (code_of k) p in
-      let at : get_or (code_of k) (length sh) false ≡ nat_lt j (length k) = ap (λ w. get_or (code_of k) w false) even ∙ code_even k j in
-      let no : nat_lt j (length k) ≡ false = sym at ∙ bit in
-      let le : length k ≤ j = grind (arith, nat_tests) in
-      omega (arith, prefix_length (sh ++ false ∷ []) (code_of k) p, length-append sh (false ∷ []), code_length k)
+    both : (k : List Bool) → numbers_of k (pairs_of w.here) ≡ numbers_of k (pairs_of at_fork.left) ++ numbers_of k (pairs_of at_fork.right)
+    both k = ap (λ s. numbers_of k (pairs_of s)) at_fork.shape ∙ numbers_append k (pairs_of at_fork.left) (pairs_of at_fork.right)
 
-  prefix_whole : (p q : List Bool) → IsPrefix p q → length p ≡ length q → q ≡ p
-  prefix_whole p q (rest, e) same = by rest e
-    where
-      by : (rest : List Bool) → q ≡ p ++ rest → q ≡ p
-      by [] e = e ∙ append-nil p
-      by (b ∷ rest) e = absurd (omega (arith, ap length e, length-append p (b ∷ rest)))
+    on_left_only : (k : List Bool) → (IsPrefix (at_fork.shared ++ true ∷ []) (code_of k) → ⊥) → numbers_of k (pairs_of w.here) ≡ numbers_of k (pairs_of at_fork.left)
+    on_left_only k off =
+        both k ∙ ap (λ l. numbers_of k (pairs_of at_fork.left) ++ l) (none_below (at_fork.shared ++ true ∷ []) at_fork.right k keyed.2 off)
+        ∙ append-nil (numbers_of k (pairs_of at_fork.left))
 
-  module _ (id depth : ℕ) (best : Option ℕ) (w : IsOnWay (Branch id) depth best) (y : List Bool) (b : Fork) (a : AtFork f g at_root pairs x w.up id depth w.reach y b) (found : None ≡ split_before_of b.bit (split_of x y)) where
-    limit_is : b.bit ≡ length a.branch.shared
-    limit_is = ap (λ (v : Fork). v.bit) a.is
+    on_right_only : (k : List Bool) → (IsPrefix (at_fork.shared ++ false ∷ []) (code_of k) → ⊥) → numbers_of k (pairs_of w.here) ≡ numbers_of k (pairs_of at_fork.right)
+    on_right_only k off =
+        both k ∙ ap (λ l. l ++ numbers_of k (pairs_of at_fork.right)) (none_below (at_fork.shared ++ false ∷ []) at_fork.left k keyed.1 off)
 
-    both_none : (m : ℕ) (right : Bool) → m ≤ length x → IsPrefix (a.branch.shared ++ right ∷ []) (code_of x) → ((length a.branch.shared ≡ 2 * m) × (right ≡ true) → ⊥) → numbers_of (take m x) (pairs_of w.reach.here) ≡ numbers_of (take m x) (pairs_of (side_shape f g at_root pairs x right a.branch.left a.branch.right))
-    both_none m false le leads apart =
-        ap (λ s. numbers_of (take m x) (pairs_of s)) a.branch.shape ∙ numbers_append (take m x) (pairs_of a.branch.left) (pairs_of a.branch.right)
-        ∙ ap (λ l. numbers_of (take m x) (pairs_of a.branch.left) ++ l) (none_below (a.branch.shared ++ true ∷ []) a.branch.right (take m x) a.keyed.2 (λ q. apart (other_side m a.branch.shared false le leads q)))
-        ∙ append-nil (numbers_of (take m x) (pairs_of a.branch.left))
-    both_none m true le leads apart =
-        ap (λ s. numbers_of (take m x) (pairs_of s)) a.branch.shape ∙ numbers_append (take m x) (pairs_of a.branch.left) (pairs_of a.branch.right)
-        ∙ ap (λ l. l ++ numbers_of (take m x) (pairs_of a.branch.right)) (none_below (a.branch.shared ++ false ∷ []) a.branch.left (take m x) a.keyed.1 (λ q. apart (other_side m a.branch.shared true le leads q)))
+    none_here : (k : List Bool) → ((c : Bool) → IsPrefix (at_fork.shared ++ c ∷ []) (code_of k) → ⊥) → numbers_of k (pairs_of w.here) ≡ []
+    none_here k off =
+        on_right_only k (off false) ∙ none_below (at_fork.shared ++ true ∷ []) at_fork.right k keyed.2 (off true)
 
-    -- the best stays as it is
-    keep_way : (right : Bool) → right ≡ get_or (code_of x) b.bit false → ((m : ℕ) → (length a.branch.shared ≡ 2 * m) × (right ≡ true) → ⊥) → IsOnWay (side_of right b) (b.bit + 1) best
-    keep_way right right_is apart =
-        let st = step_down f g at_root pairs x w.up id depth w.reach y b a found right right_is in
-        let leads = subst (λ p. IsPrefix p (code_of x)) st.shared_is st.reach.leads in
+    -- the key ends above the fork
+    pub end_at_short : 2 * length x < b.bit → IsLongestOrNone pairs x best
+    end_at_short short =
+        nothing_more (Branch id) depth checked best w (λ m ge le.
+        none_here (take m x) (λ c q. absurd (omega (arith, limit, prefix_length (at_fork.shared ++ c ∷ []) (code_of (take m x)) q, length-append at_fork.shared (c ∷ []), code_length (take m x), (taken_prefix m x le).1))))
+
+    -- a fork whose codes part from the key's has no prefix of it
+    pub end_at_split : (y : List Bool) → key_in f id ≡ Some y → (bit : ℕ) → Some bit ≡ split_before_of b.bit (split_of x y) → IsLongestOrNone pairs x best
+    end_at_split y seen bit found =
+        nothing_more (Branch id) depth checked best w (λ m ge le. none_here (take m x) (off m le))
+      where
+        s : (split_of x y ≡ Some bit) × (bit < b.bit)
+        s = before_some b.bit bit (split_of x y) found
+
+        p : (right : Bool) × Parts x y bit right
+        p = split_parts x y bit s.0
+
+        off : (m : ℕ) → m ≤ length x → (c : Bool) → IsPrefix (at_fork.shared ++ c ∷ []) (code_of (take m x)) → ⊥
+        off m le c q =
+            let t = taken_prefix m x le in
+            let short : length at_fork.shared ≤ 2 * length (take m x) = omega (arith, prefix_length (at_fork.shared ++ c ∷ []) (code_of (take m x)) q, length-append at_fork.shared (c ∷ []), code_length (take m x)) in
+            let whole : IsPrefix at_fork.shared (code_of x) = code_agrees (take m x) x at_fork.shared t.0 (prefix_under at_fork.shared c (code_of (take m x)) q) short in
+            prefix_clash p.1.shared p.0 (code_of x) p.1.first
+            (prefix_on (p.1.shared ++ not p.0 ∷ []) at_fork.shared (code_of x) (parts_in x y bit p.0 at_fork.shared p.1 (below_here y seen) (omega (arith, s.1, limit))) whole)
+
+    -- the code goes on as the fork's does
+    agrees : (y : List Bool) → key_in f id ≡ Some y → None ≡ split_before_of b.bit (split_of x y) → IsPrefix at_fork.shared (code_of x)
+    agrees y seen found = by (before_none b.bit (split_of x y) found)
+      where
+        by : (split_of x y ≡ None) ⊎ ((at : ℕ) × (split_of x y ≡ Some at) × (b.bit ≤ at)) → IsPrefix at_fork.shared (code_of x)
+        by (inl e) = subst (λ k. IsPrefix at_fork.shared (code_of k)) (sym (split_same x y e)) (below_here y seen)
+        by (inr e) = let p = split_parts x y e.0 e.1 in
+            parts_past x y e.0 p.0 at_fork.shared p.1 (below_here y seen) (omega (arith, limit, e.2))
+
+    -- where one key ends, no other goes on to the left
+    even_left : (j h : ℕ) → b.bit ≡ 2 * j → b.left ≡ Branch h → ⊥
+    even_left j h even to_fork =
+        let l = fork_here f g (left_of id) at_fork.left h (subst (HangsAt f g (left_of id) at_fork.left) to_fork left_hangs) in
+        let down : IsKeyed (at_fork.shared ++ false ∷ []) (fork h l.shared l.left l.right) = subst (IsKeyed (at_fork.shared ++ false ∷ [])) l.shape keyed.1 in
+        let k = some_key (l.shared ++ false ∷ []) l.left down.1 in
+        let under = prefix_on (at_fork.shared ++ false ∷ []) l.shared (code_of k.0) down.0 (prefix_under l.shared false (code_of k.0) k.1) in
+        let ended = ends_here k.0 at_fork.shared j (sym limit ∙ even) under in
+        absurd (omega (arith, ended, even, limit, code_length k.0, prefix_length (l.shared ++ false ∷ []) (code_of k.0) k.1, prefix_length (at_fork.shared ++ false ∷ []) l.shared down.0, length-append l.shared (false ∷ []), length-append at_fork.shared (false ∷ [])))
+
+    only_left : (k : List Bool) → IsPrefix (at_fork.shared ++ false ∷ []) (code_of k) → numbers_of k pairs ≡ numbers_of k (pairs_of at_fork.left)
+    only_left k p =
+        w.only k (prefix_on w.shared at_fork.shared (code_of k) keyed.0 (prefix_under at_fork.shared false (code_of k) p))
+        ∙ on_left_only k (λ q. prefix_clash at_fork.shared false (code_of k) p q)
+
+    only_right : (k : List Bool) → IsPrefix (at_fork.shared ++ true ∷ []) (code_of k) → numbers_of k pairs ≡ numbers_of k (pairs_of at_fork.right)
+    only_right k p =
+        w.only k (prefix_on w.shared at_fork.shared (code_of k) keyed.0 (prefix_under at_fork.shared true (code_of k) p))
+        ∙ on_right_only k (λ q. prefix_clash at_fork.shared true (code_of k) p q)
+
+    go_left : false ≡ get_or (code_of x) b.bit false → IsOnWay b.left (b.bit + 1) checked best
+    go_left e =
+        let side_is : false ≡ get_or (code_of x) (length at_fork.shared) false = e ∙ ap (λ k. get_or (code_of x) k false) limit in
         record {
-          up = Some (record { node = id; right = right });
-          reach = st.reach;
+          up = left_of id;
+          here = at_fork.left;
+          shared = at_fork.shared ++ false ∷ [];
+          hangs = left_hangs;
+          keyed = keyed.1;
+          above = above.1;
+          deep = omega (arith, limit, length-append at_fork.shared (false ∷ []));
+          agreed = w.agreed;
+          long = w.long;
+          within = prefix_on w.agreed w.shared (at_fork.shared ++ false ∷ []) w.within (prefix_on w.shared at_fork.shared (at_fork.shared ++ false ∷ []) keyed.0 (prefix_more at_fork.shared (false ∷ [])));
+          leads = w.leads;
           least = w.least;
           best_is = w.best_is;
-          later = λ m ge le. w.later m ge le ∙ both_none m right le leads (apart m) ∙ ap (λ s. numbers_of (take m x) (pairs_of s)) (sym st.here_is);
-          deep = λ k p. w.deep k (prefix_on (hole_shared w.reach.context) a.branch.shared (code_of k) a.keyed.0 (prefix_under a.branch.shared right (code_of k) (subst (λ q. IsPrefix q (code_of k)) st.shared_is p)));
+          later = λ m ge le. w.later m ge le ∙ on_left_only (take m x) (λ q. true≢false (sym (other_side x m at_fork.shared false le side_is q).1));
+          low = λ k p. w.low k (prefix_on w.shared at_fork.shared (code_of k) keyed.0 (prefix_under at_fork.shared false (code_of k) p));
+          only = only_left;
         }
 
+    go_right : true ≡ get_or (code_of x) b.bit false → ((m : ℕ) → length at_fork.shared ≡ 2 * m → ⊥) → IsOnWay b.right (b.bit + 1) checked best
+    go_right e odd =
+        let side_is : true ≡ get_or (code_of x) (length at_fork.shared) false = e ∙ ap (λ k. get_or (code_of x) k false) limit in
+        record {
+          up = right_of id;
+          here = at_fork.right;
+          shared = at_fork.shared ++ true ∷ [];
+          hangs = right_hangs;
+          keyed = keyed.2;
+          above = above.2;
+          deep = omega (arith, limit, length-append at_fork.shared (true ∷ []));
+          agreed = w.agreed;
+          long = w.long;
+          within = prefix_on w.agreed w.shared (at_fork.shared ++ true ∷ []) w.within (prefix_on w.shared at_fork.shared (at_fork.shared ++ true ∷ []) keyed.0 (prefix_more at_fork.shared (true ∷ [])));
+          leads = w.leads;
+          least = w.least;
+          best_is = w.best_is;
+          later = λ m ge le. w.later m ge le ∙ on_right_only (take m x) (λ q. odd m (other_side x m at_fork.shared true le side_is q).0);
+          low = λ k p. w.low k (prefix_on w.shared at_fork.shared (code_of k) keyed.0 (prefix_under at_fork.shared true (code_of k) p));
+          only = only_right;
+        }
+
+    -- no key ends here, so the best stays as it is
+    pub step_way : (right : Bool) → right ≡ get_or (code_of x) b.bit false → ending_of right b ≡ None → IsOnWay (side_of right b) (b.bit + 1) checked best
+    step_way false e none = go_left e
+    step_way true e none = by (b.bit % 2 == 0) refl none
+      where
+        by_left : (d : Down) → d ≡ b.left → (j : ℕ) → b.bit ≡ 2 * j → leaf_number d ≡ None → IsOnWay b.right (b.bit + 1) checked best
+        by_left (Leaf front) d_is j even none' = cc
+        by_left (Branch h) d_is j even none' = absurd (even_left j h even (sym d_is))
+
+        by : (even : Bool) → (b.bit % 2 == 0) ≡ even → (cond even (leaf_number b.left) None) ≡ None → IsOnWay b.right (b.bit + 1) checked best
+        by true is_even none' =
+            let zero_is : b.bit % 2 ≡ 0 = grind (arith, nat_tests) in
+            by_left b.left refl (b.bit / 2) (omega (arith, zero_is)) none'
+        by false is_odd none' =
+            let other : b.bit % 2 ≢ 0 = grind (arith, nat_tests) in
+            go_right e (λ m q. other (omega (arith, q, limit)))
+
     -- a key that ends here is the best
-    raise_way : true ≡ get_or (code_of x) b.bit false → (j : ℕ) → b.bit ≡ 2 * j → (l : Shape) → a.branch.left ≡ l → IsKeyed (a.branch.shared ++ false ∷ []) l → HangsAt f g (left_of id) l a.branch.to_left → IsOnWay b.right (b.bit + 1) (left_leaf b.left best)
-    raise_way right_is j even (fork h sh s r) e keyed at =
-        let k = some_key (sh ++ false ∷ []) s keyed.1 in
-        let under : IsPrefix (a.branch.shared ++ false ∷ []) (code_of k.0) = prefix_on (a.branch.shared ++ false ∷ []) sh (code_of k.0) keyed.0 (prefix_under sh false (code_of k.0) k.1) in
-        let long = ends_here k.0 a.branch.shared j (sym limit_is ∙ even) under in
-        absurd (omega (arith, long, even, limit_is, code_length k.0, prefix_length (sh ++ false ∷ []) (code_of k.0) k.1, prefix_length (a.branch.shared ++ false ∷ []) sh keyed.0, length-append sh (false ∷ []), length-append a.branch.shared (false ∷ [])))
-    raise_way right_is j even (leaf key front more) e keyed at =
-        let st = step_down f g at_root pairs x w.up id depth w.reach y b a found true right_is in
-        let leads = subst (λ p. IsPrefix p (code_of x)) st.shared_is st.reach.leads in
-        let at_even : length a.branch.shared ≡ 2 * j = sym limit_is ∙ even in
-        let long : length key ≡ j = ends_here key a.branch.shared j at_even keyed in
-        let code : code_of key ≡ a.branch.shared ++ false ∷ [] = prefix_whole (a.branch.shared ++ false ∷ []) (code_of key) keyed (omega (arith, length-append a.branch.shared (false ∷ []), code_length key, at_even, long)) in
-        let prefix = code_cut key x a.branch.shared (prefix_under a.branch.shared true (code_of x) leads) code in
-        let taken = prefix_taken key x prefix in
-        let same : take j x ≡ key = ap (λ n. take n x) (sym long) ∙ sym taken.0 in
-        let to_front : b.left ≡ Leaf front = ap (λ (v : Fork). v.left) a.is ∙ at.points in
-        let hole : IsPrefix (hole_shared w.reach.context) (code_of key) = prefix_on (hole_shared w.reach.context) a.branch.shared (code_of key) a.keyed.0 (prefix_under a.branch.shared false (code_of key) keyed) in
-        subst (λ d. IsOnWay b.right (b.bit + 1) (left_leaf d best)) (sym to_front) (record {
-          up = Some (record { node = id; right = true });
-          reach = st.reach;
+    raise_way : (j front : ℕ) → true ≡ get_or (code_of x) b.bit false → b.bit ≡ 2 * j → b.bit < 2 * length x + 1 → b.left ≡ Leaf front → IsPrefix at_fork.shared (code_of x) → IsOnWay b.right (b.bit + 1) (b.bit + 1) (Some front)
+    raise_way j front e even within_x to_front whole =
+        let side_is : true ≡ get_or (code_of x) (length at_fork.shared) false = e ∙ ap (λ k. get_or (code_of x) k false) limit in
+        let at_even : length at_fork.shared ≡ 2 * j = sym limit ∙ even in
+        let l = leaf_here f g (left_of id) at_fork.left front (subst (HangsAt f g (left_of id) at_fork.left) to_front left_hangs) in
+        let key_keyed : IsPrefix (at_fork.shared ++ false ∷ []) (code_of l.key) = (let k : IsKeyed (at_fork.shared ++ false ∷ []) (leaf l.key front l.more) = subst (IsKeyed (at_fork.shared ++ false ∷ [])) l.shape keyed.1 in k) in
+        let key_long : length l.key ≡ j = ends_here l.key at_fork.shared j at_even key_keyed in
+        let code : code_of l.key ≡ at_fork.shared ++ false ∷ [] = prefix_whole (at_fork.shared ++ false ∷ []) (code_of l.key) key_keyed (omega (arith, length-append at_fork.shared (false ∷ []), code_length l.key, at_even, key_long)) in
+        let prefix = code_cut l.key x at_fork.shared whole code in
+        let taken = prefix_taken l.key x prefix in
+        let same : take j x ≡ l.key = ap (λ n. take n x) (sym key_long) ∙ sym taken.0 in
+        let next : IsPrefix (at_fork.shared ++ true ∷ []) (code_of x) = subst (λ c. IsPrefix (at_fork.shared ++ c ∷ []) (code_of x)) (sym side_is) (prefix_next at_fork.shared (code_of x) whole (omega (arith, limit, code_length x))) in
+        record {
+          up = right_of id;
+          here = at_fork.right;
+          shared = at_fork.shared ++ true ∷ [];
+          hangs = right_hangs;
+          keyed = keyed.2;
+          above = above.2;
+          deep = omega (arith, limit, length-append at_fork.shared (true ∷ []));
+          agreed = at_fork.shared ++ true ∷ [];
+          long = omega (arith, limit, length-append at_fork.shared (true ∷ []));
+          within = prefix_self (at_fork.shared ++ true ∷ []);
+          leads = next;
           least = suc j;
           best_is = (
             j,
             refl,
-            omega (arith, taken.1, long),
+            omega (arith, taken.1, key_long),
             ap (λ k. first_or (numbers_of k pairs) None) same
-                ∙ ap (λ l. first_or l None) (in_hole (Branch id) depth best w key hole ∙ ap (λ s. numbers_of key (pairs_of s)) a.branch.shape ∙ numbers_append key (pairs_of a.branch.left) (pairs_of a.branch.right)
-                ∙ ap (λ s. numbers_of key (pairs_of s) ++ numbers_of key (pairs_of a.branch.right)) e
-                ∙ ap (λ l. l ++ numbers_of key (pairs_of a.branch.right)) (numbers_with key (front ∷ more))),
+                ∙ ap (λ l'. first_or l' None) (only_left l.key key_keyed ∙ ap (λ s. numbers_of l.key (pairs_of s)) l.shape ∙ numbers_with l.key (front ∷ l.more)),
           );
           later = λ m ge le.
               let t = taken_prefix m x le in
-              let within : w.least ≤ m = omega (arith, t.1, w.deep (take m x) (code_taken m x (hole_shared w.reach.context) le w.reach.leads (omega (arith, prefix_length (hole_shared w.reach.context) a.branch.shared a.keyed.0, at_even)))) in
-              w.later m within le ∙ both_none m true le leads (λ q. omega (arith, q.0, at_even)) ∙ ap (λ s. numbers_of (take m x) (pairs_of s)) (sym st.here_is);
-          deep = λ k p.
-              let bit : get_or (code_of k) (length a.branch.shared) false ≡ true = prefix_bit a.branch.shared true (code_of k) (subst (λ q. IsPrefix q (code_of k)) st.shared_is p) in
+              let lower : w.least ≤ m = omega (arith, t.1, w.low (take m x) (code_taken m x w.shared le (prefix_on w.shared at_fork.shared (code_of x) keyed.0 whole) (omega (arith, prefix_length w.shared at_fork.shared keyed.0, at_even)))) in
+              w.later m lower le ∙ on_right_only (take m x) (λ q. let s = other_side x m at_fork.shared true le side_is q in omega (arith, s.0, at_even));
+          low = λ k p.
+              let bit : get_or (code_of k) (length at_fork.shared) false ≡ true = prefix_bit at_fork.shared true (code_of k) p in
               let more_bits : nat_lt j (length k) ≡ true = sym (ap (λ n. get_or (code_of k) n false) at_even ∙ code_even k j) ∙ bit in
               grind (arith, nat_tests);
-        })
+          only = only_right;
+        }
 
+    pub step_past_key : (right : Bool) (front : ℕ) → right ≡ get_or (code_of x) b.bit false → ending_of right b ≡ Some front → b.bit < 2 * length x + 1 → (y : List Bool) → key_in f id ≡ Some y → None ≡ split_before_of b.bit (split_of x y) → IsOnWay b.right (b.bit + 1) (b.bit + 1) (Some front)
+    step_past_key false front e ends within_x y seen found = cc
+    step_past_key true front e ends within_x y seen found = by (b.bit % 2 == 0) refl ends
+      where
+        left_is : (d : Down) → leaf_number d ≡ Some front → d ≡ Leaf front
+        left_is (Leaf h) some = let same : h ≡ front = cc in ap Leaf same
+        left_is (Branch h) some = cc
+
+        by : (even : Bool) → (b.bit % 2 == 0) ≡ even → cond even (leaf_number b.left) None ≡ Some front → IsOnWay b.right (b.bit + 1) (b.bit + 1) (Some front)
+        by true is_even some =
+            let zero_is : b.bit % 2 ≡ 0 = grind (arith, nat_tests) in
+            raise_way (b.bit / 2) front e (omega (arith, zero_is)) within_x (left_is b.left some) (agrees y seen found)
+        by false is_odd some = cc
+
+module _ (f : Leaves) (g : Forks) (at_root : Option Down) (pairs : KeyList) (x : List Bool) where
   -- the search begins at the root
-  begins_empty : (p q : List Bool) → 0 ≡ length p → IsPrefix p q
-  begins_empty [] q e = (q, refl)
-  begins_empty (b ∷ p) q e = absurd (omega arith)
-
-  pub way_start : (shape : Option Shape) (down : Down) → at_root ≡ Some down → StandsAs f g at_root shape pairs → IsOnWay down 0 None
-  way_start shape down e stands =
-      let r = reach_root f g at_root pairs x shape down e stands in
+  pub way_start : (shape : Option Shape) (down : Down) → at_root ≡ Some down → StandsAs f g at_root shape pairs → IsOnWay f g pairs x down 0 0 None
+  way_start None down e stands = let none = stands.hangs in cc
+  way_start (Some s) down e stands =
+      let root_is = stands.hangs.1 in let same : stands.hangs.0 ≡ down = cc in
       record {
         up = None;
-        reach = r;
+        here = s;
+        shared = [];
+        hangs = subst (HangsAt f g None s) same stands.hangs.2;
+        keyed = stands.sound.keyed;
+        above = stands.sound.above;
+        deep = refl;
+        agreed = [];
+        long = refl;
+        within = prefix_none [];
+        leads = prefix_none (code_of x);
         least = 0;
         best_is = refl;
-        later = λ m _ _. r.hole.stands.same (take m x) ∙ numbers_in_hole r.context r.here (take m x) r.hole.stands.sound.keyed (begins_empty (hole_shared r.context) (code_of (take m x)) r.deep);
-        deep = λ k _. omega arith;
+        later = λ m _ _. stands.same (take m x);
+        low = λ k _. omega arith;
+        only = λ k _. stands.same k;
       }
 
   -- an empty tree has no prefix of the key
   pub way_none : (shape : Option Shape) → at_root ≡ None → StandsAs f g at_root shape pairs → IsLongestOrNone pairs x None
   way_none shape e stands m le = (seat_at_root f g at_root pairs x shape e stands).same (take m x)
 
-  -- the search goes to a side of a fork
-  pub step_way : (id depth : ℕ) (best : Option ℕ) (w : IsOnWay (Branch id) depth best) (y : List Bool) (b : Fork) (a : AtFork f g at_root pairs x w.up id depth w.reach y b) → None ≡ split_before_of b.bit (split_of x y) → (right : Bool) → right ≡ get_or (code_of x) b.bit false → IsOnWay (side_of right b) (b.bit + 1) (better_of right b best)
-  step_way id depth best w y b a found right right_is = by right right_is
-    where
-      limit : b.bit ≡ length a.branch.shared
-      limit = ap (λ (v : Fork). v.bit) a.is
-
-      at_side : (even : Bool) → (b.bit % 2 == 0) ≡ even → true ≡ get_or (code_of x) b.bit false → IsOnWay b.right (b.bit + 1) (cond even (left_leaf b.left best) best)
-      at_side true is taken =
-          let zero_is : b.bit % 2 ≡ 0 = grind (arith, nat_tests) in
-          raise_way id depth best w y b a found taken (b.bit / 2) (omega (arith, zero_is)) a.branch.left refl a.keyed.1 a.branch.hangs_left
-      at_side false is taken =
-          let other : b.bit % 2 ≢ 0 = grind (arith, nat_tests) in
-          keep_way id depth best w y b a found true taken (λ m q. other (omega (arith, q.0, limit)))
-
-      by : (side : Bool) → side ≡ get_or (code_of x) b.bit false → IsOnWay (side_of side b) (b.bit + 1) (better_of side b best)
-      by false taken = keep_way id depth best w y b a found false taken (λ m q. true≢false (sym q.1))
-      by true taken = at_side (b.bit % 2 == 0) refl taken
+-- what was compared, the key of a leaf begins with
+pub leaf_agreed : (f : Leaves) (g : Forks) (pairs : KeyList) (x : List Bool) (id depth checked : ℕ) (best : Option ℕ) (w : IsOnWay f g pairs x (Leaf id) depth checked best) (y : List Bool) → key_in f id ≡ Some y → IsPrefix w.agreed (code_of y)
+leaf_agreed f g pairs x id depth checked best w y seen =
+    let h = leaf_here f g w.up w.here id w.hangs in
+    let keyed : IsKeyed w.shared (leaf h.key id h.more) = subst (IsKeyed w.shared) h.shape w.keyed in
+    let some : Some h.key ≡ Some y = sym h.seen ∙ seen in
+    let same : h.key ≡ y = cc in
+    subst (λ k. IsPrefix w.agreed (code_of k)) same (prefix_on w.agreed w.shared (code_of h.key) w.within keyed)

@@ -64,7 +64,7 @@ after_by : (limit at : ℕ) (b : Bool) → nat_lt at limit ≡ b → None ≡ co
 after_by limit at true e f = cc
 after_by limit at false e f = grind (arith, nat_tests)
 
-before_none : (limit : ℕ) (o : Option ℕ) → None ≡ split_before_of limit o → (o ≡ None) ⊎ ((at : ℕ) × (o ≡ Some at) × (limit ≤ at))
+pub before_none : (limit : ℕ) (o : Option ℕ) → None ≡ split_before_of limit o → (o ≡ None) ⊎ ((at : ℕ) × (o ≡ Some at) × (limit ≤ at))
 before_none limit None e = inl refl
 before_none limit (Some at) e = inr (at, refl, after_by limit at (nat_lt at limit) refl e)
 
@@ -77,6 +77,20 @@ module _ (f : Leaves) (g : Forks) where
     | inl a ↦ let w = front_keyed (sh ++ false ∷ []) (left_of h) l at.0 k keyed.1 at.3 a in (w.0, w.1, prefix_on p sh (code_of w.0) keyed.0 (prefix_under sh false (code_of w.0) w.2))
     | inr b ↦ let w = front_keyed (sh ++ true ∷ []) (right_of h) r at.1 k keyed.2 at.4 b in (w.0, w.1, prefix_on p sh (code_of w.0) keyed.0 (prefix_under sh true (code_of w.0) w.2))
   ]
+
+  -- the key of the node that holds a branch is below it
+  pub below_fork : (id : ℕ) (sh : List Bool) (l r : Shape) (to_left to_right : Down) (y : List Bool) → key_in f id ≡ Some y → IsIn id (fronts l ++ fronts r) → IsKeyed (sh ++ false ∷ []) l → IsKeyed (sh ++ true ∷ []) r → HangsAt f g (left_of id) l to_left → HangsAt f g (right_of id) r to_right → (c : Bool) × IsPrefix (sh ++ c ∷ []) (code_of y)
+  below_fork id sh l r to_left to_right y seen there on_l on_r l_hangs r_hangs = by (in_either (fronts l) (fronts r) id there)
+    where
+      by : IsIn id (fronts l) ⊎ IsIn id (fronts r) → (c : Bool) × IsPrefix (sh ++ c ∷ []) (code_of y)
+      by (inl q) =
+          let w = front_keyed (sh ++ false ∷ []) (left_of id) l to_left id on_l l_hangs q in
+          let a = w.1 in let same : w.0 ≡ y = cc in
+          (false, subst (λ k. IsPrefix (sh ++ false ∷ []) (code_of k)) same w.2)
+      by (inr q) =
+          let w = front_keyed (sh ++ true ∷ []) (right_of id) r to_right id on_r r_hangs q in
+          let a = w.1 in let same : w.0 ≡ y = cc in
+          (true, subst (λ k. IsPrefix (sh ++ true ∷ []) (code_of k)) same w.2)
 
   -- what a shape is, by what points to it
   pub record IsLeafHere (s : Shape) (id : ℕ) : Type 0 where
@@ -169,7 +183,7 @@ module _ (f : Leaves) (g : Forks) where
         let keyed : IsKeyed (hole_shared r.context) (fork id br.shared br.left br.right) = keyed_hole r.context (fork id br.shared br.left br.right) hole_is.stands.sound.keyed in
         let above = above_hole r.context (fork id br.shared br.left br.right) hole_is.stands.sound.above in
         let is : b ≡ record { bit = length br.shared; left = br.to_left; right = br.to_right; up = hole_up r.context } = some_same (sym here ∙ br.here) in
-        let deeper = below_fork br (in_either (fronts br.left) (fronts br.right) id above.0) keyed in
+        let deeper = below_fork id br.shared br.left br.right br.to_left br.to_right y seen above.0 keyed.1 keyed.2 br.hangs_left br.hangs_right in
         record {
           branch = br;
           is = is;
@@ -181,16 +195,6 @@ module _ (f : Leaves) (g : Forks) where
       where
         some_same : {A : Type 0} {a b : A} → Some a ≡ Some b → a ≡ b
         some_same e = cc
-
-        below_fork : (br : IsForkHere r.here (hole_up r.context) id) → IsIn id (fronts br.left) ⊎ IsIn id (fronts br.right) → IsKeyed (hole_shared r.context) (fork id br.shared br.left br.right) → (c : Bool) × IsPrefix (br.shared ++ c ∷ []) (code_of y)
-        below_fork br (inl q) keyed =
-            let w = front_keyed (br.shared ++ false ∷ []) (left_of id) br.left br.to_left id keyed.1 br.hangs_left q in
-            let a = w.1 in let same : w.0 ≡ y = cc in
-            (false, subst (λ k. IsPrefix (br.shared ++ false ∷ []) (code_of k)) same w.2)
-        below_fork br (inr q) keyed =
-            let w = front_keyed (br.shared ++ true ∷ []) (right_of id) br.right br.to_right id keyed.2 br.hangs_right q in
-            let a = w.1 in let same : w.0 ≡ y = cc in
-            (true, subst (λ k. IsPrefix (br.shared ++ true ∷ []) (code_of k)) same w.2)
 
     pub seat_at_fork : (up : Option Up) (id depth : ℕ) (r : Reaches f g at_root pairs x up (Branch id) depth) (y : List Bool) (b : Fork) → AtFork up id depth r y b → (bit : ℕ) → Some bit ≡ split_before_of b.bit (split_of x y) → (right : Bool) → right ≡ get_or (code_of x) bit false → IsSeat f g at_root pairs x (Some (Beside (Branch id) up bit right))
     seat_at_fork up id depth r y b a bit found right right_is =

@@ -1,4 +1,5 @@
 pub mod Bits
+pub mod KeyBytes
 pub mod KeyList
 pub mod Node
 pub mod Shape

@@ -81,15 +81,16 @@ pub record IsOnWayTo (f : Leaves) (g : Forks) (pairs : KeyList) (key : List Bool
   pub deep : depth ≡ length shared
   pub same : numbers_of key pairs ≡ numbers_of key (pairs_of here)
 
--- the number of a leaf that is on the left, or the best so far
-abbrev pub left_leaf : Down → Option ℕ → Option ℕ
-left_leaf (Leaf id) best = Some id
-left_leaf (Branch h) best = best
+-- the number of a leaf, or none where a branch is
+abbrev pub leaf_number : Down → Option ℕ
+leaf_number (Leaf id) = Some id
+leaf_number (Branch h) = None
 
--- the best once the search goes to this side of a branch
-abbrev pub better_of : Bool → Fork → Option ℕ → Option ℕ
-better_of false b best = best
-better_of true b best = if b.bit % 2 == 0 then left_leaf b.left best else best
+-- the number of the leaf whose key ends at a branch, where the search passes it: it goes to this
+-- side, and the leaf is on the other
+abbrev pub ending_of : Bool → Fork → Option ℕ
+ending_of false b = None
+ending_of true b = if b.bit % 2 == 0 then leaf_number b.left else None
 
 -- the best at a leaf, whose key is this long, by where its code parts from the key's
 abbrev pub leaf_longest_of : ℕ → ℕ → Option ℕ → Option ℕ → Option ℕ

@@ -1,6 +1,7 @@
 ghost use Rattle.std.specs.Prelude.{◌≡◌, ◌*◌, ◌^◌, ◌<◌, ◌≤◌, IfOk, length};
 ghost use Rattle.hx_ebtree.specs.Bits.{bits_of};
 
+use crate::key_bytes::KeyBytes;
 use hx_text::NoMemory;
 use std::alloc::Global;
 use std::marker::Model;
@@ -12,24 +13,25 @@ const TOO_MANY_BITS: usize = 0x4000_0000_0000_0000;
 /// A key of bits. Contracts see the list of its bits.
 #[derive(Debug, Drop)]
 pub struct BitKey {
-    bytes: Vec<u8>,
+    bytes: KeyBytes,
     bits: usize,
 }
 
 impl Model for BitKey {
     ghost use Rattle.std.specs.Prelude.{List, Bool};
     ghost use Rattle.hx_ebtree.specs.Bits.{bits_of, IsKey};
+    ghost use Rattle.hx_ebtree.specs.KeyBytes.{kept_bytes};
 
     ghost Value = { List Bool };
 
-    ghost view = { λ key. bits_of key.bytes.items key.bits };
+    ghost view = { λ key. bits_of (kept_bytes key.bytes) key.bits };
 
-    ghost invariant = { λ key. IsKey key.bytes.items key.bits };
+    ghost invariant = { λ key. IsKey (kept_bytes key.bytes) key.bits };
 }
 
 impl BitKey {
-    /// The first `bits` bits of `bytes`, the highest bit of each byte first, copied into memory of
-    /// `alloc`.
+    /// The first `bits` bits of `bytes`, the highest bit of each byte first, copied; many
+    /// bytes into memory of `alloc`.
     pub fn new(alloc: Global, bytes: &[u8], bits: usize) -> Result<BitKey, NoMemory>
         requires { bits ≤ 8 * length bytes.now }
         ensures { IfOk result (λ key. key ≡ bits_of bytes.now bits) }
@@ -38,7 +40,7 @@ impl BitKey {
             return Err(NoMemory);
         }
         Ok(BitKey {
-            bytes: Vec::from_slice(alloc, bytes)?,
+            bytes: KeyBytes::copy(alloc, bytes)?,
             bits,
         })
     }

@@ -7,6 +7,7 @@ mod chain_tests;
 mod exact;
 mod insert;
 mod key;
+mod key_bytes;
 pub mod laws;
 mod longest;
 mod node;

@@ -3,7 +3,7 @@ ghost use Rattle.std.specs.Prelude.{◌≡◌, ◌+◌, ◌*◌, ◌≤◌, leng
 ghost use Rattle.hx_ebtree.specs.Bits.{bits_of};
 ghost use Rattle.hx_ebtree.specs.KeyList.{KeyList, longest_of};
 ghost use Rattle.hx_ebtree.specs.Tree.{leaves_of, forks_of, Stands};
-ghost use Rattle.hx_ebtree.specs.Seat.{side_of, better_of, leaf_longest_of};
+ghost use Rattle.hx_ebtree.specs.Seat.{side_of, ending_of, leaf_longest_of};
 
 use crate::bits::{code_bit, split, split_before};
 use crate::node::{Branch, Down, Node};
@@ -12,18 +12,18 @@ use crate::tree::Tree;
 use hx_pool::{Pool, Steps};
 use std::sync::ledger::Ledger;
 
-/// The best number so far, once the search goes to this side of a branch: where it goes right at a
-/// bit that says whether the key ends, the key that ends there is longer than any before.
-fn better(branch: &Branch, right: bool, best: Option<usize>) -> Option<usize>
-    ensures { result ≡ better_of right branch.now best }
+/// The leaf whose key ends at a branch, where the search passes it: it goes right at a bit that
+/// says whether the key ends, and the leaf is on the left.
+fn ending(branch: &Branch, right: bool) -> Option<usize>
+    ensures { result ≡ ending_of right branch.now }
 {
     if right && branch.bit % 2 == 0 {
         match branch.left {
             Down::Leaf(id) => Some(id),
-            Down::Branch(_) => best,
+            Down::Branch(_) => None,
         }
     } else {
-        best
+        None
     }
 }
 
@@ -63,39 +63,47 @@ impl Tree {
             Some(down) => down,
             None => return None,
         };
+        // A key is read where one that ends may be a prefix, and at the end. It is compared from
+        // the bit up to which the last one agreed.
         let mut best = None;
+        let mut checked = 0;
         let mut depth = 0;
         loop {
             match at {
                 Down::Leaf(id) => {
                     let node = pool.get(id, steps);
-                    let from = (depth / 2) as usize;
+                    let from = (checked / 2) as usize;
                     let found = split(node.key.bytes(), node.key.len(), key, bits, from);
                     return leaf_longest(id, node.key.len(), found, best);
                 }
                 Down::Branch(id) => {
                     let node = pool.get(id, steps);
-                    let branch = match node.branch {
+                    let branch = match &node.branch {
                         Some(branch) => branch,
                         None => unreachable!(),
                     };
                     let limit = u128::from(branch.bit);
-                    let from = (depth / 2) as usize;
-                    let found = split_before(
-                        key,
-                        bits,
-                        node.key.bytes(),
-                        node.key.len(),
-                        from,
-                        limit,
-                    );
-                    match found {
-                        Some(_) => return best,
+                    if limit > bits as u128 * 2 {
+                        return best;
+                    }
+                    let right = code_bit(key, bits, limit);
+                    match ending(branch, right) {
                         None => {
-                            let right = code_bit(key, bits, limit);
-                            best = better(&branch, right, best);
-                            at = side(&branch, right);
+                            at = side(branch, right);
                             depth = limit + 1;
+                        }
+                        Some(front) => {
+                            let (bytes, len) = (node.key.bytes(), node.key.len());
+                            let from = (checked / 2) as usize;
+                            match split_before(key, bits, bytes, len, from, limit) {
+                                Some(_) => return best,
+                                None => {
+                                    best = Some(front);
+                                    at = branch.right;
+                                    depth = limit + 1;
+                                    checked = depth;
+                                }
+                            }
                         }
                     }
                 }

@@ -17,3 +17,11 @@ invariant_of-self g c =
       without c.in-Some.id s.0,
       tree_updated c.pop_any.new.pool c.give-node.new.self c.pop_any.new.self (without c.in-Some.id s.0) c.in-Some.id None c.give-node.ensures.updates (gone_off c.in-Some.id s.0) p.1,
     )
+
+pub invariant_of-self-in-Some-2 : goal.invariant_of-self-in-Some-2
+invariant_of-self-in-Some-2 g c =
+    let s = c.self.invariant in
+    let p = c.pop_any.ensures.some s.0 c.in-Some.id s.1 c.in-Some.is in (
+      without c.in-Some.id s.0,
+      tree_updated c.pop_any.new.pool c.give-node.new.self c.pop_any.new.self (without c.in-Some.id s.0) c.in-Some.id None c.give-node.ensures.updates (gone_off c.in-Some.id s.0) p.1,
+    )

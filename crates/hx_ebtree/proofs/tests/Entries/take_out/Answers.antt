@@ -23,3 +23,11 @@ invariant_of-self g c =
       without c.in-Some.id s.0,
       tree_updated c.remove.new.pool c.give-node.new.self c.remove.new.self (without c.in-Some.id s.0) c.in-Some.id None c.give-node.ensures.updates (gone_off c.in-Some.id s.0) (c.remove.ensures.stands s.0 s.1 listed),
     )
+
+pub invariant_of-self-in-Some-2 : goal.invariant_of-self-in-Some-2
+invariant_of-self-in-Some-2 g c =
+    let s = c.self.invariant in
+    let listed = exact_listed s.0 (bits_of c.args.bytes.now c.args.bits) c.in-Some.id (sym (c.exact.ensures.found s.0 s.1) ∙ c.in-Some.is) in (
+      without c.in-Some.id s.0,
+      tree_updated c.remove.new.pool c.give-node.new.self c.remove.new.self (without c.in-Some.id s.0) c.in-Some.id None c.give-node.ensures.updates (gone_off c.in-Some.id s.0) (c.remove.ensures.stands s.0 s.1 listed),
+    )

@@ -6,7 +6,7 @@ use Rattle.hx_ebtree.specs.Tree.{leaves_of, forks_of}
 use Rattle.hx_ebtree.specs.Seat.{IsOnWayTo}
 use Rattle.hx_ebtree.proofs.BitLemmas.{bits_length}
 use Rattle.hx_ebtree.proofs.SeekLemmas.{key_seen, bits_seen, fork_seen}
-use Rattle.hx_ebtree.proofs.ExactLemmas.{way_to_root, none_at_root, exact_here, exact_nowhere, way_is_deeper, way_goes_on, key_ends_above, way_leaf_live, way_fork_live, way_fork_has}
+use Rattle.hx_ebtree.proofs.ExactLemmas.{way_to_root, none_at_root, exact_here, exact_nowhere, way_is_deeper, way_goes_on, key_ends_above, leaf_lives, fork_lives, fork_is_there}
 use Rattle.hx_ebtree.proofs.tree.Tree.exact.Goals as goal
 
 pub returns-in-None-clause-found : goal.returns-in-None-clause-found
@@ -24,7 +24,7 @@ pub get-node-requires : goal.get-node-requires
 get-node-requires g c =
     let s = c.requires.stands in
     let r : IsOnWayTo (leaves_of c.args.pool.now) (forks_of c.args.pool.now) s.0 (bits_of c.args.key.now c.args.bits) (Leaf c.in-Leaf.id) c.loop-at.depth = rw c.in-Leaf.is at (c.loop-at.invariant.reached s.0 s.1) in
-    way_leaf_live c.args.pool.now s.0 (bits_of c.args.key.now c.args.bits) c.in-Leaf.id c.loop-at.depth r
+    leaf_lives c.args.pool.now r.up r.here c.in-Leaf.id r.hangs
 
 pub returns-then-same_key-clause-found : goal.returns-then-same_key-clause-found
 returns-then-same_key-clause-found g c pairs stands =
@@ -44,13 +44,13 @@ pub get-node-requires-in-Branch : goal.get-node-requires-in-Branch
 get-node-requires-in-Branch g c =
     let s = c.requires.stands in
     let r : IsOnWayTo (leaves_of c.args.pool.now) (forks_of c.args.pool.now) s.0 (bits_of c.args.key.now c.args.bits) (Branch c.in-Branch.id) c.loop-at.depth = rw c.in-Branch.is at (c.loop-at.invariant.reached s.0 s.1) in
-    way_fork_live c.args.pool.now s.0 (bits_of c.args.key.now c.args.bits) c.in-Branch.id c.loop-at.depth r
+    fork_lives c.args.pool.now r.up r.here c.in-Branch.id r.hangs
 
 pub unreachable-requires : goal.unreachable-requires
 unreachable-requires g c =
     let s = c.requires.stands in
     let r : IsOnWayTo (leaves_of c.args.pool.now) (forks_of c.args.pool.now) s.0 (bits_of c.args.key.now c.args.bits) (Branch c.in-Branch.id) c.loop-at.depth = rw c.in-Branch.is at (c.loop-at.invariant.reached s.0 s.1) in
-    way_fork_has c.args.pool.now s.0 (bits_of c.args.key.now c.args.bits) c.in-Branch.id c.loop-at.depth c.get-node-in-Branch.result.now c.get-node-in-Branch.ensures.value c.in-None-branch.is r
+    fork_is_there c.args.pool.now r.up r.here c.in-Branch.id c.get-node-in-Branch.result.now c.get-node-in-Branch.ensures.value c.in-None-branch.is r.hangs
 
 pub returns-then-limit-bits-clause-found : goal.returns-then-limit-bits-clause-found
 returns-then-limit-bits-clause-found g c pairs stands =

@@ -7,7 +7,8 @@ use Rattle.hx_ebtree.proofs.tree.Tree.longest.Given as goal
 
 abbrev pub invariant-loop-at : goal.invariant-loop-at
 invariant-loop-at g l = record {
-  reached : (pairs : KeyList) → Stands l.pool l.self pairs → IsOnWay (leaves_of l.pool) (forks_of l.pool) l.self.root pairs (bits_of l.key l.bits) l.at l.depth l.best;
+  reached : (pairs : KeyList) → Stands l.pool l.self pairs → IsOnWay (leaves_of l.pool) (forks_of l.pool) pairs (bits_of l.key l.bits) l.at l.depth l.checked l.best;
+  checked : l.checked ≤ l.depth;
   depth : l.depth ≤ 2 * l.bits + 1;
   cost : l.steps ≤ l.fn.steps + l.depth;
 }
