@@ -15,27 +15,15 @@ use Rattle.hx_text.specs.Network.{net_of, prefix_bits}
 use Rattle.hx_sample.specs.declared.sample.Value.TheVariants as value
 use Rattle.hx_sample.specs.Find.{prefix_width}
 use Rattle.hx_sample.specs.Keys.{as_ipv4, as_ipv6, has_address, is_in_network}
-use Rattle.hx_ebtree.specs.Bits.{bits_of}
 use Rattle.hx_ebtree.specs.KeyList.{is_prefix, longest_of}
+use Rattle.hx_index.specs.Parts.{network_bits}
+use Rattle.hx_index.specs.Search.{ipv4_bits, ipv6_bits}
 use Rattle.hx_index.proofs.FoundItemLemmas.{found_item, network_measure, pair_by, longest_agrees, first_greatest}
 use Rattle.hx_index.proofs.TextKeyLemmas.{bits_of-length}
 use Rattle.hx_index.proofs.NearestLemmas.{is_ipv4_prefix, is_ipv6_prefix, is_no_prefix, by_net, longest_hit, first_hit, ipv4_by_classes, ipv6_by_classes, nothing_passes}
 use Rattle.hx_index.proofs.AddressKeyLemmas.{ipv4_prefix, ipv6_prefix}
 
 -- ---- networks and their keys
-
--- the bits of an address, all of them
-abbrev pub ipv4_bits : ℕ → List Bool
-ipv4_bits address = bits_of (to_be_bytes w32 address) 32
-
-abbrev pub ipv6_bits : ℕ → List Bool
-ipv6_bits address = bits_of (to_be_bytes w128 address) 128
-
--- the bits of a prefix; a mask has none
-abbrev pub network_bits : Option Net → List Bool
-network_bits (Some (Plain (V4 network) width)) = bits_of (to_be_bytes w32 network) width
-network_bits (Some (Plain (V6 network) width)) = bits_of (to_be_bytes w128 network) width
-network_bits _ = []
 
 -- a prefix is no longer than an address of its family, and has no bit outside its width
 abbrev pub FitsFamily : Option Net → Type 0

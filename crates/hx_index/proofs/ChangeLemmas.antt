@@ -8,7 +8,7 @@ use Rattle.hx_ebtree.specs.declared.tree.Tree.{Tree}
 use Rattle.hx_ebtree.specs.Node.{key_of, links_of, IsSameNode}
 use Rattle.hx_ebtree.specs.KeyList.{KeyList, IsOff, Lists, without}
 use Rattle.hx_ebtree.specs.Tree.{KeepsNodes, Stands}
-use Rattle.hx_index.proofs.HoldingLemmas.{kept_relinked}
+use Rattle.hx_ebtree.proofs.NodeLemmas.{kept_relinked}
 use Rattle.hx_match.specs.Patterns.{PatternText}
 use Rattle.hx_index.specs.declared.index.Index.{Index}
 use Rattle.hx_index.specs.declared.part.Part.{Part}

@@ -4,11 +4,11 @@ use Rattle.std.proofs.lemmas.List.Elements.{All-nil, All-cons, All-head, All-tai
 use Rattle.std.proofs.Common.{not, ◌==◌, ne_eqb}
 use Rattle.hx_pool.specs.declared.chain.Chain.{Chain}
 use Rattle.hx_pool.specs.Pool.{get, IsLive, Updates}
-use Rattle.hx_pool.specs.Chain.{IsIn, AreApart, AreDistinct, IsSameSlot, Relinked}
+use Rattle.hx_pool.specs.Chain.{IsIn, AreApart, AreDistinct}
 use Rattle.hx_pool.proofs.ChainLemmas.{distinct_join}
 use Rattle.hx_ebtree.specs.declared.node.Node.{Node}
 use Rattle.hx_ebtree.specs.declared.tree.Tree.{Tree}
-use Rattle.hx_ebtree.specs.Node.{entry_of, value_of, key_of, IsSameNode}
+use Rattle.hx_ebtree.specs.Node.{entry_of, value_of}
 use Rattle.hx_ebtree.specs.Tree.{IsSameEntry, KeepsNodes}
 use Rattle.hx_ebtree.proofs.FrameLemmas.{chain_frame, tree_frame}
 use Rattle.hx_match.specs.Patterns.{PatternText}
@@ -24,43 +24,6 @@ use Rattle.hx_index.proofs.ItemLemmas.{found_in, left_in, item_at, nodes_without
 
 abbrev belongs_to : Part → Item → Bool
 belongs_to part item = is_same_part part (pattern_part item.pattern)
-
--- ---- nodes that keep their keys, entries and patterns
-
-slot_entry : (a b : Option (Node PatternText)) → IsSameSlot IsSameNode a b → IsSameEntry a b
-slot_entry None b s = s
-slot_entry (Some a) b s =
-    (s.0, s.1, ap (λ (n : Node PatternText). key_of n) s.2, ap (λ (n : Node PatternText). entry_of n) s.2, ap (λ (n : Node PatternText). value_of n) s.2)
-
-pub kept_relinked : (p q : NodePool) → Relinked IsSameNode p q → KeepsNodes p q
-kept_relinked p q r = record { nodes = λ k. slot_entry (get p k) (get q k) (r.values k); spare = r.spare; live = r.live }
-
-same_entry : (a : Option (Node PatternText)) → IsSameEntry a a
-same_entry None = refl
-same_entry (Some n) = (n, refl, refl, refl, refl)
-
-pub kept_self : (p : NodePool) → KeepsNodes p p
-kept_self p = record { nodes = λ k. same_entry (get p k); spare = refl; live = refl }
-
-entry_on : (a b c : Option (Node PatternText)) → IsSameEntry a b → IsSameEntry b c → IsSameEntry a c
-entry_on None b c s t = subst (λ o. IsSameEntry o c) s t
-entry_on (Some a) b c s t =
-    let u : IsSameEntry (Some s.0) c = subst (λ o. IsSameEntry o c) s.1 t in
-    (u.0, u.1, u.2 ∙ s.2, u.3 ∙ s.3, u.4 ∙ s.4)
-
-pub kept_on : (p q r : NodePool) → KeepsNodes p q → KeepsNodes q r → KeepsNodes p r
-kept_on p q r a b = record {
-  nodes = λ k. entry_on (get p k) (get q k) (get r k) (a.nodes k) (b.nodes k);
-  spare = b.spare ∙ a.spare;
-  live = b.live ∙ a.live;
-}
-
-entry_live : (a b : Option (Node PatternText)) → IsSameEntry a b → IsSome a → IsSome b
-entry_live None b s live = cc
-entry_live (Some a) b s live = rw s.1 refl
-
-pub kept_live : (p q : NodePool) (k : ℕ) → KeepsNodes p q → IsLive p k → IsLive q k
-kept_live p q k kept live = entry_live (get p k) (get q k) (kept.nodes k) live
 
 -- ---- items and their nodes
 

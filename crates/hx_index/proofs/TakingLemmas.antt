@@ -9,7 +9,7 @@ use Rattle.hx_ebtree.specs.declared.tree.Tree.{Tree}
 use Rattle.hx_ebtree.specs.Node.{links_of, IsSameNode}
 use Rattle.hx_ebtree.specs.KeyList.{KeyList, IsOff, Lists, ids_of, without}
 use Rattle.hx_ebtree.specs.Tree.{KeepsNodes, Stands}
-use Rattle.hx_index.proofs.HoldingLemmas.{kept_relinked, kept_self}
+use Rattle.hx_ebtree.proofs.NodeLemmas.{kept_relinked, kept_self}
 use Rattle.hx_index.specs.declared.index.Index.{Index}
 use Rattle.hx_index.specs.declared.part.Part.{Part}
 use Rattle.hx_index.specs.declared.part.Part.TheVariants.{Listed}

@@ -1,5 +1,5 @@
 use Rattle.std.proofs.Common.{inl, inr}
-use Rattle.hx_index.proofs.HoldingLemmas.{kept_relinked}
+use Rattle.hx_ebtree.proofs.NodeLemmas.{kept_relinked}
 use Rattle.hx_index.specs.declared.part.Part.TheVariants.{Listed, Keyed, Wide}
 use Rattle.hx_index.specs.Items.{nodes_of}
 use Rattle.hx_index.specs.Index.{in_part, key_pairs}

@@ -1,7 +1,7 @@
 use Rattle.std.proofs.Common.{subst}
 use Rattle.hx_pool.specs.Chain.{IsIn, LiesIn}
 use Rattle.hx_ebtree.specs.Node.{links_of}
-use Rattle.hx_index.proofs.HoldingLemmas.{kept_relinked}
+use Rattle.hx_ebtree.proofs.NodeLemmas.{kept_relinked}
 use Rattle.hx_index.specs.declared.part.Part.{Part}
 use Rattle.hx_index.specs.declared.part.Part.TheVariants.{Listed, Keyed, Wide}
 use Rattle.hx_index.specs.Items.{nodes_of}

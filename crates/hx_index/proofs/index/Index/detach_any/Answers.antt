@@ -1,6 +1,6 @@
 use Rattle.std.proofs.Common.{◌∙◌}
 use Rattle.hx_index.proofs.ItemLemmas.{parts_empty}
-use Rattle.hx_index.proofs.HoldingLemmas.{kept_on}
+use Rattle.hx_ebtree.proofs.NodeLemmas.{kept_on}
 use Rattle.hx_index.proofs.index.Index.detach_any.Goals as goal
 
 pub detach_wide-requires : goal.detach_wide-requires

@@ -2,7 +2,8 @@ use Rattle.std.proofs.Common.{◌≡◌, subst, ◌∙◌}
 use Rattle.hx_pool.specs.Chain.{IsIn}
 use Rattle.hx_index.specs.Items.{nodes_of, without_node}
 use Rattle.hx_index.specs.Index.{Holds}
-use Rattle.hx_index.proofs.HoldingLemmas.{holds_live, kept_live}
+use Rattle.hx_ebtree.proofs.NodeLemmas.{kept_live}
+use Rattle.hx_index.proofs.HoldingLemmas.{holds_live}
 use Rattle.hx_index.proofs.NodeUseLemmas.{given_back, other_than}
 use Rattle.hx_index.proofs.index.Index.drop_any.Goals as goal
 

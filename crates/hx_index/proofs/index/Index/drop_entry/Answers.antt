@@ -1,7 +1,8 @@
 use Rattle.std.proofs.Common.{sym, ap, ◌∙◌}
 use Rattle.hx_match.specs.Patterns.{PatternText}
 use Rattle.hx_index.specs.Parts.{pattern_part}
-use Rattle.hx_index.proofs.HoldingLemmas.{apart_frame, holds_live, in_its_part, kept_live}
+use Rattle.hx_ebtree.proofs.NodeLemmas.{kept_live}
+use Rattle.hx_index.proofs.HoldingLemmas.{apart_frame, holds_live, in_its_part}
 use Rattle.hx_index.proofs.NodeUseLemmas.{given_back, node_use, other_than}
 use Rattle.hx_index.proofs.index.Index.drop_entry.Goals as goal
 
