@@ -8,10 +8,8 @@ use Rattle.std.specs.Option.{option_eq}
 use Rattle.hx_text.specs.declared.names.VarName.{VarName}
 use Rattle.hx_sample.specs.declared.sample.Value.{Value}
 use Rattle.hx_sample.specs.Vars.{IsSameVar, Scopes, VarKey, after_request, after_session, ends_with_request, key_cmp, key_of, owner_of, var_of, with_var, without_var}
-use Rattle.hx_sample.proofs.KeyLemmas.{exact_key, key_total}
+use Rattle.hx_sample.proofs.KeyLemmas.{exact_key, get-kept, key_total, not_true}
 use Rattle.hx_sample.proofs.MapLemmas.{inserted_tied, inserted_apart, removed_tied, removed_apart}
-use Rattle.hx_sample.proofs.SessionLemmas.{not_true}
-use Rattle.hx_sample.proofs.VarLemmas.{get-kept}
 
 key_tied : (key : VarKey) → key_cmp key key ≡ Equal
 key_tied key = tied_itself key_total key

@@ -1,6 +1,10 @@
 pub mod MapLemmas
-pub mod SessionLemmas
 pub mod KeyLemmas
+pub mod SlotLemmas
+pub mod WalkLemmas
+pub mod StepLemmas
+pub mod ChangeLemmas
 pub mod VarLemmas
+pub mod OwnerLemmas
 pub mod LawLemmas
 pub mod FindLemmas

@@ -1,312 +1,159 @@
--- The variables of all scopes, kept apart by scope, and the map that they are seen as.
-use Rattle.std.proofs.Common.{◌≡◌, ℕ, Bool, true, false, cond, not, List, [], ◌∷◌, Some, None, refl, ap, sym, ◌∙◌}
-use Rattle.std.specs.Prelude.{Option, nat_eq}
-use Rattle.std.specs.declared.cmp.Ordering.{Ordering}
-use Rattle.std.specs.declared.cmp.Ordering.TheVariants.{Less, Equal, Greater}
-use Rattle.std.specs.Cmp.Lexicographic.{slice_cmp, nat_list_cmp_total}
+-- The variables of all owners, before and after a call.
+use Rattle.std.proofs.Common.{◌≡◌, ℕ, false, cond, List, [], Option, Some, None, IsSome, refl, ap, sym, subst, ◌∙◌, true≢false}
+use Rattle.std.proofs.lemmas.Map.Lookups.{exact_unsigned}
+use Rattle.std.specs.Prelude.{is_some}
+use Rattle.std.specs.BTreeMap as tree
+use Rattle.std.specs.BTreeMap.{BTreeMap, WritesThrough, is_at}
+use Rattle.std.specs.Cmp.{nat_cmp_total, tied_itself}
 use Rattle.std.specs.FinMap as map
-use Rattle.std.specs.FinMap.{FinMap, find, get-empty, get-entries, get-insert, get-remove, get-retain_keys, same_map}
-use Rattle.std.specs.Option.{option_eq}
-use Rattle.std.specs.Ordering.{eq_by_cmp, is_eq, nat_cmp, ordering_then}
+use Rattle.std.specs.FinMap.{get-empty}
+use Rattle.std.specs.Map.{lookup}
+use Rattle.std.specs.Option.{option_map}
+use Rattle.std.specs.Ordering.{nat_cmp}
+use Rattle.hx_pool.specs.declared.links.Links.{Links}
+use Rattle.hx_pool.specs.declared.chain.Chain.{Chain}
+use Rattle.hx_pool.specs.Pool.{get}
+use Rattle.hx_pool.specs.Chain.{LiesAt, links_at}
 use Rattle.hx_text.specs.declared.names.Scope.{Scope}
 use Rattle.hx_text.specs.declared.names.Scope.TheVariants.{Proc, Sess, Txn, Req, Res}
 use Rattle.hx_text.specs.declared.names.VarName.{VarName}
 use Rattle.hx_sample.specs.declared.sample.Value.{Value}
-use Rattle.hx_sample.specs.Stored.{Parts, SessionVar, all_vars, in_scope, in_session, session_cmp, with_placed, without_session}
-use Rattle.hx_sample.specs.Vars.{Scopes, VarKey, after_request, after_session, ends_with_request, key_cmp, key_of, owner_of, var_of, with_var, without_var}
-use Rattle.hx_sample.proofs.KeyLemmas.{exact_key, key_total}
-use Rattle.hx_sample.proofs.MapLemmas.{inserted_apart}
-use Rattle.hx_sample.proofs.SessionLemmas.{get-without_session, or_else, or_else-cond, or_else-none, session_total}
-
--- ---- keys that don't tie
-
-less : ¬ (Less ≡ Equal)
-less tied = cc
-
-greater : ¬ (Greater ≡ Equal)
-greater tied = cc
-
-then_less : (r : Ordering) → ¬ (ordering_then r Less ≡ Equal)
-then_less Less tied = cc
-then_less Equal tied = cc
-then_less Greater tied = cc
-
-then_greater : (r : Ordering) → ¬ (ordering_then r Greater ≡ Equal)
-then_greater Less tied = cc
-then_greater Equal tied = cc
-then_greater Greater tied = cc
-
--- ---- what is kept where
-
--- more variables, at a key of one of them, and at any other
-module _ {K : Type 0} (place : K → VarKey) where
-  placed_here : {R : K → K → Ordering} → ((a b : K) → key_cmp (place a) (place b) ≡ R a b) → (es : List (K × Value)) (vars : Scopes) (k : K)
-      → map.get (with_placed place es vars) (place k) ≡ or_else (find R k es) (map.get vars (place k))
-  unfolding or_else
-  placed_here alike [] vars k = refl
-  placed_here {R = R} alike (e ∷ es) vars k =
-      get-insert key_total (with_placed place es vars) (place e.0) e.1 (place k)
-      ∙ ap (λ r. cond (is_eq r) (Some e.1) (map.get (with_placed place es vars) (place k))) (alike k e.0)
-      ∙ ap (cond (is_eq (R k e.0)) (Some e.1)) (placed_here alike es vars k)
-      ∙ or_else-cond (is_eq (R k e.0)) e.1 (find R k es) (map.get vars (place k))
-
-  placed_elsewhere : (q : VarKey) → ((k : K) → ¬ (key_cmp q (place k) ≡ Equal)) → (es : List (K × Value)) (vars : Scopes)
-      → map.get (with_placed place es vars) q ≡ map.get vars q
-  placed_elsewhere q apart [] vars = refl
-  placed_elsewhere q apart (e ∷ es) vars =
-      inserted_apart key_total (with_placed place es vars) (place e.0) e.1 q (apart e.0)
-      ∙ placed_elsewhere q apart es vars
-
-  -- where nothing else has the key
-  placed_alone : {R : K → K → Ordering} → ((a b : K) → key_cmp (place a) (place b) ≡ R a b) → (m : FinMap R Value) (vars : Scopes) (k : K)
-      → map.get vars (place k) ≡ None → map.get (with_placed place (map.entries m) vars) (place k) ≡ map.get m k
-  placed_alone {R = R} alike m vars k none =
-      placed_here alike (map.entries m) vars k
-      ∙ ap (or_else (find R k (map.entries m))) none
-      ∙ or_else-none (find R k (map.entries m))
-      ∙ sym (get-entries m k)
-
-abbrev named : Scope → List ℕ → VarName
-named scope name = record { scope = scope; name = name }
-
--- what the parts have at a key
-abbrev pub got : Parts → Option ℕ → Scope → List ℕ → Option Value
-got s None Proc n = map.get s.process n
-got s (Some conn) Sess n = map.get s.sessions (conn, n)
-got s None Txn n = map.get s.transaction n
-got s None Req n = map.get s.request n
-got s None Res n = map.get s.response n
-got s _ _ n = None
-
--- the parts from the one of a scope on
-abbrev from_response : Parts → Scopes
-from_response s = with_placed (in_scope Res) (map.entries s.response) map.empty
-
-abbrev from_request : Parts → Scopes
-from_request s = with_placed (in_scope Req) (map.entries s.request) (from_response s)
-
-abbrev from_transaction : Parts → Scopes
-from_transaction s = with_placed (in_scope Txn) (map.entries s.transaction) (from_request s)
-
-abbrev from_sessions : Parts → Scopes
-from_sessions s = with_placed in_session (map.entries s.sessions) (from_transaction s)
-
--- no key with a connection is one of the scopes after the session's
-none_after_sessions : (s : Parts) (c : ℕ) (scope : Scope) (n : List ℕ) → map.get (from_transaction s) (Some c, named scope n) ≡ None
-none_after_sessions s c scope n =
-    placed_elsewhere (in_scope Txn) (Some c, named scope n) (λ _. greater) (map.entries s.transaction) (from_request s)
-    ∙ placed_elsewhere (in_scope Req) (Some c, named scope n) (λ _. greater) (map.entries s.request) (from_response s)
-    ∙ placed_elsewhere (in_scope Res) (Some c, named scope n) (λ _. greater) (map.entries s.response) map.empty
-    ∙ get-empty key_cmp (Some c, named scope n)
-
--- a key with a connection that is no key of a session
-of_no_session : (s : Parts) (c : ℕ) (scope : Scope) (n : List ℕ)
-    → ((var : SessionVar) → ¬ (key_cmp (Some c, named scope n) (in_session var) ≡ Equal))
-    → map.get (all_vars s) (Some c, named scope n) ≡ None
-of_no_session s c scope n apart =
-    placed_elsewhere (in_scope Proc) (Some c, named scope n) (λ _. greater) (map.entries s.process) (from_sessions s)
-    ∙ placed_elsewhere in_session (Some c, named scope n) apart (map.entries s.sessions) (from_transaction s)
-    ∙ none_after_sessions s c scope n
-
-pub get_all : (s : Parts) (o : Option ℕ) (scope : Scope) (n : List ℕ) → map.get (all_vars s) (o, named scope n) ≡ got s o scope n
-get_all s None Proc n =
-    placed_alone (in_scope Proc) (λ a b. refl) s.process (from_sessions s) n
-    (placed_elsewhere in_session (None, named Proc n) (λ _. less) (map.entries s.sessions) (from_transaction s)
-    ∙ placed_elsewhere (in_scope Txn) (None, named Proc n) (λ _. less) (map.entries s.transaction) (from_request s)
-    ∙ placed_elsewhere (in_scope Req) (None, named Proc n) (λ _. less) (map.entries s.request) (from_response s)
-    ∙ placed_elsewhere (in_scope Res) (None, named Proc n) (λ _. less) (map.entries s.response) map.empty
-    ∙ get-empty key_cmp (None, named Proc n))
-get_all s None Sess n =
-    placed_elsewhere (in_scope Proc) (None, named Sess n) (λ _. greater) (map.entries s.process) (from_sessions s)
-    ∙ placed_elsewhere in_session (None, named Sess n) (λ _. less) (map.entries s.sessions) (from_transaction s)
-    ∙ placed_elsewhere (in_scope Txn) (None, named Sess n) (λ _. less) (map.entries s.transaction) (from_request s)
-    ∙ placed_elsewhere (in_scope Req) (None, named Sess n) (λ _. less) (map.entries s.request) (from_response s)
-    ∙ placed_elsewhere (in_scope Res) (None, named Sess n) (λ _. less) (map.entries s.response) map.empty
-    ∙ get-empty key_cmp (None, named Sess n)
-get_all s None Txn n =
-    placed_elsewhere (in_scope Proc) (None, named Txn n) (λ _. greater) (map.entries s.process) (from_sessions s)
-    ∙ placed_elsewhere in_session (None, named Txn n) (λ _. less) (map.entries s.sessions) (from_transaction s)
-    ∙ placed_alone (in_scope Txn) (λ a b. refl) s.transaction (from_request s) n
-    (placed_elsewhere (in_scope Req) (None, named Txn n) (λ _. less) (map.entries s.request) (from_response s)
-    ∙ placed_elsewhere (in_scope Res) (None, named Txn n) (λ _. less) (map.entries s.response) map.empty
-    ∙ get-empty key_cmp (None, named Txn n))
-get_all s None Req n =
-    placed_elsewhere (in_scope Proc) (None, named Req n) (λ _. greater) (map.entries s.process) (from_sessions s)
-    ∙ placed_elsewhere in_session (None, named Req n) (λ _. less) (map.entries s.sessions) (from_transaction s)
-    ∙ placed_elsewhere (in_scope Txn) (None, named Req n) (λ _. greater) (map.entries s.transaction) (from_request s)
-    ∙ placed_alone (in_scope Req) (λ a b. refl) s.request (from_response s) n
-    (placed_elsewhere (in_scope Res) (None, named Req n) (λ _. less) (map.entries s.response) map.empty
-    ∙ get-empty key_cmp (None, named Req n))
-get_all s None Res n =
-    placed_elsewhere (in_scope Proc) (None, named Res n) (λ _. greater) (map.entries s.process) (from_sessions s)
-    ∙ placed_elsewhere in_session (None, named Res n) (λ _. less) (map.entries s.sessions) (from_transaction s)
-    ∙ placed_elsewhere (in_scope Txn) (None, named Res n) (λ _. greater) (map.entries s.transaction) (from_request s)
-    ∙ placed_elsewhere (in_scope Req) (None, named Res n) (λ _. greater) (map.entries s.request) (from_response s)
-    ∙ placed_alone (in_scope Res) (λ a b. refl) s.response map.empty n
-    (get-empty key_cmp (None, named Res n))
-get_all s (Some c) Proc n = of_no_session s c Proc n (λ var. then_less (nat_cmp c var.0))
-get_all s (Some c) Sess n =
-    placed_elsewhere (in_scope Proc) (Some c, named Sess n) (λ _. greater) (map.entries s.process) (from_sessions s)
-    ∙ placed_alone in_session (λ a b. refl) s.sessions (from_transaction s) (c, n) (none_after_sessions s c Sess n)
-get_all s (Some c) Txn n = of_no_session s c Txn n (λ var. then_greater (nat_cmp c var.0))
-get_all s (Some c) Req n = of_no_session s c Req n (λ var. then_greater (nat_cmp c var.0))
-get_all s (Some c) Res n = of_no_session s c Res n (λ var. then_greater (nat_cmp c var.0))
-
--- parts that have at each key what the variables have
-seen_as : (s : Parts) (vars : Scopes) → ((o : Option ℕ) (scope : Scope) (n : List ℕ) → got s o scope n ≡ map.get vars (o, named scope n)) → all_vars s ≡ vars
-seen_as s vars same =
-    same_map key_total exact_key _ _ (λ k. get_all s k.0 k.1.scope k.1.name ∙ same k.0 k.1.scope k.1.name)
-
--- ---- one variable
-
-pub got_at : (s : Parts) (vars : Scopes) (conn : ℕ) (name : VarName) → all_vars s ≡ vars → (scope : Scope) → name.scope ≡ scope
-    → got s (owner_of conn scope) scope name.name ≡ var_of vars conn name
-got_at s vars conn name seen scope is =
-    sym (get_all s (owner_of conn scope) scope name.name)
-    ∙ ap (λ m. map.get m (key_of conn (named scope name.name))) seen
-    ∙ ap (λ scope. map.get vars (key_of conn (named scope name.name))) (sym is)
-
--- the parts after a variable was set, and after one was unset
-abbrev pub set_in : Parts → ℕ → Scope → List ℕ → Value → Parts
-set_in s conn Proc n v = record s { process = map.insert s.process n v }
-set_in s conn Sess n v = record s { sessions = map.insert s.sessions (conn, n) v }
-set_in s conn Txn n v = record s { transaction = map.insert s.transaction n v }
-set_in s conn Req n v = record s { request = map.insert s.request n v }
-set_in s conn Res n v = record s { response = map.insert s.response n v }
-
-abbrev pub unset_in : Parts → ℕ → Scope → List ℕ → Parts
-unset_in s conn Proc n = record s { process = map.remove s.process n }
-unset_in s conn Sess n = record s { sessions = map.remove s.sessions (conn, n) }
-unset_in s conn Txn n = record s { transaction = map.remove s.transaction n }
-unset_in s conn Req n = record s { request = map.remove s.request n }
-unset_in s conn Res n = record s { response = map.remove s.response n }
-
--- a session's key is no key of another scope
-never_less : {X : Type 0} (r : Ordering) (a b : X) → b ≡ cond (is_eq (ordering_then r Less)) a b
-never_less Less a b = refl
-never_less Equal a b = refl
-never_less Greater a b = refl
-
-never_greater : {X : Type 0} (r : Ordering) (a b : X) → b ≡ cond (is_eq (ordering_then r Greater)) a b
-never_greater Less a b = refl
-never_greater Equal a b = refl
-never_greater Greater a b = refl
-
-set_got : (s : Parts) (conn : ℕ) (scope : Scope) (n : List ℕ) (v : Value) (o : Option ℕ) (other : Scope) (q : List ℕ)
-    → got (set_in s conn scope n v) o other q ≡ cond (eq_by_cmp key_cmp (o, named other q) (key_of conn (named scope n))) (Some v) (got s o other q)
-set_got s conn Proc n v None Proc q = get-insert nat_list_cmp_total s.process n v q
-set_got s conn Sess n v (Some c) Sess q = get-insert session_total s.sessions (conn, n) v (c, q)
-set_got s conn Sess n v (Some c) Proc q = never_less (nat_cmp c conn) _ _
-set_got s conn Sess n v (Some c) Txn q = never_greater (nat_cmp c conn) _ _
-set_got s conn Sess n v (Some c) Req q = never_greater (nat_cmp c conn) _ _
-set_got s conn Sess n v (Some c) Res q = never_greater (nat_cmp c conn) _ _
-set_got s conn Txn n v None Txn q = get-insert nat_list_cmp_total s.transaction n v q
-set_got s conn Req n v None Req q = get-insert nat_list_cmp_total s.request n v q
-set_got s conn Res n v None Res q = get-insert nat_list_cmp_total s.response n v q
-set_got s conn _ n v o _ q = refl
-
-unset_got : (s : Parts) (conn : ℕ) (scope : Scope) (n : List ℕ) (o : Option ℕ) (other : Scope) (q : List ℕ)
-    → got (unset_in s conn scope n) o other q ≡ cond (eq_by_cmp key_cmp (o, named other q) (key_of conn (named scope n))) None (got s o other q)
-unset_got s conn Proc n None Proc q = get-remove nat_list_cmp_total s.process n q
-unset_got s conn Sess n (Some c) Sess q = get-remove session_total s.sessions (conn, n) (c, q)
-unset_got s conn Sess n (Some c) Proc q = never_less (nat_cmp c conn) _ _
-unset_got s conn Sess n (Some c) Txn q = never_greater (nat_cmp c conn) _ _
-unset_got s conn Sess n (Some c) Req q = never_greater (nat_cmp c conn) _ _
-unset_got s conn Sess n (Some c) Res q = never_greater (nat_cmp c conn) _ _
-unset_got s conn Txn n None Txn q = get-remove nat_list_cmp_total s.transaction n q
-unset_got s conn Req n None Req q = get-remove nat_list_cmp_total s.request n q
-unset_got s conn Res n None Res q = get-remove nat_list_cmp_total s.response n q
-unset_got s conn _ n o _ q = refl
-
-here_set : (s : Parts) (vars : Scopes) (conn : ℕ) (name : VarName) (v : Value) → all_vars s ≡ vars → all_vars (set_in s conn name.scope name.name v) ≡ with_var vars conn name v
-here_set s vars conn name v seen =
-    seen_as (set_in s conn name.scope name.name v) (with_var vars conn name v) (λ o scope n.
-    set_got s conn name.scope name.name v o scope n
-    ∙ ap (cond (eq_by_cmp key_cmp (o, named scope n) (key_of conn name)) (Some v)) (sym (get_all s o scope n) ∙ ap (λ m. map.get m (o, named scope n)) seen)
-    ∙ sym (get-insert key_total vars (key_of conn name) v (o, named scope n)))
-
-pub set_seen : (s : Parts) (vars : Scopes) (conn : ℕ) (name : VarName) (v : Value) → all_vars s ≡ vars → (scope : Scope) → name.scope ≡ scope
-    → all_vars (set_in s conn scope name.name v) ≡ with_var vars conn name v
-set_seen s vars conn name v seen scope is =
-    ap (λ scope. all_vars (set_in s conn scope name.name v)) (sym is) ∙ here_set s vars conn name v seen
-
-here_unset : (s : Parts) (vars : Scopes) (conn : ℕ) (name : VarName) → all_vars s ≡ vars → all_vars (unset_in s conn name.scope name.name) ≡ without_var vars conn name
-here_unset s vars conn name seen =
-    seen_as (unset_in s conn name.scope name.name) (without_var vars conn name) (λ o scope n.
-    unset_got s conn name.scope name.name o scope n
-    ∙ ap (cond (eq_by_cmp key_cmp (o, named scope n) (key_of conn name)) None) (sym (get_all s o scope n) ∙ ap (λ m. map.get m (o, named scope n)) seen)
-    ∙ sym (get-remove key_total vars (key_of conn name) (o, named scope n)))
-
-pub unset_seen : (s : Parts) (vars : Scopes) (conn : ℕ) (name : VarName) → all_vars s ≡ vars → (scope : Scope) → name.scope ≡ scope
-    → all_vars (unset_in s conn scope name.name) ≡ without_var vars conn name
-unset_seen s vars conn name seen scope is =
-    ap (λ scope. all_vars (unset_in s conn scope name.name)) (sym is) ∙ here_unset s vars conn name seen
-
--- ---- ends
-
--- what is got of variables of which some are kept
-pub get-kept : (vars : Scopes) (keep : VarKey → Bool) (key : VarKey) → map.get (map.retain_keys vars keep) key ≡ cond (keep key) (map.get vars key) None
-get-kept vars keep key =
-    get-retain_keys vars keep key (λ x tied. ap keep (sym (exact_key key x tied)))
-
-abbrev pub request_ended_in : Parts → Parts
-request_ended_in s = record s { transaction = map.empty; request = map.empty; response = map.empty }
-
-request_got : (s : Parts) (o : Option ℕ) (scope : Scope) (n : List ℕ) → got (request_ended_in s) o scope n ≡ cond (not (ends_with_request scope)) (got s o scope n) None
-request_got s None Txn n = get-empty (slice_cmp nat_cmp) n
-request_got s None Req n = get-empty (slice_cmp nat_cmp) n
-request_got s None Res n = get-empty (slice_cmp nat_cmp) n
-request_got s None Proc n = refl
-request_got s None Sess n = refl
-request_got s (Some c) Proc n = refl
-request_got s (Some c) Sess n = refl
-request_got s (Some c) Txn n = refl
-request_got s (Some c) Req n = refl
-request_got s (Some c) Res n = refl
-
-pub request_seen : (s : Parts) (vars : Scopes) → all_vars s ≡ vars → all_vars (request_ended_in s) ≡ after_request vars
-request_seen s vars seen =
-    seen_as (request_ended_in s) (after_request vars) (λ o scope n.
-    request_got s o scope n
-    ∙ ap (λ got. cond (not (ends_with_request scope)) got None) (sym (get_all s o scope n) ∙ ap (λ m. map.get m (o, named scope n)) seen)
-    ∙ sym (get-kept vars (λ key. not (ends_with_request key.1.scope)) (o, named scope n)))
-
-abbrev pub session_ended_in : Parts → ℕ → Parts
-session_ended_in s conn = record s { sessions = without_session s.sessions conn }
-
-none_either : (b : Bool) → ◌≡◌ {A = Option Value} None (cond b None None)
-none_either true = refl
-none_either false = refl
-
-session_got : (s : Parts) (conn : ℕ) (o : Option ℕ) (scope : Scope) (n : List ℕ) → got (session_ended_in s conn) o scope n ≡ cond (not (option_eq nat_eq o (Some conn))) (got s o scope n) None
-session_got s conn (Some c) Sess n = get-without_session s.sessions conn c n
-session_got s conn (Some c) Proc n = none_either (not (nat_eq c conn))
-session_got s conn (Some c) Txn n = none_either (not (nat_eq c conn))
-session_got s conn (Some c) Req n = none_either (not (nat_eq c conn))
-session_got s conn (Some c) Res n = none_either (not (nat_eq c conn))
-session_got s conn None _ n = refl
-
-pub session_seen : (s : Parts) (vars : Scopes) (conn : ℕ) → all_vars s ≡ vars → all_vars (session_ended_in s conn) ≡ after_session vars conn
-session_seen s vars conn seen =
-    seen_as (session_ended_in s conn) (after_session vars conn) (λ o scope n.
-    session_got s conn o scope n
-    ∙ ap (λ got. cond (not (option_eq nat_eq o (Some conn))) got None) (sym (get_all s o scope n) ∙ ap (λ m. map.get m (o, named scope n)) seen)
-    ∙ sym (get-kept vars (λ key. not (option_eq nat_eq key.0 (Some conn))) (o, named scope n)))
+use Rattle.hx_sample.specs.declared.stored_variable.Owner.{Owner}
+use Rattle.hx_sample.specs.declared.stored_variable.Owner.TheVariants.{Process, Session, Transaction, Request, Response}
+use Rattle.hx_sample.specs.Slots.{HasNoDoubles, AreKept, HasNone, HasUnder, HasChain, Leads, LosesOnly, OwnerStep, VariablePool, variable_at, variable_of, key_in, variable_links, vars_in}
+use Rattle.hx_sample.specs.Vars.{Scopes, after_session, key_cmp, key_of, var_of, with_var, without_var}
+use Rattle.hx_sample.proofs.MapLemmas.{chosen_where_tied, passed_where_apart}
+use Rattle.hx_sample.proofs.SlotLemmas.{got, got_nowhere, got_one, none_some, same_owner, seen_as}
+use Rattle.hx_sample.proofs.StepLemmas.{same_step, session_ended}
 
 -- ---- no variables
 
-pub none_seen : all_vars (record { process = map.empty; sessions = map.empty; transaction = map.empty; request = map.empty; response = map.empty }) ≡ map.empty
-none_seen =
-    seen_as (record { process = map.empty; sessions = map.empty; transaction = map.empty; request = map.empty; response = map.empty }) map.empty none_got
-  where
-    none_got : (o : Option ℕ) (scope : Scope) (n : List ℕ) → got (record { process = map.empty; sessions = map.empty; transaction = map.empty; request = map.empty; response = map.empty }) o scope n ≡ map.get (map.empty {R = key_cmp}) (o, named scope n)
-    none_got None Proc n = get-empty (slice_cmp nat_cmp) n ∙ sym (get-empty key_cmp (None, named Proc n))
-    none_got None Sess n = sym (get-empty key_cmp (None, named Sess n))
-    none_got None Txn n = get-empty (slice_cmp nat_cmp) n ∙ sym (get-empty key_cmp (None, named Txn n))
-    none_got None Req n = get-empty (slice_cmp nat_cmp) n ∙ sym (get-empty key_cmp (None, named Req n))
-    none_got None Res n = get-empty (slice_cmp nat_cmp) n ∙ sym (get-empty key_cmp (None, named Res n))
-    none_got (Some c) Sess n = get-empty session_cmp (c, n) ∙ sym (get-empty key_cmp (Some c, named Sess n))
-    none_got (Some c) Proc n = sym (get-empty key_cmp (Some c, named Proc n))
-    none_got (Some c) Txn n = sym (get-empty key_cmp (Some c, named Txn n))
-    none_got (Some c) Req n = sym (get-empty key_cmp (Some c, named Req n))
-    none_got (Some c) Res n = sym (get-empty key_cmp (Some c, named Res n))
+no_variable : (p : VariablePool) → ((i : ℕ) → get p i ≡ None) → (i : ℕ) → variable_at p i ≡ None
+no_variable p none i = ap (option_map variable_of) (none i)
+
+pub empty_owner : (p : VariablePool) (c : Chain) (owner : Owner) → ((f : ℕ → Option Links) → LiesAt f c []) → HasNone p owner → HasChain p owner (Some c)
+empty_owner p c owner lies none = (
+  [],
+  record {
+    lies = lies (links_at variable_links p);
+    all = λ i f is this. absurd (none i f is this);
+    own = λ i f there is. absurd there;
+  },
+)
+
+pub none_at_all : (p : VariablePool) → ((i : ℕ) → get p i ≡ None) → (owner : Owner) → HasNone p owner
+none_at_all p none owner i f is this = none_some f (sym (no_variable p none i) ∙ is)
+
+pub no_sessions : (sessions : BTreeMap ℕ Chain) (q : ℕ) → sessions.entries ≡ [] → tree.get nat_cmp sessions q ≡ None
+no_sessions sessions q none = ap (lookup (is_at (nat_cmp q))) none
+
+pub all_alone : (p : VariablePool) → ((i : ℕ) → get p i ≡ None) → HasNoDoubles p
+all_alone p none i j f g is js owners names = absurd (none_some f (sym (no_variable p none i) ∙ is))
+
+pub none_seen : (p : VariablePool) → ((i : ℕ) → get p i ≡ None) → vars_in p ≡ map.empty
+none_seen p none =
+    seen_as p map.empty (all_alone p none) (λ key.
+    subst (HasUnder p key) (sym (get-empty key_cmp key)) (λ i f is here. none_some f (sym (no_variable p none i) ∙ is)))
+
+-- ---- one variable
+
+-- a scope's owner, and the key of a name in it
+abbrev pub owner_in : ℕ → Scope → Owner
+owner_in conn Proc = Process
+owner_in conn Sess = Session conn
+owner_in conn Txn = Transaction
+owner_in conn Req = Request
+owner_in conn Res = Response
+
+named : (conn : ℕ) (scope : Scope) (name : List ℕ) → key_in (owner_in conn scope) name ≡ key_of conn (record { scope = scope; name = name })
+named conn Proc name = refl
+named conn Sess name = refl
+named conn Txn name = refl
+named conn Req name = refl
+named conn Res name = refl
+
+pub key_is : (conn : ℕ) (scope : Scope) (name : VarName) → name.scope ≡ scope → key_in (owner_in conn scope) name.name ≡ key_of conn name
+key_is conn scope name is =
+    named conn scope name.name ∙ ap (λ s. key_of conn (record { scope = s; name = name.name })) (sym is)
+
+-- what is got is what the variables have
+pub got_seen : (p : VariablePool) (chains : Owner → Option Chain) (vars : Scopes) (conn : ℕ) (scope : Scope) (name : VarName) (o : Option Value) → vars_in p ≡ vars → AreKept p chains → name.scope ≡ scope → HasUnder p (key_in (owner_in conn scope) name.name) o → o ≡ var_of vars conn name
+got_seen p chains vars conn scope name o seen kept is has =
+    got_one p (key_in (owner_in conn scope) name.name) o (map.get (vars_in p) (key_in (owner_in conn scope) name.name)) kept.alone has (got p (key_in (owner_in conn scope) name.name))
+    ∙ ap (λ key. map.get (vars_in p) key) (key_is conn scope name is)
+    ∙ ap (λ m. map.get m (key_of conn name)) seen
+
+pub set_seen : (p q : VariablePool) (vars : Scopes) (conn : ℕ) (scope : Scope) (name : VarName) (value : Value) → vars_in p ≡ vars → name.scope ≡ scope → vars_in q ≡ map.insert (vars_in p) (key_in (owner_in conn scope) name.name) value → vars_in q ≡ with_var vars conn name value
+set_seen p q vars conn scope name value seen is put =
+    put ∙ ap (λ key. map.insert (vars_in p) key value) (key_is conn scope name is) ∙ ap (λ m. map.insert m (key_of conn name) value) seen
+
+pub unset_seen : (p q : VariablePool) (vars : Scopes) (conn : ℕ) (scope : Scope) (name : VarName) → vars_in p ≡ vars → name.scope ≡ scope → vars_in q ≡ map.remove (vars_in p) (key_in (owner_in conn scope) name.name) → vars_in q ≡ without_var vars conn name
+unset_seen p q vars conn scope name seen is gone =
+    gone ∙ ap (λ key. map.remove (vars_in p) key) (key_is conn scope name is) ∙ ap (λ m. map.remove m (key_of conn name)) seen
+
+-- ---- sessions
+
+none_of : (p : VariablePool) (owner : Owner) (o : Option Chain) → false ≡ is_some o → HasChain p owner o → HasNone p owner
+none_of p owner None absent h = h
+none_of p owner (Some c) absent h = absurd (true≢false (sym absent))
+
+-- a connection gets an empty chain
+pub session_added : (p : VariablePool) (before after : Option Chain) (conn : ℕ) (c : Chain) → ((f : ℕ → Option Links) → LiesAt f c []) → false ≡ is_some before → after ≡ Some c → HasChain p (Session conn) before → HasChain p (Session conn) after
+session_added p before after conn c lies absent there h =
+    subst (HasChain p (Session conn)) (sym there) (empty_owner p c (Session conn) lies (none_of p (Session conn) before absent h))
+
+-- the chain of a connection
+pub session_leads : (p : VariablePool) (conn : ℕ) (o : Option Chain) (c : Chain) → HasChain p (Session conn) o → o ≡ Some c → (xs : List ℕ) × Leads p c (Session conn) xs
+session_leads p conn o c h is =
+    let there : HasChain p (Session conn) (Some c) = subst (HasChain p (Session conn)) is h in
+    there
+
+pub session_none : (p : VariablePool) (conn : ℕ) (o : Option Chain) → HasChain p (Session conn) o → o ≡ None → HasNone p (Session conn)
+session_none p conn o h is =
+    let there : HasChain p (Session conn) None = subst (HasChain p (Session conn)) is h in
+    there
+
+-- a connection without a chain has no variable
+pub session_nowhere : (p : VariablePool) (conn : ℕ) (name : List ℕ) → HasNone p (Session conn) → HasUnder p (key_in (Session conn) name) None
+session_nowhere p conn name none i f is here =
+    none i f is (same_owner f.owner (Session conn) f.name name here)
+
+pub session_unset : (p : VariablePool) (conn : ℕ) (name : List ℕ) → HasNone p (Session conn) → HasNoDoubles p → OwnerStep p p None (Session conn) × (vars_in p ≡ map.remove (vars_in p) (key_in (Session conn) name))
+session_unset p conn name none alone =
+    (same_step p None (Session conn) none, got_nowhere p (key_in (Session conn) name) alone (session_nowhere p conn name none))
+
+-- what was written over the chain of a connection
+pub chain_written : (m n : BTreeMap ℕ Chain) (conn : ℕ) (old w : Chain) → Some old ≡ tree.get nat_cmp m conn → WritesThrough nat_cmp (nat_cmp conn) m w n → tree.get nat_cmp n conn ≡ Some w
+chain_written m n conn old w there written =
+    (written.3 (subst IsSome there refl)).0 conn
+    ∙ chosen_where_tied (nat_cmp conn conn) (Some w) (tree.get nat_cmp m conn) (tied_itself nat_cmp_total conn)
+
+pub chain_else : (m n : BTreeMap ℕ Chain) (conn : ℕ) (old w : Chain) → Some old ≡ tree.get nat_cmp m conn → WritesThrough nat_cmp (nat_cmp conn) m w n → (q : ℕ) → (q ≡ conn → ⊥) → tree.get nat_cmp n q ≡ tree.get nat_cmp m q
+chain_else m n conn old w there written q other =
+    (written.3 (subst IsSome there refl)).0 q
+    ∙ passed_where_apart (nat_cmp conn q) (Some w) (tree.get nat_cmp m q) (λ tied. other (sym (exact_unsigned conn q tied)))
+
+-- a map that has this at a connection, and else what it had
+pub chain_at : (m n : BTreeMap ℕ Chain) (conn : ℕ) (o : Option Chain) → ((q : ℕ) → tree.get nat_cmp n q ≡ cond (is_at (nat_cmp conn) q) o (tree.get nat_cmp m q)) → tree.get nat_cmp n conn ≡ o
+chain_at m n conn o updated =
+    updated conn ∙ chosen_where_tied (nat_cmp conn conn) o (tree.get nat_cmp m conn) (tied_itself nat_cmp_total conn)
+
+pub chain_away : (m n : BTreeMap ℕ Chain) (conn : ℕ) (o : Option Chain) → ((q : ℕ) → tree.get nat_cmp n q ≡ cond (is_at (nat_cmp conn) q) o (tree.get nat_cmp m q)) → (q : ℕ) → (q ≡ conn → ⊥) → tree.get nat_cmp n q ≡ tree.get nat_cmp m q
+chain_away m n conn o updated q other =
+    updated q ∙ passed_where_apart (nat_cmp conn q) o (tree.get nat_cmp m q) (λ tied. other (sym (exact_unsigned conn q tied)))
+
+-- the chain of a connection is cleared, and gone
+pub session_cleared : (p q : VariablePool) (conn : ℕ) (d : Chain) (o : Option Chain) → o ≡ None → OwnerStep p q (Some d) (Session conn) → HasNone q (Session conn) → OwnerStep p q o (Session conn)
+session_cleared p q conn d o gone step free = record {
+  own = subst (HasChain q (Session conn)) (sym gone) free;
+  others = step.others;
+  none = step.none;
+  alone = step.alone;
+}
+
+-- ---- ends
+
+pub session_seen : (p q : VariablePool) (vars : Scopes) (conn : ℕ) (o : Option Chain) → vars_in p ≡ vars → HasNoDoubles p → OwnerStep p q o (Session conn) → o ≡ None → LosesOnly p q (λ owner. owner ≡ Session conn) → vars_in q ≡ after_session vars conn
+session_seen p q vars conn o seen alone step gone loses =
+    let none : HasChain q (Session conn) None = subst (HasChain q (Session conn)) gone step.own in
+    session_ended p q o conn alone step none loses ∙ ap (λ m. after_session m conn) seen

@@ -7,5 +7,6 @@ pub mod Find
 pub mod Tables
 pub mod Changes
 -- views of the code, for the contracts of private functions
-pub mod Stored
+pub mod Slots
+pub mod Chains
 pub mod Listed

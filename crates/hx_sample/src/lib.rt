@@ -19,7 +19,9 @@ mod casting;
 pub mod laws;
 mod sample;
 mod samples;
-mod stored;
+mod sessions;
+mod slots;
+mod stored_variable;
 mod tables;
 mod vars;
 

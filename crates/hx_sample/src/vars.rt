@@ -3,42 +3,49 @@ ghost use Rattle.std.specs.Option.{option_copied};
 ghost use Rattle.hx_sample.specs.Vars.{no_vars, var_of, with_var, without_var, after_request, after_session};
 
 use crate::sample::Value;
-use crate::stored::{Names, Sessions};
+use crate::sessions::{clear_session, set_in_session, unset_in_session, value_in_session};
+use crate::slots::{clear, set_in, unset_in, value_in};
+use crate::stored_variable::{Owner, StoredVariable};
+use hx_pool::{Chain, Pool};
 use hx_text::{NoMemory, Scope, VarName};
 use std::alloc::Global;
-use std::marker::Model;
+use std::collections::BTreeMap;
+use std::marker::{Brand, Model};
+use std::sync::ledger::Blank;
 
 /// The variables of the process, of the transaction, the request and the response that are under
 /// way, and of each connection's session (HAProxy configuration manual 2.4, section 7.3.2, `var`).
 /// Contracts see them as one finite map, keyed by the connection of a session's variable, if any,
 /// and the name.
 ///
-/// To get, set or unset one costs by the logarithm of their number.
+/// They stand in slots of memory that are used again, and a chain leads through those of each scope
+/// and of each session. To get, set or unset one costs by the number of variables in its chain,
+/// which a configuration bounds, and for a session's also by the logarithm of the number of
+/// connections with a variable.
 #[derive(Drop)]
 pub struct Vars {
     alloc: Global,
-    process: Names,
-    sessions: Sessions,
-    transaction: Names,
-    request: Names,
-    response: Names,
+    slots: Pool<StoredVariable>,
+    process: Chain,
+    sessions: BTreeMap<u32, Chain>,
+    transaction: Chain,
+    request: Chain,
+    response: Chain,
 }
 
 impl Model for Vars {
-    ghost use Rattle.hx_sample.specs.Stored.{all_vars};
+    ghost use Rattle.hx_sample.specs.Slots.{vars_in, AreKept};
     ghost use Rattle.hx_sample.specs.Vars.{Scopes, scopes_code};
 
     ghost Value = { Scopes };
 
     ghost coded = { scopes_code };
 
-    ghost view = { λ vars. all_vars (record {
-      process = vars.process;
-      sessions = vars.sessions;
-      transaction = vars.transaction;
-      request = vars.request;
-      response = vars.response;
-    }) };
+    ghost use Rattle.hx_sample.specs.Chains.{chain_of};
+
+    ghost view = { λ vars. vars_in vars.slots };
+
+    ghost invariant = { λ vars. AreKept vars.slots (chain_of vars) };
 }
 
 impl Vars {
@@ -48,11 +55,12 @@ impl Vars {
     {
         Vars {
             alloc,
-            process: Names::new(alloc),
-            sessions: Sessions::new(alloc),
-            transaction: Names::new(alloc),
-            request: Names::new(alloc),
-            response: Names::new(alloc),
+            slots: Pool::new(alloc),
+            process: Chain::new(),
+            sessions: BTreeMap::new(alloc),
+            transaction: Chain::new(),
+            request: Chain::new(),
+            response: Chain::new(),
         }
     }
 
@@ -61,12 +69,13 @@ impl Vars {
     pub fn get(&self, conn: u32, name: &VarName) -> Option<&Value>
         ensures { option_copied result ≡ var_of self.now conn name.now }
     {
+        let key = &name.name;
         match name.scope {
-            Scope::Proc => self.process.get(&name.name),
-            Scope::Sess => self.sessions.get(conn, &name.name),
-            Scope::Txn => self.transaction.get(&name.name),
-            Scope::Req => self.request.get(&name.name),
-            Scope::Res => self.response.get(&name.name),
+            Scope::Proc => value_in::<Brand>(&self.slots, &self.process, key, Blank::new(1)),
+            Scope::Sess => value_in_session(&self.slots, &self.sessions, conn, key),
+            Scope::Txn => value_in::<Brand>(&self.slots, &self.transaction, key, Blank::new(1)),
+            Scope::Req => value_in::<Brand>(&self.slots, &self.request, key, Blank::new(1)),
+            Scope::Res => value_in::<Brand>(&self.slots, &self.response, key, Blank::new(1)),
         }
     }
 
@@ -79,11 +88,50 @@ impl Vars {
     {
         let key = &name.name;
         match name.scope {
-            Scope::Proc => self.process.set(self.alloc, key, value),
-            Scope::Sess => self.sessions.set(self.alloc, conn, key, value),
-            Scope::Txn => self.transaction.set(self.alloc, key, value),
-            Scope::Req => self.request.set(self.alloc, key, value),
-            Scope::Res => self.response.set(self.alloc, key, value),
+            Scope::Proc => set_in::<Brand>(
+                self.alloc,
+                &mut self.slots,
+                &mut self.process,
+                Owner::Process,
+                key,
+                value,
+                Blank::new(1),
+            ),
+            Scope::Sess => set_in_session(
+                self.alloc,
+                &mut self.slots,
+                &mut self.sessions,
+                conn,
+                key,
+                value,
+            ),
+            Scope::Txn => set_in::<Brand>(
+                self.alloc,
+                &mut self.slots,
+                &mut self.transaction,
+                Owner::Transaction,
+                key,
+                value,
+                Blank::new(1),
+            ),
+            Scope::Req => set_in::<Brand>(
+                self.alloc,
+                &mut self.slots,
+                &mut self.request,
+                Owner::Request,
+                key,
+                value,
+                Blank::new(1),
+            ),
+            Scope::Res => set_in::<Brand>(
+                self.alloc,
+                &mut self.slots,
+                &mut self.response,
+                Owner::Response,
+                key,
+                value,
+                Blank::new(1),
+            ),
         }
     }
 
@@ -92,12 +140,19 @@ impl Vars {
     pub fn unset(&mut self, conn: u32, name: &VarName)
         ensures { self.new ≡ without_var self.old conn name.now }
     {
+        let key = &name.name;
         match name.scope {
-            Scope::Proc => self.process.unset(&name.name),
-            Scope::Sess => self.sessions.unset(conn, &name.name),
-            Scope::Txn => self.transaction.unset(&name.name),
-            Scope::Req => self.request.unset(&name.name),
-            Scope::Res => self.response.unset(&name.name),
+            Scope::Proc => {
+                unset_in::<Brand>(&mut self.slots, &mut self.process, key, Blank::new(1))
+            }
+            Scope::Sess => unset_in_session(&mut self.slots, &mut self.sessions, conn, key),
+            Scope::Txn => {
+                unset_in::<Brand>(&mut self.slots, &mut self.transaction, key, Blank::new(1))
+            }
+            Scope::Req => unset_in::<Brand>(&mut self.slots, &mut self.request, key, Blank::new(1)),
+            Scope::Res => {
+                unset_in::<Brand>(&mut self.slots, &mut self.response, key, Blank::new(1))
+            }
         }
     }
 
@@ -106,9 +161,9 @@ impl Vars {
     pub fn end_request(&mut self)
         ensures { self.new ≡ after_request self.old }
     {
-        self.transaction.clear();
-        self.request.clear();
-        self.response.clear();
+        clear::<Brand>(&mut self.slots, &mut self.transaction, Blank::new(1));
+        clear::<Brand>(&mut self.slots, &mut self.request, Blank::new(1));
+        clear::<Brand>(&mut self.slots, &mut self.response, Blank::new(1));
     }
 
     /// Unsets every variable of the session of the connection `conn`. All others stay. It takes no
@@ -116,6 +171,6 @@ impl Vars {
     pub fn end_session(&mut self, conn: u32)
         ensures { self.new ≡ after_session self.old conn }
     {
-        self.sessions.end(conn);
+        clear_session(&mut self.slots, &mut self.sessions, conn);
     }
 }
