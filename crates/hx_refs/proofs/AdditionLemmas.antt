@@ -67,7 +67,7 @@ asked_at limits heads kept r k number pairs all found text asked =
 -- an entry that a pair becomes is ready
 pub ready_entry : (ways : List (By × Bool)) (new : NewEntry) (number : ℕ) (key value : List ℕ) (prepared : List PatternText)
     → added_entry new ≡ record { number = number; key = key; value = value } → new.prepared.items ≡ prepared
-    → length new.nodes.items ≡ length prepared → prepared ≡ prepared_patterns key ways → IsReadyFor ways new
+    → length new.nodes ≡ length prepared → prepared ≡ prepared_patterns key ways → IsReadyFor ways new
 ready_entry ways new number key value prepared entry same nodes patterns = record {
   keys = same ∙ patterns ∙ ap (λ k. prepared_patterns k ways) (sym (ap (λ (e : Entry). e.key) entry));
   numbers = nodes ∙ ap length patterns ∙ length-map ways (λ way. record { by = way.0; ci = way.1; text = key });

@@ -16,7 +16,7 @@ use Rattle.hx_refs.proofs.AdditionLemmas.{ready_entry}
 -- an entry that is answered is ready
 pub ready_answer : (ways : List (By × Bool)) (r : Result NewEntry RefFault) (number : ℕ) (key value : List ℕ) (prepared : List PatternText)
     → IfOk r (λ new. added_entry new ≡ record { number = number; key = key; value = value })
-    → IfOk r (λ new. new.prepared.items ≡ prepared) → IfOk r (λ new. length new.nodes.items ≡ length prepared)
+    → IfOk r (λ new. new.prepared.items ≡ prepared) → IfOk r (λ new. length new.nodes ≡ length prepared)
     → prepared ≡ prepared_patterns key ways → IfOk r (IsReadyFor ways)
 ready_answer ways (Ok new) number key value prepared entry same nodes patterns =
     ready_entry ways new number key value prepared entry same nodes patterns

@@ -21,3 +21,5 @@ pub mod NewEntries
 pub mod RestEntries
 pub mod Rows
 pub mod Store
+pub mod KeptTexts
+pub mod NodeNumbers

@@ -15,7 +15,7 @@ added_entries added = map added_entry added
 -- the key was prepared for each of these methods and cases, and there is a place for as many nodes
 pub record IsReadyFor (ways : List (By × Bool)) (new : NewEntry) : Type 0 where
   pub keys : new.prepared.items ≡ prepared_patterns new.key ways
-  pub numbers : length new.nodes.items ≡ length ways
+  pub numbers : length new.nodes ≡ length ways
 
 abbrev pub AreReadyFor : List (By × Bool) → List NewEntry → Type 0
 AreReadyFor ways added = All (IsReadyFor ways) added

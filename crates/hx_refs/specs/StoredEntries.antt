@@ -11,7 +11,7 @@ stored_entry stored = record { number = stored.number; key = stored.key; value =
 
 -- the numbers of the nodes that keep its key
 abbrev pub stored_nodes : StoredEntry → List ℕ
-stored_nodes stored = stored.nodes.items
+stored_nodes stored = stored.nodes
 
 abbrev pub entry_links : StoredEntry → Links
 entry_links stored = stored.links

@@ -5,10 +5,11 @@ ghost use Rattle.hx_refs.specs.StoredEntries.{stored_entry};
 ghost use Rattle.hx_refs.specs.Contents.{prepared_patterns, ways_of, IsContent, LeavesOthers, PlacedEntry};
 
 use crate::indexing::{drop_each, put_each};
+use crate::kept_text::KeptText;
+use crate::node_numbers::NodeNumbers;
 use crate::stored_entry::StoredEntry;
 use hx_index::{Index, Nodes, Prepared};
 use hx_pool::{Chain, Links, Pool, Steps};
-use hx_text::Octets;
 use std::alloc::Global;
 use std::sync::ledger::Ledger;
 
@@ -26,10 +27,10 @@ pub(crate) struct Content {
 #[derive(Drop)]
 pub(crate) struct NewEntry {
     pub(crate) number: u64,
-    pub(crate) key: Octets,
-    pub(crate) value: Octets,
+    pub(crate) key: KeptText,
+    pub(crate) value: KeptText,
     pub(crate) prepared: Vec<Prepared>,
-    pub(crate) nodes: Vec<usize>,
+    pub(crate) nodes: NodeNumbers,
 }
 
 /// Puts an entry that has no nodes yet into a spare slot, and answers the number of the slot.
@@ -38,8 +39,8 @@ fn take_slot(
     entries: &mut Pool<StoredEntry>,
     version: usize,
     number: u64,
-    key: Octets,
-    value: Octets,
+    key: KeptText,
+    value: KeptText,
 ) -> usize
     requires { 0 < entries.old.spare }
     ensures was_free { get entries.old result ≡ None }
@@ -54,7 +55,7 @@ fn take_slot(
         key,
         value,
         version,
-        nodes: Vec::new(alloc),
+        nodes: NodeNumbers::none(),
         links: Links::NONE,
     })
 }
@@ -73,7 +74,7 @@ pub(crate) fn give_back(entries: &mut Pool<StoredEntry>, slot: usize)
 fn set_nodes<L: Ledger>(
     entries: &mut Pool<StoredEntry>,
     slot: usize,
-    numbers: Vec<usize>,
+    numbers: NodeNumbers,
     steps: &mut Steps<L>,
 )
     requires { IsLive entries.old slot }
@@ -102,7 +103,7 @@ impl Content {
         requires nodes { length self.old.indexes.items ≤ nodes.old.spare }
         requires keys { new.prepared.items
             ≡ prepared_patterns new.key (ways_of self.old.indexes.items) }
-        requires numbers { length new.nodes.items ≡ length self.old.indexes.items }
+        requires numbers { length new.nodes ≡ length self.old.indexes.items }
         requires content { (placed : List PlacedEntry)
             × IsContent entries.old nodes.old version self.old placed }
         ensures content { (placed : List PlacedEntry)
@@ -174,7 +175,7 @@ impl Content {
 pub(crate) fn set_value<L: Ledger>(
     entries: &mut Pool<StoredEntry>,
     slot: usize,
-    value: Octets,
+    value: KeptText,
     steps: &mut Steps<L>,
 )
     requires { IsLive entries.old slot }

@@ -5,6 +5,7 @@ ghost use Rattle.hx_index.specs.Items.{without_node};
 ghost use Rattle.hx_text.specs.declared.kinds.By.{By as Method};
 ghost use Rattle.hx_refs.specs.Contents.{new_item, prepared_patterns, ways_of, with_items, with_list, without_numbers, AreItemsOfVersion, AreNodes, EntryPool, IsNodeAt, IsOfVersion, LeavesNodes, Listing, StandIn};
 
+use crate::node_numbers::NodeNumbers;
 use hx_index::{Index, Nodes, Prepared};
 use hx_pool::Steps;
 use std::sync::ledger::Ledger;
@@ -45,24 +46,24 @@ pub(crate) fn put_each<L: Ledger>(
     indexes: &mut Vec<Index>,
     nodes: &mut Nodes,
     prepared: Vec<Prepared>,
-    numbers: Vec<usize>,
+    numbers: NodeNumbers,
     slot: usize,
     steps: &mut Steps<L>,
-) -> Vec<usize>
-    requires numbers { length numbers.items ≡ length indexes.old.items }
+) -> NodeNumbers
+    requires numbers { length numbers ≡ length indexes.old.items }
     requires keys { (key : List ℕ)
         × (prepared.items ≡ prepared_patterns key (ways_of indexes.old.items)) }
     requires spare { length indexes.old.items ≤ nodes.old.spare }
     requires stand { (items : Listing) × StandIn nodes.old indexes.old.items items }
     ensures stand { (items : Listing) (key : List ℕ) → StandIn nodes.old indexes.old.items items
         → prepared.items ≡ prepared_patterns key (ways_of indexes.old.items)
-        → StandIn nodes.new indexes.new.items (with_items slot key result.items items) }
+        → StandIn nodes.new indexes.new.items (with_items slot key result items) }
     ensures others { (items : Listing) (entries : EntryPool) (version : ℕ)
         → StandIn nodes.old indexes.old.items items
         → AreItemsOfVersion entries version (ways_of indexes.old.items) items
         → IsOfVersion entries version slot
         → LeavesNodes entries version nodes.old nodes.new }
-    ensures numbers { length result.items ≡ length indexes.old.items }
+    ensures numbers { length result ≡ length indexes.old.items }
     ensures ways { ways_of indexes.new.items ≡ ways_of indexes.old.items }
     ensures spare { nodes.new.spare + length indexes.old.items ≡ nodes.old.spare }
     ensures live { live_count nodes.new ≡ live_count nodes.old + length indexes.old.items }
@@ -72,7 +73,7 @@ pub(crate) fn put_each<L: Ledger>(
     while let Some(key) = left.pop() {
         let at = left.len();
         let node = put_at(indexes, nodes, at, key, slot, steps);
-        numbers[at] = node;
+        numbers.put(at, node);
     }
     numbers
 }

@@ -10,14 +10,16 @@ ghost use Rattle.hx_refs.specs.Rows.{use_ways};
 
 use crate::content::NewEntry;
 use crate::fault::RefFault;
+use crate::kept_text::KeptText;
 use crate::limits::Limits;
+use crate::node_numbers::NodeNumbers;
 use crate::pairs::KeptPair;
 use crate::reference::KeptReference;
 use crate::store::NewEntries;
 use crate::uses::KeptUse;
 use hx_index::{Prepared, prepare};
 use hx_outside::{PatFault, ReMaker};
-use hx_text::{By, NoMemory, Octets, read_i64, read_ip};
+use hx_text::{By, NoMemory, read_i64, read_ip};
 use std::alloc::Global;
 
 /// The key as a pattern, prepared for an index.
@@ -67,7 +69,7 @@ pub(crate) fn prepare_keys<M: ReMaker>(
     ensures large { AdditionCountsLarge result (IsReadAs uses.now key.now)
         (M.state maker.old) (M.state maker.new) }
 {
-    let mut prepared = Vec::new(alloc);
+    let mut prepared = Vec::with_capacity(alloc, uses.len())?;
     let mut rest = uses;
     while let [kept, others @ ..] = rest {
         let kept = *kept;
@@ -96,12 +98,12 @@ pub(crate) fn entry_of_pair(
     ensures entry { IfOk result (λ new. added_entry new
         ≡ record { number = number; key = pair.now.key; value = pair.now.value }) }
     ensures prepared { IfOk result (λ new. new.prepared.items ≡ prepared.items) }
-    ensures nodes { IfOk result (λ new. length new.nodes.items ≡ length prepared.items) }
+    ensures nodes { IfOk result (λ new. length new.nodes ≡ length prepared.items) }
     ensures err { IfErr result (λ fault. fault ≡ RefFault.NoMemory) }
 {
-    let key = Octets::copy(alloc, pair.key())?;
-    let value = Octets::copy(alloc, pair.value())?;
-    let nodes = vec![in alloc; 0; prepared.len()]?;
+    let key = KeptText::copy(alloc, pair.key())?;
+    let value = KeptText::copy(alloc, pair.value())?;
+    let nodes = NodeNumbers::places(alloc, prepared.len())?;
     Ok(NewEntry {
         number,
         key,

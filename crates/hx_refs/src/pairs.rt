@@ -1,14 +1,15 @@
 ghost use Rattle.std.specs.Prelude.{◌≡◌, [], ◌∷◌, ◌++◌, length, IfOk, OnOk, OnErr};
 
-use hx_text::{NoMemory, Octets};
+use crate::kept_text::KeptText;
+use hx_text::NoMemory;
 use std::alloc::Global;
 use std::marker::Model;
 
 /// A key, and the value under it.
 #[derive(Drop)]
 pub(crate) struct KeptPair {
-    key: Octets,
-    value: Octets,
+    key: KeptText,
+    value: KeptText,
 }
 
 impl Model for KeptPair {
@@ -24,8 +25,8 @@ impl KeptPair {
         ensures { IfOk result (λ pair. pair ≡ record { key = key.now; value = value.now }) }
     {
         Ok(KeptPair {
-            key: Octets::copy(alloc, key)?,
-            value: Octets::copy(alloc, value)?,
+            key: KeptText::copy(alloc, key)?,
+            value: KeptText::copy(alloc, value)?,
         })
     }
 

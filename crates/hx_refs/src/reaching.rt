@@ -92,7 +92,7 @@ impl Content {
         ensures cost { steps.new ≤ steps.old + 3 }
     {
         let stored = entries.get(slot, steps);
-        let node = stored.nodes[at];
+        let node = stored.nodes.get(at);
         let index = &self.indexes[at];
         index.next_with(nodes, node, steps)
     }

@@ -2,9 +2,10 @@ ghost use Rattle.std.specs.Prelude.{◌≡◌};
 ghost use Rattle.hx_sample.specs.Tables.{entry_of};
 ghost use Rattle.hx_refs.specs.StoredEntries.{entry_links, stored_entry, IsSameStoredEntry};
 
+use crate::kept_text::KeptText;
+use crate::node_numbers::NodeNumbers;
 use hx_pool::{Linked, Links};
 use hx_sample::Hit;
-use hx_text::Octets;
 
 /// An entry in a slot of memory: its number, its key and its value; the number of the slot of its
 /// version; the numbers of the nodes that keep its key, one for each index of the version; and the
@@ -12,10 +13,10 @@ use hx_text::Octets;
 #[derive(Drop)]
 pub(crate) struct StoredEntry {
     pub(crate) number: u64,
-    pub(crate) key: Octets,
-    pub(crate) value: Octets,
+    pub(crate) key: KeptText,
+    pub(crate) value: KeptText,
     pub(crate) version: usize,
-    pub(crate) nodes: Vec<usize>,
+    pub(crate) nodes: NodeNumbers,
     pub(crate) links: Links,
 }
 

@@ -9,10 +9,11 @@ ghost use Rattle.hx_refs.specs.Versions.{is_chosen};
 use crate::choice::Choice;
 use crate::choosing::is_chosen;
 use crate::content::{Content, set_value};
+use crate::kept_text::KeptText;
 use crate::stored_entry::StoredEntry;
 use hx_index::Nodes;
 use hx_pool::{Pool, Steps};
-use hx_text::{NoMemory, Octets};
+use hx_text::NoMemory;
 use std::alloc::Global;
 use std::sync::ledger::Ledger;
 
@@ -21,7 +22,7 @@ fn give_value<L: Ledger>(
     entries: &mut Pool<StoredEntry>,
     slot: usize,
     choice: &Choice<'_>,
-    values: &mut Vec<Octets>,
+    values: &mut Vec<KeptText>,
     steps: &mut Steps<L>,
 )
     requires live { IsLive entries.old slot }
@@ -48,7 +49,7 @@ fn give_value<L: Ledger>(
 /// Appends one more copy of the value, if it is asked for.
 fn add_copy(
     alloc: Global,
-    copies: &mut Vec<Octets>,
+    copies: &mut Vec<KeptText>,
     value: &[u8],
     asked: bool,
 ) -> Result<(), NoMemory>
@@ -57,7 +58,7 @@ fn add_copy(
     ensures other { OnOk result (asked ≡ false → copies.new.items ≡ copies.old.items) }
 {
     if asked {
-        let copy = Octets::copy(alloc, value)?;
+        let copy = KeptText::copy(alloc, value)?;
         copies.push(copy)?;
     }
     Ok(())
@@ -73,7 +74,7 @@ impl Content {
         choice: &Choice<'_>,
         value: &[u8],
         steps: &mut Steps<L>,
-    ) -> Result<Vec<Octets>, NoMemory>
+    ) -> Result<Vec<KeptText>, NoMemory>
         requires { (version : ℕ) × (placed : List PlacedEntry)
             × IsContent entries.now nodes.now version self.now placed }
         ensures { IfOk result (λ copies. (version : ℕ) (placed : List PlacedEntry)
@@ -100,7 +101,7 @@ impl Content {
         entries: &mut Pool<StoredEntry>,
         nodes: &Nodes,
         choice: &Choice<'_>,
-        values: Vec<Octets>,
+        values: Vec<KeptText>,
         steps: &mut Steps<L>,
     )
         requires { (version : ℕ) × (placed : List PlacedEntry) × (value : List ℕ)

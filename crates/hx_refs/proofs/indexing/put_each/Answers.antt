@@ -17,7 +17,7 @@ loop-key-init g c =
       ways = refl;
       spare = omega (arith, many);
       live = omega (arith, many);
-      stand = λ items key h keys. put_none c.args.slot key c.args.numbers.items items c.args.nodes.now indexes (length c.args.prepared.items)
+      stand = λ items key h keys. put_none c.args.slot key c.args.numbers items c.args.nodes.now indexes (length c.args.prepared.items)
           (λ at way is. omega (arith, many, slice_get_within (ways_of indexes) at way is, length-map indexes way_of)) h;
       others = λ items entries version h owned own id node stored is at other. is;
     }
@@ -42,13 +42,13 @@ pub put_at-node-requires-clause-stand : goal.put_at-node-requires-clause-stand
 put_at-node-requires-clause-stand g c =
     let key = c.requires.keys.0 in
     let items = c.requires.stand.0 in
-    (partly_with c.args.slot key c.loop-key.numbers.items (length c.loop-key.left.items) items, c.loop-key.invariant.stand items key c.requires.stand.1 c.requires.keys.1)
+    (partly_with c.args.slot key c.loop-key.numbers (length c.loop-key.left.items) items, c.loop-key.invariant.stand items key c.requires.stand.1 c.requires.keys.1)
 
-pub index_mut-requires : goal.index_mut-requires
-index_mut-requires g c =
+pub put-requires : goal.put-requires
+put-requires g c =
     let i = c.loop-key.invariant in
     let next = next_key c.requires.keys.0 c.args.indexes.now.items c.loop-key.indexes.items c.args.prepared.items c.loop-key.left.items c.pop.new.self.items i.left.0 c.in-Some.key c.len-at.result c.requires.keys.1 i.ways i.left.1 c.in-Some.ensures.items (omega (arith, c.len-at.ensures, c.pop.new.self.ok.0)) in
-    omega (arith, next.within, i.numbers, c.requires.numbers, ways_length c.loop-key.indexes.items c.args.indexes.now.items i.ways, c.loop-key.numbers.ok.0)
+    omega (arith, next.within, i.numbers, c.requires.numbers, ways_length c.loop-key.indexes.items c.args.indexes.now.items i.ways)
 
 pub loop-key-preserved : goal.loop-key-preserved
 loop-key-preserved g c =
@@ -56,13 +56,13 @@ loop-key-preserved g c =
     let first = c.args.indexes.now.items in
     let left = c.loop-key.left.items in
     let rest = c.pop.new.self.items in
-    let numbers = c.loop-key.numbers.items in
+    let numbers = c.loop-key.numbers in
     let at = c.len-at.result in
     let put = c.put_at-node in
     let at_is : at ≡ length rest = omega (arith, c.len-at.ensures, c.pop.new.self.ok.0) in
     let next = next_key c.requires.keys.0 first c.loop-key.indexes.items c.args.prepared.items left rest i.left.0 c.in-Some.key at c.requires.keys.1 i.ways i.left.1 c.in-Some.ensures.items at_is in
     let within : at < length numbers = omega (arith, next.within, i.numbers, c.requires.numbers, ways_length c.loop-key.indexes.items first i.ways) in
-    record {
+    rw c.put.ensures (record {
       left = (c.in-Some.key ∷ i.left.0, next.whole);
       numbers = length-set numbers at put.result ∙ i.numbers;
       ways = put.ensures.ways ∙ i.ways;
@@ -80,10 +80,10 @@ loop-key-preserved g c =
           put.ensures.others now entries version (i.stand items key h c.requires.keys.1)
           (subst (λ ws. AreItemsOfVersion entries version ws now) (sym i.ways) (put_owned entries version c.args.slot key numbers (length left) items (ways_of first) own owned))
           id node stored (i.others items entries version h owned own id node stored is at_entry other) at_entry other;
-    }
+    })
 
 pub returns-clause-stand : goal.returns-clause-stand
 returns-clause-stand g c items key h keys =
     let none : length c.loop-key.left.items ≡ 0 = omega (arith, c.in_default.ensures.cases.0, c.loop-key.left.ok.0) in
-    put_all c.args.slot key c.loop-key.numbers.items items c.loop-key.nodes c.loop-key.indexes.items
-    (subst (λ k. StandIn c.loop-key.nodes c.loop-key.indexes.items (partly_with c.args.slot key c.loop-key.numbers.items k items)) none (c.loop-key.invariant.stand items key h keys))
+    put_all c.args.slot key c.loop-key.numbers items c.loop-key.nodes c.loop-key.indexes.items
+    (subst (λ k. StandIn c.loop-key.nodes c.loop-key.indexes.items (partly_with c.args.slot key c.loop-key.numbers k items)) none (c.loop-key.invariant.stand items key h keys))

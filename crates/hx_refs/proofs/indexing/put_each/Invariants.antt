@@ -8,14 +8,14 @@ use Rattle.hx_refs.proofs.indexing.put_each.Given as goal
 abbrev pub invariant-loop-key : goal.invariant-loop-key
 invariant-loop-key g l = record {
   left : (gone : List PatternText) × (l.fn.prepared.items ≡ l.left.items ++ gone);
-  numbers : length l.numbers.items ≡ length l.fn.numbers.items;
+  numbers : length l.numbers ≡ length l.fn.numbers;
   ways : ways_of l.indexes.items ≡ ways_of l.fn.indexes.items;
   spare : l.nodes.spare + length l.fn.indexes.items ≡ l.fn.nodes.spare + length l.left.items;
   live : live_count l.nodes + length l.left.items ≡ live_count l.fn.nodes + length l.fn.indexes.items;
   stand : (items : Listing) (key : List ℕ)
       → StandIn l.fn.nodes l.fn.indexes.items items
       → l.fn.prepared.items ≡ prepared_patterns key (ways_of l.fn.indexes.items)
-      → StandIn l.nodes l.indexes.items (partly_with l.slot key l.numbers.items (length l.left.items) items);
+      → StandIn l.nodes l.indexes.items (partly_with l.slot key l.numbers (length l.left.items) items);
   others : (items : Listing) (entries : EntryPool) (version : ℕ)
       → StandIn l.fn.nodes l.fn.indexes.items items
       → AreItemsOfVersion entries version (ways_of l.fn.indexes.items) items

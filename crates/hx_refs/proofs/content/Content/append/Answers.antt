@@ -61,9 +61,9 @@ returns-clause-content g c placed h =
     let lies = c.push_back.ensures.lies (slots_of placed)
     (chain_kept e0 e1 e2 c.args.version slot put.0 second free put.1 put.2 changed old n placed h)
     (off e0 e1 e2 c.args.version slot put.0 second free put.1 put.2 changed old n placed h) in (
-      numbers.items,
+      numbers,
       appended e0 e1 e2 c.args.version slot put.0 second free put.1 put.2 changed e3 c.push_back.ensures.values old new n c.put_each-numbers.new.nodes placed
-          (record { number = c.args.new.number; key = c.args.new.key; value = c.args.new.value }) numbers.items h
+          (record { number = c.args.new.number; key = c.args.new.key; value = c.args.new.value }) numbers h
           put.2 put.3 refl c.put_each-numbers.ensures.numbers ways (ways_length indexes.items old.indexes.items ways) refl lies
           (c.put_each-numbers.ensures.stand (items_of placed) c.args.new.key h.indexes c.requires.keys),
     )

@@ -14,14 +14,14 @@ get-stored-requires g c =
     let r = c.requires.content in
     entry_live c.args.entries.now c.args.nodes.now r.0 c.args.self.now r.1 r.2 r.3 c.args.slot r.4 r.5
 
-pub index-node-requires : goal.index-node-requires
-index-node-requires g c =
+pub get-node-requires : goal.get-node-requires
+get-node-requires g c =
     let r = c.requires.content in
     let e = c.args.entries.now in
     let n = c.args.nodes.now in
     let self = c.args.self.now in
     let same = entry_nodes e n r.0 self r.1 r.2 r.3 c.args.slot r.4 r.5 c.get-stored.result.now c.get-stored.ensures.value in
-    omega (arith, ap length same, nodes_count e n r.0 self r.1 r.2 r.3 c.args.slot r.4 r.5, is_within self.indexes.items c.args.at c.requires.index, c.get-stored.result.now.nodes.ok.0)
+    omega (arith, ap length same, nodes_count e n r.0 self r.1 r.2 r.3 c.args.slot r.4 r.5, is_within self.indexes.items c.args.at c.requires.index)
 
 pub index-index-requires : goal.index-index-requires
 index-index-requires g c =
@@ -45,7 +45,7 @@ next_with-requires-clause-holds g c =
     let same = entry_nodes e n r.0 self r.1 r.2 r.3 c.args.slot r.4 r.5 c.get-stored.result.now c.get-stored.ensures.value in (
       items_of (r.1 ++ r.2 ∷ r.3) at (method_of index) (ignores_case index),
       r.5.indexes.holds at index here,
-      node_here f c.index-node.result.now r.1 r.2 r.3 (node_is r.2 (stored_nodes c.get-stored.result.now) at c.index-node.result.now (length indexes) same (nodes_count e n r.0 self r.1 r.2 r.3 c.args.slot r.4 r.5) (is_within indexes at c.requires.index) c.index-node.ensures),
+      node_here f c.get-node.result r.1 r.2 r.3 (node_is r.2 (stored_nodes c.get-stored.result.now) at c.get-node.result (length indexes) same (nodes_count e n r.0 self r.1 r.2 r.3 c.args.slot r.4 r.5) (is_within indexes at c.requires.index) c.get-node.ensures),
     )
 
 pub returns-clause-found : goal.returns-clause-found
@@ -61,5 +61,5 @@ returns-clause-found g c v before p after here h =
     let same = entry_nodes e n v self before p after c.args.slot here h c.get-stored.result.now c.get-stored.ensures.value in
     let holds = subst (Holds n index) (map-append f before (p ∷ after)) (h.indexes.holds at index stands) in
     c.next_with.ensures.found (items_of before at (method_of index) (ignores_case index)) (f p) (items_of after at (method_of index) (ignores_case index))
-    (node_is p (stored_nodes c.get-stored.result.now) at c.index-node.result.now (length indexes) same (nodes_count e n v self before p after c.args.slot here h) (is_within indexes at c.requires.index) c.index-node.ensures) holds
+    (node_is p (stored_nodes c.get-stored.result.now) at c.get-node.result (length indexes) same (nodes_count e n v self before p after c.args.slot here h) (is_within indexes at c.requires.index) c.get-node.ensures) holds
     ∙ first_is at (method_of index) (ignores_case index) p.entry.key after

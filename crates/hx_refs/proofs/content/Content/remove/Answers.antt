@@ -17,7 +17,7 @@ drop_each-requires-clause-numbers g c =
     let r = c.requires in
     let e = c.args.entries.now in
     let n = c.args.nodes.now in
-    let same = c.as_slice-numbers.ensures.value ∙ entry_nodes e n r.0 c.args.self.now r.1 r.2 r.3 c.args.slot r.4 r.5 c.get.result.now c.get.ensures.value in
+    let same = c.as_slice-numbers.ensures ∙ entry_nodes e n r.0 c.args.self.now r.1 r.2 r.3 c.args.slot r.4 r.5 c.get.result.now c.get.ensures.value in
     ap length same ∙ nodes_count e n r.0 c.args.self.now r.1 r.2 r.3 c.args.slot r.4 r.5
 
 pub drop_each-requires-clause-stand : goal.drop_each-requires-clause-stand
@@ -25,7 +25,7 @@ drop_each-requires-clause-stand g c =
     let r = c.requires in
     let e = c.args.entries.now in
     let n = c.args.nodes.now in
-    let same = c.as_slice-numbers.ensures.value ∙ entry_nodes e n r.0 c.args.self.now r.1 r.2 r.3 c.args.slot r.4 r.5 c.get.result.now c.get.ensures.value in
+    let same = c.as_slice-numbers.ensures ∙ entry_nodes e n r.0 c.args.self.now r.1 r.2 r.3 c.args.slot r.4 r.5 c.get.result.now c.get.ensures.value in
     (items_of (r.1 ++ r.2 ∷ r.3), r.5.indexes, nodes_are (ways_of c.args.self.now.indexes.items) c.as_slice-numbers.result.now r.1 r.2 r.3 same)
 
 pub unlink-requires : goal.unlink-requires
@@ -50,7 +50,7 @@ returns-clause-content g c v before p after here h =
     let old = c.args.self.now in
     let slot = c.args.slot in
     let numbers = c.as_slice-numbers.result.now in
-    let same = c.as_slice-numbers.ensures.value ∙ entry_nodes e n v old before p after slot here h c.get.result.now c.get.ensures.value in
+    let same = c.as_slice-numbers.ensures ∙ entry_nodes e n v old before p after slot here h c.get.result.now c.get.ensures.value in
     let new : Content = record { count = old.count - 1; entries = c.unlink.new.self; indexes = c.drop_each.new.indexes } in
     let some : new.count + 1 ≡ old.count = omega (arith, h.count, length-append before (p ∷ after)) in
     removed e c.unlink.new.pool c.give_back.new.entries n v old before p after slot here h c.give_back.ensures.updates c.unlink.ensures.values new c.drop_each.new.nodes numbers same
@@ -64,7 +64,7 @@ returns-clause-others g c v before p after here h =
     let old = c.args.self.now in
     let slot = c.args.slot in
     let numbers = c.as_slice-numbers.result.now in
-    let same = c.as_slice-numbers.ensures.value ∙ entry_nodes e n v old before p after slot here h c.get.result.now c.get.ensures.value in
+    let same = c.as_slice-numbers.ensures ∙ entry_nodes e n v old before p after slot here h c.get.result.now c.get.ensures.value in
     others_left e c.unlink.new.pool c.give_back.new.entries n v old before p after slot here h c.give_back.ensures.updates c.drop_each.new.nodes
     (c.unlink.ensures.others (slots_of before) (slots_of after) (chain_about e n v old before p after slot here h))
     (c.drop_each.ensures.others (items_of (before ++ p ∷ after)) e v h.indexes (nodes_are (ways_of old.indexes.items) numbers before p after same) (entry_owned e n v old before p after slot here h))
