@@ -338,7 +338,7 @@ one_asked held specs old r left spec others now large f is distinct one =
 
 -- ---- what an addition leaves
 
-size_of_change : (r : ℕ) (change : Reference → Reference) (all : List Reference) (found : Option Reference)
+pub size_of_change : (r : ℕ) (change : Reference → Reference) (all : List Reference) (found : Option Reference)
     → length (option_map_or (λ reference. slice_set all r (change reference)) found all) ≡ length all
 size_of_change r change all None = refl
 size_of_change r change all (Some reference) = length-set all r (change reference)

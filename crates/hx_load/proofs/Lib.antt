@@ -1,3 +1,5 @@
+pub mod AddingLemmas
+pub mod AdditionLemmas
 pub mod UseLemmas
 pub mod BuiltHeadLemmas
 pub mod DeclareLemmas

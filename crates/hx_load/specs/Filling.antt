@@ -89,6 +89,11 @@ IsFailedOrNoMemory load.Failed = ⊤
 IsFailedOrNoMemory load.NoMemory = ⊤
 IsFailedOrNoMemory _ = ⊥
 
+-- the text is that of the file of a reference, where it has one and where it is known what is held
+abbrev pub HasText : Option NamedBytes → TableSpec → List ℕ → Type 0
+HasText held spec text =
+    IfSome spec.file (λ name. IfSome held (λ files. value_at files name ≡ Some text))
+
 -- the keys and values of a reference: of the text of its file, which is the one that is held, where
 -- that is known
 abbrev pub pairs_of_text : List ℕ → TableSpec → List Pair
@@ -97,8 +102,7 @@ pairs_of_text text spec =
 
 pub record HasPairs (held : Option NamedBytes) (spec : TableSpec) (pairs : List Pair) : Type 0 where
   pub text : List ℕ
-  pub of_file : IfSome spec.file (λ name.
-      IfSome held (λ files. value_at files name ≡ Some text))
+  pub of_file : HasText held spec text
   pub are : pairs ≡ pairs_of_text text spec
 
 -- the reference at a position has its entries

@@ -10,4 +10,5 @@ pub mod Loading
 pub mod Judging
 pub mod LineReading
 pub mod Filling
+pub mod Adding
 pub mod LoadResult

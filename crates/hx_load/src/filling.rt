@@ -1,31 +1,20 @@
-ghost use Rattle.std.specs.Prelude.{◌≡◌, ◌≢◌, ◌≤◌, ◌<◌, ◌⊎◌, ℕ, map, length, Some, Err};
+ghost use Rattle.std.specs.Prelude.{◌≡◌, ◌≢◌, ◌≤◌, ◌<◌, ◌⊎◌, ℕ, length, Some, Err};
 ghost use Rattle.std.specs.Prelude.{IfErr, IfOk, IfSome, IsErrOf, OnOk};
 ghost use Rattle.std.specs.List.{AllPairs};
 ghost use Rattle.hx_base.specs.Pairs.{value_at};
 ghost use Rattle.hx_outside.specs.Count.{Rose};
 ghost use Rattle.hx_outside.specs.Log.{HoldsSince, Logs};
-ghost use Rattle.hx_refs.specs.FileLines.{key_alone};
 ghost use Rattle.hx_spell.specs.TableSpecs.{AreSpecs};
 ghost use Rattle.hx_load.specs.Filling.{AsksOne, FillAsksLast, FillReads, FillReadsLast, FillsHeld};
-ghost use Rattle.hx_load.specs.Filling.{FillsOne, HasPairs, IsFailedOrNoMemory, IsFileOf, LogsFile};
-ghost use Rattle.hx_load.specs.Filling.{RefusesOne, fault_of_entry};
+ghost use Rattle.hx_load.specs.Filling.{FillsOne, HasText, IsFailedOrNoMemory, IsFileOf, LogsFile};
+ghost use Rattle.hx_load.specs.Filling.{RefusesOne};
 
+use crate::adding::add_entries;
 use crate::load_fault::LoadFault;
-use hx_ast::Texts;
 use hx_outside::{FileFault, Files, ReMaker};
-use hx_refs::{Pairs, RefFault, Refs};
+use hx_refs::Refs;
 use hx_spell::{TableSpec, TableSpecs};
-use hx_text::NoMemory;
 use std::alloc::Global;
-
-/// The code of a key that is no pattern.
-const BAD_PATTERN: u32 = 16;
-
-/// The code of a value that can't be read.
-const BAD_VALUE: u32 = 18;
-
-/// The code of an entry that is one too many.
-const TOO_LONG: u32 = 20;
 
 /// Fills the references with the entries of their files and inline patterns, in their order.
 ///
@@ -109,16 +98,13 @@ fn fill_one<F: Files, M: ReMaker>(
     ensures later { F.faults files.old ≤ F.faults files.new }
     ensures reads { LogsFile spec.now.file (F.log files.old) (F.log files.new) }
 {
-    let pairs = pairs_of(alloc, files, spec)?;
-    match refs.add_many(r, None, &pairs, maker) {
-        Ok(()) => Ok(()),
-        Err(fault) => Err(entry_fault(spec.line, fault)),
-    }
+    let text = text_of(alloc, files, spec)?;
+    add_entries(alloc, refs, r, spec, text.as_slice(), maker)
 }
 
-/// The keys and values of a reference.
-fn pairs_of<F: Files>(alloc: Global, files: &mut F, spec: &TableSpec) -> Result<Pairs, LoadFault>
-    ensures pairs { IfOk result (λ pairs. HasPairs (F.held files.old) spec.now pairs) }
+/// The text of the file of a reference. It is empty where the reference has none.
+fn text_of<F: Files>(alloc: Global, files: &mut F, spec: &TableSpec) -> Result<Vec<u8>, LoadFault>
+    ensures text { IfOk result (λ text. HasText (F.held files.old) spec.now text.items) }
     ensures err { IfErr result IsFailedOrNoMemory }
     ensures failed { IsErrOf result LoadFault.Failed
         → Rose (F.faults files.old) (F.faults files.new) × IsFileOf spec.now (F.last files.new) }
@@ -128,11 +114,8 @@ fn pairs_of<F: Files>(alloc: Global, files: &mut F, spec: &TableSpec) -> Result<
     ensures reads { LogsFile spec.now.file (F.log files.old) (F.log files.new) }
 {
     match &spec.file {
-        Some(name) => {
-            let text = read_file(alloc, files, name.as_slice())?;
-            Ok(Pairs::of_text(alloc, text.as_slice(), spec.two_column)?)
-        }
-        None => Ok(keys(alloc, &spec.inline)?),
+        Some(name) => read_file(alloc, files, name.as_slice()),
+        None => Ok(Vec::new(alloc)),
     }
 }
 
@@ -152,40 +135,5 @@ fn read_file<F: Files>(alloc: Global, files: &mut F, name: &[u8]) -> Result<Vec<
         Ok(text) => Ok(text),
         Err(FileFault::Failed) => Err(LoadFault::Failed),
         Err(FileFault::NoMemory) => Err(LoadFault::NoMemory),
-    }
-}
-
-/// The keys of inline patterns.
-fn keys(alloc: Global, words: &Texts) -> Result<Pairs, NoMemory>
-    ensures { IfOk result (λ pairs. pairs ≡ map key_alone words.now) }
-{
-    let mut pairs = Pairs::new(alloc);
-    let mut rest = words.as_slice();
-    while let [word, others @ ..] = rest {
-        pairs.push(word.as_slice(), b"")?;
-        rest = others;
-    }
-    Ok(pairs)
-}
-
-/// The fault of a configuration where an entry that this line brings has one.
-fn entry_fault(line: u64, fault: RefFault) -> LoadFault
-    ensures { result ≡ fault_of_entry line fault }
-{
-    match fault {
-        RefFault::BadPattern => LoadFault::Refused {
-            line,
-            code: BAD_PATTERN,
-        },
-        RefFault::BadValue => LoadFault::Refused {
-            line,
-            code: BAD_VALUE,
-        },
-        RefFault::VersionFull | RefFault::VersionWorn => LoadFault::Refused {
-            line,
-            code: TOO_LONG,
-        },
-        RefFault::TooLarge => LoadFault::TooLarge,
-        _ => LoadFault::NoMemory,
     }
 }

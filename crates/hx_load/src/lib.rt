@@ -10,6 +10,7 @@
 //! ```
 #![tactic(auto)]
 
+mod adding;
 mod filling;
 pub mod laws;
 mod line_fault;

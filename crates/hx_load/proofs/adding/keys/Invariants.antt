@@ -1,6 +1,6 @@
 use Rattle.std.proofs.Common.{◌≡◌, ◌++◌, length, map}
 use Rattle.hx_refs.specs.FileLines.{key_alone}
-use Rattle.hx_load.proofs.filling.keys.Given as goal
+use Rattle.hx_load.proofs.adding.keys.Given as goal
 
 abbrev pub invariant-loop-rest : goal.invariant-loop-rest
 invariant-loop-rest l = l.pairs ++ map key_alone l.rest ≡ map key_alone l.words
