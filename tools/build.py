@@ -1,6 +1,6 @@
 #!/usr/bin/env python3
-"""Proves the program hxeval and every crate below it, and links it: each crate as soon as those that
-it stands on are done, on all processors.
+"""Proves a program and every crate below it, and links it: each crate as soon as those that it
+stands on are done, on all processors.
 
 Usage: tools/build.py [CRATE ..]
 
@@ -105,9 +105,9 @@ def prove(crates, name, rooms, jobs):
     room_for(crates, name, room)
     words = ["rt", "lib", "--jobs", str(jobs)]
     if os.path.isfile(f"{folder}/src/main.rt"):
-        # linking is a part of running: over the first example, with no record
+        # linking is a part of running: each program tells what it takes
         words[1] = "run"
-        words += ["--", "run", f"{TOP}/examples/first/deny.cfg"]
+        words += ["--", "--help"]
     ran = subprocess.run(
         words,
         cwd=folder,
@@ -169,12 +169,10 @@ def build(names):
             ready = [(-behind[it], it) for it in waiting if all(dep in done for dep in crates[it])]
             heapq.heapify(ready)
             while ready and len(running) < lanes and not failed:
-                # processors that nothing else waits for search with the last crates
+                # A proof that several processors share takes three times as much of them, so only
+                # those that no other crate waits for share one.
                 jobs = max(1, (lanes - len(running)) // len(ready))
                 _, name = heapq.heappop(ready)
-                # the end waits for the crate with the longest way up, so it searches with all
-                if behind[name] == max(behind[it] for it in (*waiting, *running)):
-                    jobs = lanes
                 waiting.remove(name)
                 running[name] = jobs
                 threading.Thread(target=work, args=(name, jobs, rooms)).start()

@@ -13,13 +13,14 @@ use Rattle.hx_record.specs.declared.Next.TheVariants as next
 use Rattle.hx_record.specs.declared.Placed.{Placed}
 use Rattle.hx_record.specs.declared.RecordFault.{RecordFault}
 use Rattle.hx_record.specs.declared.RecordFault.TheVariants as reader
+use Rattle.hx_replay.specs.Program.{Program}
+use Rattle.hx_replay.proofs.LogLemmas.{before_read}
 use Rattle.hxeval.specs.Gathering.{AnswersEvent, LogsFailure}
-use Rattle.hxeval.specs.Program.{Program}
 use Rattle.hxeval.specs.Replay.{BeginsWithDecided, WritesBeforeReading}
 use Rattle.hxeval.specs.RunFault.{reader_fault, sink_fault}
 use Rattle.hxeval.specs.declared.run_fault.RunFault.{RunFault}
 use Rattle.hxeval.specs.declared.run_fault.RunFault.TheVariants as run
-use Rattle.hxeval.proofs.LogLemmas.{before_read, written_more}
+use Rattle.hxeval.proofs.WrittenLemmas.{written_more}
 use Rattle.hxeval.proofs.ReplayLemmas.{decided_written, Answer, Progress}
 
 -- reading more failed: all that is decided was written before the read, or there was none

@@ -15,7 +15,8 @@ use Rattle.hx_outside.specs.declared.SinkFault.TheVariants as sink
 use Rattle.hx_refs.specs.References.{RefsState}
 use Rattle.hx_refs.specs.declared.Limits.{Limits}
 use Rattle.hx_rules.specs.Programs.{Rules}
-use Rattle.hxeval.specs.Run.{HoldsConfig, Setting, usual_limits}
+use Rattle.hx_replay.specs.Program.{usual_limits}
+use Rattle.hxeval.specs.Run.{HoldsConfig, Setting}
 use Rattle.hxeval.specs.RunFault.{Finishes, IsReplayFault, fault_of_file, fault_status, load_fault, sink_fault}
 use Rattle.hxeval.specs.RunFiles.{ReadsFiles, result_status}
 use Rattle.hxeval.specs.declared.run_fault.RunFault.{RunFault}

@@ -16,8 +16,8 @@ use Rattle.hx_text.specs.declared.Out.{Out}
 use Rattle.hx_text.specs.declared.Out.TheVariants as out
 use Rattle.hx_load.specs.Loads.{declared}
 use Rattle.hx_load.specs.References.{declared_references, numbers_of, with_heads, with_outputs, with_table, with_tables, AreFilled}
-use Rattle.hxeval.specs.Program.{Program}
-use Rattle.hxeval.specs.Run.{usual_limits, Setting, Accepts}
+use Rattle.hx_replay.specs.Program.{Program, usual_limits}
+use Rattle.hxeval.specs.Run.{Setting, Accepts}
 
 -- version 0 is the one that is searched, of each of the references
 abbrev Begin : List Reference → Type 0

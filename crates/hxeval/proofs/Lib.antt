@@ -1,13 +1,10 @@
 pub mod BeforeReadingLemmas
 pub mod EndLemmas
-pub mod ExplainLemmas
 pub mod FilesLemmas
 pub mod FirstVersionLemmas
-pub mod KnownFilesLemmas
-pub mod LogLemmas
-pub mod MachineLemmas
 pub mod OutcomeLemmas
 pub mod ReplayLemmas
 pub mod RunLemmas
 pub mod StatusLemmas
 pub mod UnseenLemmas
+pub mod WrittenLemmas

@@ -21,14 +21,17 @@ use Rattle.hx_record.specs.declared.Next.TheVariants as next
 use Rattle.hx_record.specs.declared.Placed.{Placed}
 use Rattle.hx_record.specs.declared.RecordFault.{RecordFault}
 use Rattle.hx_record.specs.declared.RecordFault.TheVariants as reader
-use Rattle.hxeval.specs.Gathering.{program_in, AreAtBeginning, Replays, Passes, AnswersEvent, GathersAnswer, IsFailure}
+use Rattle.hx_replay.specs.Gathering.{Passes}
+use Rattle.hx_replay.specs.Program.{program_in, initial_world, Program}
+use Rattle.hx_replay.specs.Records.{bytes_given, IsRecord, record_limit, refusal_code}
+use Rattle.hx_replay.proofs.LogLemmas.{before_none, before_read, given_and_more, since_start, HaveGiven}
+use Rattle.hxeval.specs.Gathering.{AreAtBeginning, Replays, AnswersEvent, GathersAnswer, IsFailure}
 use Rattle.hxeval.specs.Outcome.{Outcome, Completed, RecordRefused, Undecided, after_answers}
-use Rattle.hxeval.specs.Replay.{bytes_given, BeginsWithDecided, IsRecord, ItemsAskFor, ReplayAsksLast, WritesBeforeReading, WritesDecided, record_limit, initial_world, ends_with, event_outcome, refusal_code, replay_outcome, record_outcome, decided_outcome}
-use Rattle.hxeval.specs.Program.{Program}
+use Rattle.hxeval.specs.Replay.{BeginsWithDecided, ItemsAskFor, ReplayAsksLast, WritesBeforeReading, WritesDecided, ends_with, event_outcome, replay_outcome, record_outcome, decided_outcome}
 use Rattle.hxeval.specs.RunFault.{IsReplayFault, result_end, reader_fault, sink_fault}
 use Rattle.hxeval.specs.declared.run_fault.RunFault.{RunFault}
 use Rattle.hxeval.specs.declared.run_fault.RunFault.TheVariants as run
-use Rattle.hxeval.proofs.LogLemmas.{before_none, before_read, given_and_more, since_start, written_more, HaveGiven}
+use Rattle.hxeval.proofs.WrittenLemmas.{written_more}
 use Rattle.hxeval.proofs.OutcomeLemmas.{shorter_prefix}
 
 -- an expression that is asked for at the one items, from the one world on, is asked for at the other ones, from the other

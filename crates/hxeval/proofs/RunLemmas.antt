@@ -15,15 +15,17 @@ use Rattle.hx_refs.specs.References.{References, version_entries, RefsState}
 use Rattle.hx_refs.specs.declared.Limits.{Limits}
 use Rattle.hx_rules.specs.Programs.{Rules}
 use Rattle.hx_rules.specs.Tables.{HasHeads, HasLists}
+use Rattle.hx_replay.specs.Records.{IsRecord}
+use Rattle.hx_replay.specs.Program.{Program, usual_limits}
+use Rattle.hx_replay.proofs.LogLemmas.{before_map, before_none}
 use Rattle.hxeval.specs.Gathering.{Replays}
 use Rattle.hxeval.specs.Outcome.{ConfigRefused, Undecided, last_line}
-use Rattle.hxeval.specs.Replay.{BeginsWithDecided, IsRecord, ReplayAsksLast, WritesBeforeReading, WritesDecided, ends_with, decided_outcome}
+use Rattle.hxeval.specs.Replay.{BeginsWithDecided, ReplayAsksLast, WritesBeforeReading, WritesDecided, ends_with, decided_outcome}
 use Rattle.hx_load.specs.LoadResult.{LoadJudgesLast, LoadReadsLast, LoadsHeld}
 use Rattle.hx_load.specs.Loads.{Loading, Loads, ReadsFile, loaded}
 use Rattle.hx_load.specs.Loads as loading
-use Rattle.hxeval.specs.Program.{Program}
 use Rattle.hx_load.specs.References.{HasFiles}
-use Rattle.hxeval.specs.Run.{Setting, Accepts, AcceptsSome, AnswersBeforeReading, RunAsksLast, RunJudgesLast, RunReads, SourceFails, accepted_outcome, check_line, outcome_of, usual_limits}
+use Rattle.hxeval.specs.Run.{Setting, Accepts, AcceptsSome, AnswersBeforeReading, RunAsksLast, RunJudgesLast, RunReads, SourceFails, accepted_outcome, check_line, outcome_of}
 use Rattle.hxeval.specs.RunFault.{Attempted, Finishes, IsReplayFault, fault_end, result_end, fault_of_file, load_fault, sink_fault}
 use Rattle.hxeval.specs.declared.command.Task.{Task}
 use Rattle.hxeval.specs.declared.command.Task.TheVariants as task
@@ -32,7 +34,7 @@ use Rattle.hx_load.specs.declared.load_fault.LoadFault.TheVariants as load
 use Rattle.hxeval.specs.declared.run_fault.RunFault.{RunFault}
 use Rattle.hxeval.specs.declared.run_fault.RunFault.TheVariants as run
 use Rattle.hx_load.proofs.LoadedLemmas.{loads}
-use Rattle.hxeval.proofs.LogLemmas.{before_map, before_none, begins_more}
+use Rattle.hxeval.proofs.WrittenLemmas.{begins_more}
 
 -- the files, as far as it is known what they hold
 abbrev pub files_in : Option NamedBytes → NamedBytes

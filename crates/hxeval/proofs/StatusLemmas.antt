@@ -9,12 +9,13 @@ use Rattle.hx_outside.specs.Count.{Rose}
 use Rattle.hx_record.specs.Record.{Items, Unknown, Done, Bad, Then, record_items}
 use Rattle.hx_record.specs.declared.Event.{Event}
 use Rattle.hx_record.specs.declared.Placed.{Placed}
+use Rattle.hx_replay.specs.Program.{initial_world, Program, usual_limits}
+use Rattle.hx_replay.specs.Records.{refusal_code, record_limit, events_of, AreAllowed}
 use Rattle.hxeval.specs.Outcome.{End, Outcome, Completed, ConfigRefused, RecordRefused, Undecided, status_of, last_line, text_of, after_answers}
-use Rattle.hxeval.specs.Replay.{ends_with, refusal_code, replay_outcome, record_outcome, record_limit, initial_world, events_of, AreAllowed, answers_to}
+use Rattle.hxeval.specs.Replay.{ends_with, replay_outcome, record_outcome, answers_to}
 use Rattle.hx_load.specs.Loads.{Loading, Loads, loaded}
 use Rattle.hx_load.specs.Loads as loading
-use Rattle.hxeval.specs.Program.{Program}
-use Rattle.hxeval.specs.Run.{Setting, Accepts, Checked, HasOutcome, HasStatus, Ran, Headline, check_line, outcome_under, outcome_of, usual_limits}
+use Rattle.hxeval.specs.Run.{Setting, Accepts, Checked, HasOutcome, HasStatus, Ran, Headline, check_line, outcome_under, outcome_of}
 use Rattle.hxeval.specs.declared.command.Task.{Task}
 use Rattle.hxeval.specs.declared.command.Task.TheVariants as task
 use Rattle.hxeval.specs.RunFault.{Attempted, Finishes, fault_end, fault_status}

@@ -8,7 +8,9 @@ use Rattle.hx_core.specs.Unseen.{answer_without_count, events_without, is_any_ev
 use Rattle.hx_core.specs.World.{World}
 use Rattle.hx_core.specs.declared.fault.StepFault.{StepFault}
 use Rattle.hx_record.specs.declared.Event.{Event}
-use Rattle.hxeval.specs.Replay.{answers_to, initial_world, AreAllowed}
+use Rattle.hx_replay.specs.Program.{initial_world}
+use Rattle.hx_replay.specs.Records.{AreAllowed}
+use Rattle.hxeval.specs.Replay.{answers_to}
 use Rattle.hxeval.specs.Run.{Headline, Setting}
 use Rattle.hxeval.specs.Unseen.{chosen_answers, ShowsInNoAnswer, ShowsNoUncommittedVersion}
 use Rattle.hx_core.proofs.UnseenRunLemmas.{runs_alike, worlds_begin}

@@ -9,9 +9,11 @@ use Rattle.hx_core.specs.Steps.{refusal_of, world_after, answer_of}
 use Rattle.hx_core.specs.World.{EngineParts, World}
 use Rattle.hx_core.specs.declared.fault.StepFault.{StepFault}
 use Rattle.hx_core.specs.declared.fault.StepFault.TheVariants as step
+use Rattle.hx_replay.specs.Gathering.{Passes}
+use Rattle.hx_replay.specs.Program.{initial_world, Program, program_in}
+use Rattle.hx_replay.specs.Records.{record_limit, IsRecord, refusal_code}
 use Rattle.hxeval.specs.Outcome.{Outcome}
-use Rattle.hxeval.specs.Replay.{initial_world, record_limit, IsRecord, record_outcome, refusal_code}
-use Rattle.hxeval.specs.Program.{Program}
+use Rattle.hxeval.specs.Replay.{record_outcome}
 use Rattle.hxeval.specs.RunFault.{WritesOutcome}
 use Rattle.hxeval.specs.declared.run_fault.RunFault.{RunFault}
 use Rattle.hxeval.specs.declared.run_fault.RunFault.TheVariants.{ConfigRefused, RecordRefused, Files, Source, TooLarge}
@@ -22,10 +24,6 @@ pub record IsOfRecord (program : Program) (left : Option (List ℕ)) (outcome : 
   pub bytes : List ℕ
   pub of_source : IsRecord left bytes
   pub is : outcome ≡ record_outcome program bytes
-
--- the program of a world that had no event yet
-abbrev pub program_in : World → Program
-program_in world = record { rules = world.rules; references = world.refs }
 
 -- an engine that had no event yet, and a reader at the beginning of a record
 pub record AreAtBeginning (engine : EngineParts) (reader : State) : Type 0 where
@@ -38,12 +36,6 @@ abbrev pub Replays : Program → (left old new : Option (List ℕ)) → (gathere
     → Result (Unit {0}) RunFault → Type 0
 Replays program left old new gathered result =
     WritesOutcome (IsOfRecord program left) old new gathered result
-
--- of a text the first bytes were written, the next are gathered, and the rest is lost
-pub record Passes (old new : Option (List ℕ)) (text gathered rest : List ℕ) : Type 0 where
-  pub wrote : List ℕ
-  pub appended : Appends old new wrote
-  pub whole : text ≡ wrote ++ (gathered ++ rest)
 
 -- What a step gathers: the world goes on, and the answer to the event follows those before it. One
 -- that may not stand where it stands has no answer. Where memory runs out, or an expression is too

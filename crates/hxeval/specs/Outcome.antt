@@ -1,6 +1,7 @@
 -- What a run writes, and how it ends.
 use Rattle.std.specs.Prelude.{ℕ, List, [], ◌++◌, codes, Option, None, Some}
 use Rattle.std.specs.Fmt.{decimal}
+use Rattle.hx_replay.specs.Records.{record_line}
 
 -- How a run ends, as its configuration and its record decide it.
 pub data End : Type 0 where
@@ -24,10 +25,6 @@ status_of Undecided = None
 abbrev pub config_line : (line code : ℕ) → List ℕ
 config_line line code =
     codes "config " ++ (decimal line ++ (codes " " ++ (decimal code ++ codes "\n")))
-
-abbrev pub record_line : (offset code : ℕ) → List ℕ
-record_line offset code =
-    codes "record " ++ (decimal offset ++ (codes " " ++ (decimal code ++ codes "\n")))
 
 -- the line that is written of a refusal
 abbrev pub last_line : End → List ℕ

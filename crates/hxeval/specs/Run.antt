@@ -1,5 +1,5 @@
 -- What a run writes, and its status.
-use Rattle.std.specs.Prelude.{◌≡◌, ◌⊎◌, ◌++◌, ℕ, List, [], ◌∷◌, length, map, codes, Contains, IfSome, IsSomeAnd, Option, None, Some, option_map, if◌then◌else◌}
+use Rattle.std.specs.Prelude.{◌≡◌, ◌⊎◌, ◌++◌, ℕ, List, [], ◌∷◌, length, codes, Contains, IfSome, IsSomeAnd, Option, None, Some, option_map, if◌then◌else◌}
 use Rattle.std.specs.Fmt.{decimal}
 use Rattle.std.specs.Io.KnownBytes.{Appends}
 use Rattle.std.specs.Str.{bytes_eq}
@@ -11,22 +11,19 @@ use Rattle.hx_load.specs.Loads as loading
 use Rattle.hx_outside.specs.Log.{Log}
 use Rattle.hx_outside.specs.Makers.{ExpressionText}
 use Rattle.hx_outside.specs.Prefixes.{AppendsPrefix}
+use Rattle.hx_program.specs.Machine.{texts_of}
 use Rattle.hx_record.specs.Record.{record_items}
 use Rattle.hx_record.specs.declared.Event.{Event}
 use Rattle.hx_refs.specs.References.{References}
-use Rattle.hx_refs.specs.declared.Limits.{Limits}
 use Rattle.hx_rules.specs.Programs.{Rules, rule_count}
 use Rattle.hx_words.specs.Variable.{Env}
+use Rattle.hx_replay.specs.Program.{initial_world, Program, usual_limits}
+use Rattle.hx_replay.specs.Records.{HoldsBeforeLastRead, IsRecord, record_limit, events_of, AreAllowed}
 use Rattle.hxeval.specs.Outcome.{Outcome, Completed, ConfigRefused, Undecided, status_of, text_of}
 pub use Rattle.hxeval.specs.Outcome.{config_line}
-use Rattle.hxeval.specs.Replay.{BeginsWithDecided, HoldsBeforeLastRead, IsRecord, ReplayAsksLast, WritesDecided, record_limit, ends_with, record_outcome, events_of, AreAllowed, answers_to, initial_world}
-use Rattle.hxeval.specs.Program.{Program}
+use Rattle.hxeval.specs.Replay.{BeginsWithDecided, ReplayAsksLast, WritesDecided, ends_with, record_outcome, answers_to}
 use Rattle.hxeval.specs.declared.command.Task.{Task}
 use Rattle.hxeval.specs.declared.command.Task.TheVariants.{Check, Replay}
-
--- the bytes of the words of a command line
-abbrev pub texts_of : List (Vec ℕ Global) → List (List ℕ)
-texts_of words = map (λ word. word.items) words
 
 -- the task of a first word: that a record is answered, or that a configuration is checked
 abbrev pub task_of : List ℕ → Option Task
@@ -70,10 +67,6 @@ abbrev pub setting_of : List (Vec ℕ Global) → List (Vec ℕ Global × Vec �
     → Option NamedBytes → Option (List ℕ) → Option Setting
 setting_of words env held left =
     option_map (λ command. setting env held command left) (command_of (texts_of words))
-
--- the limits of the references of a configuration
-abbrev pub usual_limits : Limits
-usual_limits = record { entries = 1000000; adds = 4000000000; versions = 4294967295 }
 
 -- these are the files, and the configuration is what they hold under its name, where that is
 -- known

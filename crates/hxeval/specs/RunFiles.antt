@@ -2,7 +2,8 @@
 use Rattle.std.specs.Prelude.{◌≡◌, ◌⊎◌, ℕ, List, [], ◌∷◌, Option, Result, Ok, Err}
 use Rattle.hx_load.specs.Configuration.{Refusal}
 use Rattle.hx_load.specs.Files.{IsLastRead, ReadsAllFiles, ReadsFirstFiles, ReadsUpToRefusal}
-use Rattle.hxeval.specs.Run.{HoldsConfig, Setting, usual_limits}
+use Rattle.hx_replay.specs.Program.{usual_limits}
+use Rattle.hxeval.specs.Run.{HoldsConfig, Setting}
 use Rattle.hxeval.specs.RunFault.{fault_status}
 use Rattle.hxeval.specs.declared.run_fault.RunFault.{RunFault}
 

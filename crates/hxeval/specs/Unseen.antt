@@ -6,7 +6,8 @@ use Rattle.hx_core.specs.Steps.{answer_of, world_after}
 use Rattle.hx_core.specs.Unseen.{answer_without_count, events_without, is_any_event, is_kept, IsNeverCommitted}
 use Rattle.hx_core.specs.World.{World}
 use Rattle.hx_record.specs.declared.Event.{Event}
-use Rattle.hxeval.specs.Replay.{initial_world, AreAllowed}
+use Rattle.hx_replay.specs.Program.{initial_world}
+use Rattle.hx_replay.specs.Records.{AreAllowed}
 use Rattle.hxeval.specs.Run.{Headline, Setting}
 
 -- what a function makes of those of the events that a test chooses, each in the world to which all

@@ -1,6 +1,7 @@
 ghost use Rattle.std.specs.Prelude.{◌≡◌, option_map};
+ghost use Rattle.hx_program.specs.Machine.{texts_of};
 ghost use Rattle.hxeval.specs.Command.{asked_of};
-ghost use Rattle.hxeval.specs.Run.{command_of, task_of, texts_of};
+ghost use Rattle.hxeval.specs.Run.{command_of, task_of};
 
 /// What a command asks for.
 #[derive(Clone, Copy, Debug, PartialEq, Eq)]

@@ -1,18 +1,17 @@
-ghost use Rattle.std.specs.Prelude.{◌≡◌, ◌≤◌, ◌++◌, Some, OnOk, IsErrOf, map};
+ghost use Rattle.std.specs.Prelude.{◌≡◌, OnOk, IsErrOf, Some};
 ghost use Rattle.std.specs.Io.KnownBytes.{Appends};
 ghost use Rattle.hx_outside.specs.Count.{Rose};
 ghost use Rattle.hx_outside.specs.Prefixes.{AppendsPrefix};
-ghost use Rattle.hxeval.specs.Run.{texts_of};
-ghost use Rattle.hxeval.specs.Explanation.{all_of, code_of, explanation, explanation_of, fault_text};
-ghost use Rattle.hxeval.specs.Explanation.{given_name, meaning_of, number_of, reason_of};
-ghost use Rattle.hxeval.specs.Explanation.{refusal_text, status_text, told_of};
+ghost use Rattle.hx_program.specs.Machine.{texts_of};
+ghost use Rattle.hx_replay.specs.Explanation.{told_of};
+ghost use Rattle.hxeval.specs.Explanation.{ending_of, explanation, fault_ending, given_name};
 
-use crate::codes::{CONFIG_CODES, RECORD_CODES, Row, meaning_of};
 use crate::command::command_of;
 use crate::run::Ended;
 use crate::run_fault::RunFault;
-use hx_outside::{Sink, SinkFault, write_all};
-use itoa::Buffer;
+use hx_outside::{Sink, SinkFault};
+use hx_program::text_of_status;
+use hx_replay::{Ending, Told};
 
 /// What the program takes, and how it ends.
 pub const USAGE: &[u8] = b"usage: hxeval run CONFIG\n\
@@ -29,10 +28,11 @@ pub const USAGE: &[u8] = b"usage: hxeval run CONFIG\n\
     5 a file or the record can't be read, 6 an answer can't be written, 7 out of memory,\n\
     8 a regular expression is too large.\n";
 
-/// What is said of the statuses that need no more.
-const STATUS_TEXTS: [(u8, &[u8]); 4] = [
+/// What is said of a run where its status says all: of 5, where it is no file that can't be read.
+const STATUS_TEXTS: [(u8, &[u8]); 5] = [
     (0, b""),
     (2, USAGE),
+    (5, b"hxeval: the record can't be read from standard input\n"),
     (
         6,
         b"hxeval: the answers can't be written to standard output\n",
@@ -40,29 +40,8 @@ const STATUS_TEXTS: [(u8, &[u8]); 4] = [
     (7, b"hxeval: out of memory\n"),
 ];
 
-/// What is said of status 5 where it is no file that can't be read.
-const RECORD_UNREAD: &[u8] = b"hxeval: the record can't be read from standard input\n";
-
 /// What is said of any other status.
 const UNKNOWN_STATUS: &[u8] = b"hxeval: ended with an unknown status\n";
-
-/// A text in its parts.
-type Parts<'t> = [&'t [u8]; 12];
-
-/// What is told of a run beside its fault. Contracts see the texts.
-#[derive(Clone, Copy)]
-pub struct Told<'t> {
-    /// the name of the configuration
-    pub name: &'t [u8],
-    /// where the fault is, as far as that is known: nothing, or words that end in `: `
-    pub place: &'t [u8],
-    /// what is wrong there, where more is known than the code says; else nothing
-    pub reason: &'t [u8],
-    /// the name of the file that was read last
-    pub file: &'t [u8],
-    /// the last regular expression that was too large
-    pub large: &'t [u8],
-}
 
 /// Writes to `err`, in plain words for a person, why a run ended so; of a run without a fault and
 /// with status 0, nothing.
@@ -81,45 +60,43 @@ pub(crate) fn explain<K: Sink>(err: &mut K, ended: Ended, told: &Told<'_>) -> Re
         (explanation ended.status ended.fault (told_of told.now)) }
     ensures failed { IsErrOf result SinkFault.Failed → Rose (K.faults err.old) (K.faults err.new) }
 {
-    let (number, code) = numbers(ended.fault);
-    let mut of_number = Buffer::new();
-    let mut of_code = Buffer::new();
-    let number = of_number.format(number).as_bytes();
-    let code = of_code.format(code).as_bytes();
-    // made anew, so that its texts live as long as the numbers
-    let told = Told {
-        name: told.name,
-        place: told.place,
-        reason: told.reason,
-        file: told.file,
-        large: told.large,
-    };
-    write_parts(err, &explanation(ended, &told, number, code))
+    let of_status = text_of_status(&STATUS_TEXTS, ended.status, UNKNOWN_STATUS);
+    hx_replay::explain(err, b"hxeval", ending_of(ended), of_status, told)
 }
 
-/// The numbers of a fault that is a refusal: its line or its offset, and its code. Else zeros.
-fn numbers(fault: Option<RunFault>) -> (u64, u32)
-    ensures number { result.0 ≡ number_of fault }
-    ensures code { result.1 ≡ code_of fault }
+/// How a run ended, as it is told.
+pub(crate) fn ending_of(ended: Ended) -> Ending
+    ensures { result ≡ ending_of ended.status ended.fault }
 {
-    match fault {
-        Some(fault) => fault_numbers(fault),
-        None => (0, 0),
+    match ended.fault {
+        Some(fault) => ending_with(ended.status, fault),
+        None => Ending::Other,
     }
 }
 
-fn fault_numbers(fault: RunFault) -> (u64, u32)
-    ensures number { result.0 ≡ number_of (Some fault) }
-    ensures code { result.1 ≡ code_of (Some fault) }
+/// The same of a run that this fault ended.
+fn ending_with(status: u8, fault: RunFault) -> Ending
+    ensures { result ≡ ending_of status (Some fault) }
+{
+    if status == fault.status() {
+        fault_ending(fault)
+    } else {
+        Ending::Other
+    }
+}
+
+/// What is told of a fault, where the status is its own.
+fn fault_ending(fault: RunFault) -> Ending
+    ensures { result ≡ fault_ending fault }
 {
     match fault {
-        RunFault::ConfigRefused { line, code } => (line, code),
-        RunFault::RecordRefused { offset, code } => (offset, code),
-        RunFault::Files => (0, 0),
-        RunFault::Source => (0, 0),
-        RunFault::Sink => (0, 0),
-        RunFault::TooLarge => (0, 0),
-        RunFault::NoMemory => (0, 0),
+        RunFault::ConfigRefused { line, code } => Ending::ConfigRefused { line, code },
+        RunFault::RecordRefused { offset, code } => Ending::RecordRefused { offset, code },
+        RunFault::Files => Ending::UnreadFile,
+        RunFault::TooLarge => Ending::TooLarge,
+        RunFault::Source => Ending::Other,
+        RunFault::Sink => Ending::Other,
+        RunFault::NoMemory => Ending::Other,
     }
 }
 
@@ -131,162 +108,6 @@ pub(crate) fn given_name(words: &[Vec<u8>]) -> &[u8]
         Some(command) => command.name,
         None => b"the configuration",
     }
-}
-
-/// Writes the parts of a text, one after the other.
-fn write_parts<K: Sink>(out: &mut K, parts: &[&[u8]]) -> Result<(), SinkFault>
-    ensures ok { OnOk result (Appends (K.written out.old) (K.written out.new) (all_of parts.now)) }
-    ensures prefix { AppendsPrefix (K.written out.old) (K.written out.new) (all_of parts.now) }
-    ensures later { K.faults out.old ≤ K.faults out.new }
-    ensures failed { IsErrOf result SinkFault.Failed → Rose (K.faults out.old) (K.faults out.new) }
-{
-    for part in parts {
-        write_all(out, part)?;
-    }
-    Ok(())
-}
-
-/// Why a run ended so, where the numbers of its fault are written so.
-#[tactic(auto, unfolding(crate::specs::Explanation::explanation_of))]
-fn explanation<'t>(ended: Ended, told: &Told<'t>, number: &'t [u8], code: &'t [u8]) -> Parts<'t>
-    ensures { all_of result
-        ≡ explanation_of ended.status ended.fault (told_of told.now) number.now code.now }
-{
-    match ended.fault {
-        Some(fault) => ended_parts(ended.status, fault, told, number, code),
-        None => status_parts(ended.status),
-    }
-}
-
-/// The same of a run that a fault ended.
-#[tactic(auto, unfolding(crate::specs::Explanation::explanation_of))]
-fn ended_parts<'t>(
-    status: u8,
-    fault: RunFault,
-    told: &Told<'t>,
-    number: &'t [u8],
-    code: &'t [u8],
-) -> Parts<'t>
-    ensures { all_of result
-        ≡ explanation_of status (Some fault) (told_of told.now) number.now code.now }
-{
-    if status == fault.status() {
-        fault_parts(fault, told, number, code)
-    } else {
-        status_parts(status)
-    }
-}
-
-/// What is said of a fault, where its numbers are written so.
-fn fault_parts<'t>(fault: RunFault, told: &Told<'t>, number: &'t [u8], code: &'t [u8]) -> Parts<'t>
-    ensures { all_of result ≡ fault_text fault (told_of told.now) number.now code.now }
-{
-    match fault {
-        RunFault::ConfigRefused { .. } => {
-            refusal(told.name, b":", number, told, code, &CONFIG_CODES)
-        }
-        RunFault::RecordRefused { .. } => {
-            refusal(b"record", b", byte ", number, told, code, &RECORD_CODES)
-        }
-        RunFault::Files => [
-            b"hxeval: ",
-            told.place,
-            told.file,
-            b" can't be read\n",
-            b"",
-            b"",
-            b"",
-            b"",
-            b"",
-            b"",
-            b"",
-            b"",
-        ],
-        RunFault::Source => three_parts(RECORD_UNREAD, b"", b""),
-        RunFault::Sink => status_parts(6),
-        RunFault::TooLarge => three_parts(
-            b"hxeval: this regular expression is too large: ",
-            told.large,
-            b"\n",
-        ),
-        RunFault::NoMemory => status_parts(7),
-    }
-}
-
-/// What is said of a status.
-fn status_parts<'t>(status: u8) -> Parts<'t>
-    ensures { all_of result ≡ status_text UNKNOWN_STATUS.now
-        (map (λ row. (row.0, row.1.now)) STATUS_TEXTS) status }
-{
-    three_parts(
-        text_of_status(&STATUS_TEXTS, status, UNKNOWN_STATUS),
-        b"",
-        b"",
-    )
-}
-
-/// A text of three parts.
-fn three_parts<'t>(first: &'t [u8], second: &'t [u8], third: &'t [u8]) -> Parts<'t>
-    ensures { all_of result ≡ first.now ++ (second.now ++ third.now) }
-{
-    [
-        first, second, third, b"", b"", b"", b"", b"", b"", b"", b"", b"",
-    ]
-}
-
-/// Where in the configuration or the record, and why, it is refused, by the table of codes.
-fn refusal<'t>(
-    subject: &'t [u8],
-    separator: &'t [u8],
-    number: &'t [u8],
-    told: &Told<'t>,
-    code: &'t [u8],
-    rows: &'static [Row],
-) -> Parts<'t>
-    ensures { let texts = map (λ row. (row.0.now, row.1.now, row.2.now)) rows.now in
-        all_of result ≡ refusal_text subject.now separator.now number.now (told_of told.now)
-        code.now (meaning_of texts code.now) }
-{
-    let (name, reason) = meaning_of(rows, code);
-    [
-        b"hxeval: ",
-        subject,
-        separator,
-        number,
-        b": ",
-        told.place,
-        reason_of(told.reason, reason),
-        b" (",
-        code,
-        b" ",
-        name,
-        b")\n",
-    ]
-}
-
-/// The reason that is known; without one, that of the code.
-fn reason_of<'t>(known: &'t [u8], of_code: &'t [u8]) -> &'t [u8]
-    ensures { result.now ≡ reason_of known.now of_code.now }
-{
-    if known.is_empty() { of_code } else { known }
-}
-
-/// The text of a status; without a row, `other`.
-fn text_of_status<'t>(
-    mut rows: &'static [(u8, &'static [u8])],
-    status: u8,
-    other: &'t [u8],
-) -> &'t [u8]
-    ensures { result.now
-        ≡ status_text other.now (map (λ row. (row.0, row.1.now)) rows.entry.now) status }
-{
-    while let [row, rest @ ..] = rows {
-        if row.0 == status {
-            return row.1;
-        }
-        rows = rest;
-    }
-    other
 }
 
 #[cfg(test)]

@@ -2,7 +2,7 @@
 ghost use Rattle.std.specs.Prelude.{ℕ, List, Option};
 ghost use Rattle.hx_core.specs.Unseen.{IsNeverCommitted};
 ghost use Rattle.hx_refs.specs.Numbers.{IsNotSearched};
-ghost use Rattle.hxeval.specs.Replay.{initial_world};
+ghost use Rattle.hx_replay.specs.Program.{initial_world};
 ghost use Rattle.hxeval.specs.Run.{Headline, Setting};
 ghost use Rattle.hxeval.specs.Unseen.{ShowsInNoAnswer};
 

@@ -1,11 +1,11 @@
 //! What is told on standard error of runs that are refused, or can't read a file.
 
-use crate::known_files::KnownFiles;
-use crate::recent_record::RecentRecord;
 use crate::run::run_to_end;
 use crate::tell::tell;
 use crate::tests::{CONN, decoded, word_and_text};
 use hx_outside::{MemFiles, MemSink, MemSource, PlainMaker};
+use hx_program::KnownFiles;
+use hx_replay::RecentRecord;
 use std::alloc::Global;
 use std::mem;
 use std::process::Abort;
@@ -33,9 +33,9 @@ told c:1: at \"forwardfor\": unknown or unsupported option (9 Unsupported)
 config compression algo gzip
 told c:1: at \"compression\": unknown or unsupported statement (9 Unsupported)
 config # a whole one~global~  log stdout
-told c:2: at \"global\": a section begins here, as in a whole haproxy.cfg; hxeval takes the lines of one frontend: copy these alone into a file of their own (9 Unsupported)
+told c:2: at \"global\": a section begins here, as in a whole haproxy.cfg; hxeval takes the lines of one frontend: hxconfig writes them into a file of their own (9 Unsupported)
 config frontend a~http-request deny~frontend b
-told c:3: at \"frontend\": frontend isn't the first statement; hxeval takes the lines of one frontend: copy these alone into a file of their own (19 Misplaced)
+told c:3: at \"frontend\": frontend isn't the first statement; hxeval takes the lines of one frontend: hxconfig writes them into a file of their own (19 Misplaced)
 config http-request redirect code 301 location /
 told c:1: at \"code\": a statement, a flag or a call has a wrong number of arguments, or one that it can't take (10 BadArgument)
 config http-request deny deny_status 403 { path /a }
@@ -145,16 +145,7 @@ impl Refused {
             &mut out,
             &mut maker,
         );
-        tell(
-            alloc,
-            &mut err,
-            ended,
-            &words,
-            &[],
-            &mut files,
-            &record,
-            b"",
-        );
+        tell(alloc, &mut err, ended, &words, &[], files, &record, b"");
         Ok(err.bytes().to_vec(alloc)?)
     }
 }

@@ -6,24 +6,22 @@ ghost use Rattle.hx_outside.specs.Count.{Rose};
 ghost use Rattle.hx_outside.specs.Prefixes.{AppendsPrefix};
 ghost use Rattle.hx_record.specs.Reading.{Fills};
 ghost use Rattle.hx_record.specs.State.{remaining_work};
+ghost use Rattle.hx_replay.specs.Program.{program_in};
 ghost use Rattle.hxeval.specs.Replay.{ReplayAsksLast, WritesBeforeReading, WritesDecided};
 ghost use Rattle.hxeval.specs.RunFault.{IsReplayFault};
-ghost use Rattle.hxeval.specs.Gathering.{program_in, AreAtBeginning, Replays, Passes, AnswersEvent, GathersAnswer, IsFailure, LogsFailure};
+ghost use Rattle.hxeval.specs.Gathering.{AreAtBeginning, Replays, AnswersEvent, GathersAnswer, IsFailure, LogsFailure};
 
-use crate::answer::Answers;
 use crate::run_fault::RunFault;
 use hx_core::{Engine, StepFault};
-use hx_outside::{ReMaker, Sink, SinkFault, Source, write_all};
+use hx_outside::{ReMaker, Sink, Source};
 use hx_record::{Event, Next, Placed, Reader};
 use hx_refs::Refs;
+use hx_replay::{Answers, write_answers, write_many};
 use hx_rules::Program;
 use std::alloc::Global;
 
 /// The most bytes that a record may have.
 const RECORD_LIMIT: u64 = 4_294_967_296;
-
-/// So many bytes of answers are written, also where more of them could be gathered.
-const FULL: usize = 65_504;
 
 /// The code of a request or an end of a connection that isn't open.
 const UNKNOWN_CONN: u32 = 6;
@@ -293,33 +291,4 @@ fn read_more<S: Source, K: Sink>(
     write_answers(out, answers)?;
     reader.fill(record_in)?;
     Ok(())
-}
-
-/// Writes the answers where there are many.
-fn write_many<K: Sink>(out: &mut K, answers: &mut Answers) -> Result<(), SinkFault>
-    ensures ok { OnOk result (Passes (K.written out.old) (K.written out.new)
-        answers.old answers.new []) }
-    ensures err { OnErr result (answers.new ≡ []) }
-    ensures prefix { OnErr result
-        (AppendsPrefix (K.written out.old) (K.written out.new) answers.old) }
-    ensures failed { IsErrOf result SinkFault.Failed → Rose (K.faults out.old) (K.faults out.new) }
-    ensures later { K.faults out.old ≤ K.faults out.new }
-{
-    if answers.as_slice().len() < FULL {
-        return Ok(());
-    }
-    write_answers(out, answers)
-}
-
-/// Writes the answers, or a prefix of them where it can't. They are gathered no more.
-fn write_answers<K: Sink>(out: &mut K, answers: &mut Answers) -> Result<(), SinkFault>
-    ensures empty { answers.new ≡ [] }
-    ensures ok { OnOk result (Appends (K.written out.old) (K.written out.new) answers.old) }
-    ensures prefix { AppendsPrefix (K.written out.old) (K.written out.new) answers.old }
-    ensures failed { IsErrOf result SinkFault.Failed → Rose (K.faults out.old) (K.faults out.new) }
-    ensures later { K.faults out.old ≤ K.faults out.new }
-{
-    let written = write_all(out, answers.as_slice());
-    answers.clear();
-    written
 }

@@ -1,4 +1,4 @@
-use Rattle.hxeval.specs.Replay.{initial_world}
+use Rattle.hx_replay.specs.Program.{initial_world}
 use Rattle.hxeval.proofs.UnseenLemmas.{shows_in_no_answer}
 use Rattle.hxeval.proofs.laws.versions_that_are_never_committed_show_in_no_answer.Goals as goal
 

@@ -4,7 +4,7 @@ use Rattle.std.proofs.lemmas.Result.{err_from_is_err_and}
 use Rattle.hx_record.specs.declared.Next.TheVariants as next
 use Rattle.hx_outside.specs.Count.{Rose}
 use Rattle.hx_record.specs.State.{State}
-use Rattle.hxeval.specs.Gathering.{program_in}
+use Rattle.hx_replay.specs.Program.{program_in}
 use Rattle.hxeval.specs.RunFault.{reader_fault}
 use Rattle.hxeval.specs.declared.run_fault.RunFault.TheVariants as run
 use Rattle.hxeval.proofs.BeforeReadingLemmas.{before_failure, event_writes}

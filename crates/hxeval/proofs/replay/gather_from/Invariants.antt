@@ -1,8 +1,8 @@
 use Rattle.std.proofs.Common.{◌≡◌, ◌≤◌, true, None}
 use Rattle.std.specs.Io.KnownBytes.{IsAtEnd}
 use Rattle.hx_record.specs.State.{remaining_work}
-use Rattle.hxeval.specs.Gathering.{program_in}
-use Rattle.hxeval.specs.Replay.{record_limit}
+use Rattle.hx_replay.specs.Program.{program_in}
+use Rattle.hx_replay.specs.Records.{record_limit}
 use Rattle.hxeval.proofs.ReplayLemmas.{Progress, AreSame}
 use Rattle.hxeval.proofs.replay.gather_from.Given as goal
 

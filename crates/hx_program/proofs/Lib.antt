@@ -1,0 +1,3 @@
+pub mod KnownFilesLemmas
+pub mod MachineLemmas
+pub mod PartsLemmas

@@ -1,0 +1,46 @@
+//! What programs share that replay a record through a configuration: answers that are gathered
+//! before they are written, a record whose last bytes are kept, and what a person is told of a run
+//! that ended: the reason by its code, and the place of the fault.
+//!
+//! ```
+//! fn tell<K: Sink, F: Files, S>(
+//!     alloc: Global,
+//!     err: &mut K,
+//!     config: &KnownConfig<'_>,
+//!     (line, code): (u64, u32),
+//!     files: &mut F,
+//!     record: &RecentRecord<S>,
+//! ) {
+//!     let ending = Ending::ConfigRefused { line, code };
+//!     let place = place_of(alloc, ending, config, &[], files, record, 0);
+//!     let told = Told {
+//!         name: config.name,
+//!         place: &place.text,
+//!         reason: place.reason,
+//!         file: b"",
+//!         large: b"",
+//!     };
+//!     let _ = explain(err, b"hxeval", ending, b"", &told);
+//! }
+//! ```
+#![tactic(auto)]
+
+mod answers;
+mod codes;
+mod ending;
+mod explanation;
+mod file_place;
+mod judged_word;
+mod line_place;
+mod place;
+mod recent_record;
+mod record_place;
+mod refused_word;
+mod spelling;
+mod unknown_call;
+
+pub use answers::{Answers, write_answers, write_many};
+pub use ending::Ending;
+pub use explanation::{Told, explain};
+pub use place::{KnownConfig, Place, place_of};
+pub use recent_record::RecentRecord;
