@@ -1,0 +1,11 @@
+pub mod BeforeReadingLemmas
+pub mod ComparisonLemmas
+pub mod DifferenceLemmas
+pub mod EndLemmas
+pub mod FilesLemmas
+pub mod LogLemmas
+pub mod OutcomeLemmas
+pub mod ReplayLemmas
+pub mod RunLemmas
+pub mod StatusLemmas
+pub mod VerdictLemmas

@@ -1,0 +1,137 @@
+-- Views of the code of a run: its faults, and what it wrote up to one.
+use Rattle.std.specs.Prelude.{◌≡◌, ℕ, Bool, true, false, List, [], ◌∷◌, ◌++◌, Contains, Option, Result, Ok, Err, ⊤, ◌⊎◌}
+use Rattle.std.specs.Io.KnownBytes.{Appends}
+use Rattle.hx_outside.specs.Prefixes.{AppendsPrefix}
+use Rattle.hx_outside.specs.declared.SinkFault.{SinkFault}
+use Rattle.hx_outside.specs.declared.SinkFault.TheVariants as sink
+use Rattle.hx_record.specs.declared.RecordFault.{RecordFault}
+use Rattle.hx_record.specs.declared.RecordFault.TheVariants as reader
+use Rattle.hx_load.specs.Loads.{Loading}
+use Rattle.hx_load.specs.Loads as loading
+use Rattle.hx_load.specs.declared.load_fault.LoadFault.{LoadFault}
+use Rattle.hx_load.specs.declared.load_fault.LoadFault.TheVariants as load
+use Rattle.hx_refs.specs.References.{RefsState}
+use Rattle.hx_rules.specs.Programs.{Rules}
+use Rattle.hx_replay.specs.Program.{Program}
+use Rattle.hxdiff.specs.Comparison.{Programs}
+use Rattle.hxdiff.specs.Outcome.{End, Outcome, Completed, Undecided, last_line}
+use Rattle.hxdiff.specs.Outcome as ends
+use Rattle.hxdiff.specs.Run.{Given, Setting, HasOutcome, IsJudgement}
+use Rattle.hxdiff.specs.declared.command.Task.{Task}
+use Rattle.hxdiff.specs.declared.run_fault.RunFault.{RunFault}
+use Rattle.hxdiff.specs.declared.run_fault.RunFault.TheVariants.{ConfigRefused, RecordRefused, Files, Source, Sink, TooLarge, NoMemory}
+use Rattle.hxdiff.specs.declared.run_fault.Side.{Side}
+
+-- the fault of a run whose configuration on this side isn't loaded
+abbrev pub load_fault : Side → LoadFault → RunFault
+load_fault side (load.Refused line code) = ConfigRefused side line code
+load_fault side load.Failed = Files
+load_fault side load.TooLarge = TooLarge
+load_fault side load.NoMemory = NoMemory
+
+abbrev pub sink_fault : SinkFault → RunFault
+sink_fault sink.Failed = Sink
+sink_fault sink.NoMemory = NoMemory
+
+abbrev pub reader_fault : RecordFault → RunFault
+reader_fault (reader.Bad offset code) = RecordRefused offset code
+reader_fault reader.Failed = Source
+reader_fault reader.NoMemory = NoMemory
+
+-- the status with which a run ends that came to the record's end
+abbrev pub completed_status : Bool → ℕ
+completed_status false = 0
+completed_status true = 1
+
+-- the status with which a run ends that has this fault
+abbrev pub fault_status : RunFault → ℕ
+fault_status (ConfigRefused side line code) = 3
+fault_status (RecordRefused offset code) = 4
+fault_status Files = 5
+fault_status Source = 5
+fault_status Sink = 6
+fault_status TooLarge = 8
+fault_status NoMemory = 7
+
+-- the end that a fault shows: a refusal, or none that the configurations and the record decide
+abbrev pub fault_end : RunFault → End
+fault_end (ConfigRefused side line code) = ends.ConfigRefused side line code
+fault_end (RecordRefused offset code) = ends.RecordRefused offset code
+fault_end _ = Undecided
+
+abbrev pub result_end : Result Bool RunFault → End
+result_end (Ok differs) = Completed differs
+result_end (Err fault) = fault_end fault
+
+-- a replay has this fault: the configurations are loaded before it
+abbrev pub IsReplayFault : RunFault → Type 0
+IsReplayFault (ConfigRefused side line code) = ⊥
+IsReplayFault Files = ⊥
+IsReplayFault _ = ⊤
+
+-- these are the answers of an outcome up to an end: all of them where it ends so, and a prefix of
+-- them where its end is not decided
+abbrev pub AreAnswersTo : End → Outcome → List ℕ → Type 0
+AreAnswersTo Undecided outcome answers = (rest : List ℕ) × (outcome.answers ≡ answers ++ rest)
+AreAnswersTo end outcome answers = (outcome.end ≡ end) × (outcome.answers ≡ answers)
+
+-- A run, or a part of one, up to its end or a fault. It has an outcome of this kind, of whose
+-- answers the first are written and the next are gathered: all of them where it ends as the outcome
+-- does.
+pub record WritesOutcome (IsSuch : Outcome → Type 0) (old new : Option (List ℕ)) (gathered : List ℕ)
+    (result : Result Bool RunFault) : Type 0 where
+  pub outcome : Outcome
+  pub is_such : IsSuch outcome
+  pub wrote : List ℕ
+  pub appended : Appends old new wrote
+  pub answers : AreAnswersTo (result_end result) outcome (wrote ++ gathered)
+
+-- a run up to the line that is written of its fault
+abbrev pub Attempted : Setting → (old new : Option (List ℕ)) → Result Bool RunFault → Type 0
+Attempted s old new result = WritesOutcome (HasOutcome s) old new [] result
+
+-- the end of a run: the line that tells the fault was written, and the status is the fault's, or
+-- the sink failed or memory ran out before
+abbrev pub Finishes : RunFault → (old new : Option (List ℕ)) → ℕ → Type 0
+Finishes fault old new status =
+    ((status ≡ fault_status fault) × Appends old new (last_line (fault_end fault)))
+    ⊎ (Contains (6 ∷ 7 ∷ []) status × AppendsPrefix old new (last_line (fault_end fault)))
+
+-- the status of a run that ends so, where the line that tells it is written
+abbrev pub result_status : Result Bool RunFault → ℕ
+result_status (Ok differs) = completed_status differs
+result_status (Err fault) = fault_status fault
+
+-- a run under this setting has an outcome that ends so
+pub record HasEnd (s : Setting) (end : End) : Type 0 where
+  pub outcome : Outcome
+  pub of_setting : HasOutcome s outcome
+  pub is : outcome.end ≡ end
+
+-- the same of a refusal; of any other fault nothing is said
+abbrev pub EndsAs : Setting → End → Type 0
+EndsAs s Undecided = ⊤
+EndsAs s end = HasEnd s end
+
+-- ---- loading
+
+-- a configuration as it was loaded
+abbrev pub program_of : Rules × RefsState → Program
+program_of loaded = record { rules = loaded.0; references = loaded.1.content }
+
+abbrev pub programs_of : Task → (old new : Rules × RefsState) → Programs
+programs_of task old new =
+    record { task = task; old_program = program_of old; new_program = program_of new }
+
+-- the configuration is accepted, and this was loaded of it
+abbrev pub IsAccepted : Given → Rules × RefsState → Type 0
+IsAccepted given loaded = IsJudgement given (loading.Accepted loaded.0 loaded.1.content)
+
+-- what comes of a configuration is what it loads as
+abbrev pub LoadsConfig : Given → Result (Rules × RefsState) LoadFault → Type 0
+LoadsConfig given (Ok loaded) = IsAccepted given loaded
+LoadsConfig given (Err (load.Refused line code)) =
+    IsJudgement given (loading.Refused (record { line = line; code = code }))
+LoadsConfig given (Err load.Failed) = ⊤
+LoadsConfig given (Err load.TooLarge) = ⊤
+LoadsConfig given (Err load.NoMemory) = ⊤
