@@ -1,0 +1,5 @@
+pub mod HeadlineLemmas
+pub mod LineLemmas
+pub mod QuotedLemmas
+pub mod RunLemmas
+pub mod WrittenLineLemmas

@@ -1,0 +1,103 @@
+ghost use Rattle.std.specs.Prelude.{◌≡◌, ◌++◌, true, OnOk};
+ghost use Rattle.hxconfig.specs.Conditions.{Outside};
+ghost use Rattle.hxconfig.specs.ConditionView.{state_of};
+ghost use Rattle.hxconfig.specs.Guards.{after_test, is_or, no_path_test, path_test, tested};
+ghost use Rattle.hxconfig.specs.Guards.{with_path};
+
+use crate::conditions::{TestState, state_after};
+use crate::words::{push, push_all};
+use hx_text::{NoMemory, Octets};
+use std::alloc::Global;
+
+/// Appends a condition that holds where this one does and the request has a path.
+pub(crate) fn push_with_path(
+    alloc: Global,
+    out: &mut Vec<Octets>,
+    condition: &[Octets],
+) -> Result<(), NoMemory>
+    ensures { OnOk result (out.new.items ≡ out.old.items ++ with_path condition.now) }
+{
+    let [word, words @ ..] = condition else {
+        push(alloc, out, b"if")?;
+        return push_path_test(alloc, out);
+    };
+    push(alloc, out, word.as_slice())?;
+    if word.as_slice() == b"if".as_slice() {
+        push_tested(alloc, out, words)
+    } else if word.as_slice() == b"unless".as_slice() {
+        push_all(alloc, out, words)?;
+        push(alloc, out, b"or")?;
+        push_no_path_test(alloc, out)
+    } else {
+        push_all(alloc, out, words)
+    }
+}
+
+/// Appends terms with the test before each conjunction.
+fn push_tested(alloc: Global, out: &mut Vec<Octets>, words: &[Octets]) -> Result<(), NoMemory>
+    ensures { OnOk result (out.new.items ≡ out.old.items ++ tested true Outside words.now) }
+{
+    let mut state = TestState::Outside;
+    let mut is_first = true;
+    let mut rest = words;
+    while let [word, others @ ..] = rest {
+        push_after_test(alloc, out, is_first, state, word.as_slice())?;
+        is_first = is_or(state, word.as_slice());
+        state = state_after(state, word.as_slice());
+        rest = others;
+    }
+    Ok(())
+}
+
+/// Appends a word that stands there, after the test where it is the first of a conjunction.
+fn push_after_test(
+    alloc: Global,
+    out: &mut Vec<Octets>,
+    is_first: bool,
+    state: TestState,
+    word: &[u8],
+) -> Result<(), NoMemory>
+    ensures { OnOk result
+        (out.new.items ≡ out.old.items ++ after_test is_first (state_of state) word.now) }
+{
+    if is_first && !is_or(state, word) {
+        push_path_test(alloc, out)?;
+    }
+    push(alloc, out, word)
+}
+
+/// Whether a word that stands there stands between two conjunctions.
+fn is_or(state: TestState, word: &[u8]) -> bool
+    ensures { result ≡ is_or (state_of state) word.now }
+{
+    match state {
+        TestState::Outside => word == b"or".as_slice() || word == b"||".as_slice(),
+        TestState::Criterion => false,
+        TestState::AfterCriterion => false,
+        TestState::AfterMethod => false,
+        TestState::Ignored => false,
+        TestState::Inside => false,
+    }
+}
+
+/// Appends the test that the request has a path.
+fn push_path_test(alloc: Global, out: &mut Vec<Octets>) -> Result<(), NoMemory>
+    ensures { OnOk result (out.new.items ≡ out.old.items ++ path_test) }
+{
+    push(alloc, out, b"{")?;
+    push(alloc, out, b"path")?;
+    push(alloc, out, b"-m")?;
+    push(alloc, out, b"found")?;
+    push(alloc, out, b"}")
+}
+
+/// Appends the test that it has none.
+fn push_no_path_test(alloc: Global, out: &mut Vec<Octets>) -> Result<(), NoMemory>
+    ensures { OnOk result (out.new.items ≡ out.old.items ++ no_path_test) }
+{
+    push(alloc, out, b"!{")?;
+    push(alloc, out, b"path")?;
+    push(alloc, out, b"-m")?;
+    push(alloc, out, b"found")?;
+    push(alloc, out, b"}")
+}
