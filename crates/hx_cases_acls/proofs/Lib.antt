@@ -1,3 +1,4 @@
+pub mod TakingLemmas
 pub mod UseLemmas
 pub mod BuildLemmas
 pub mod CondLemmas

@@ -177,7 +177,7 @@ fn add_reference(refs: &mut Refs, text: &[u8]) -> Result<(), CaseFault> {
 }
 
 /// The limits `ENTRIES,ADDITIONS,VERSIONS`, or the usual ones for `-`.
-fn limits(text: &[u8]) -> Result<Limits, CaseFault> {
+pub fn limits(text: &[u8]) -> Result<Limits, CaseFault> {
     if text == b"-".as_slice() {
         return Ok(Limits::usual());
     }

@@ -4,6 +4,7 @@ ghost use Rattle.std.specs.Prelude.{◌≡◌, ◌<◌, length};
 
 use crate::descriptions::references;
 use crate::entries::show_added;
+use crate::searches::find_at;
 use hx_cases_base::{CaseFault, id, show_pair};
 use hx_outside::PlainMaker;
 use hx_pool::Steps;
@@ -65,7 +66,7 @@ fn show_info(out: &mut String, refs: &Refs, r: u32) -> Result<(), CaseFault>
     Ok(write!(out, "{info:?}|")?)
 }
 
-/// Commits a version, and counts nothing.
+/// Commits a version, with steps that nothing reads.
 fn commit_counted<L: Ledger>(
     refs: &mut Refs,
     r: u32,
@@ -81,10 +82,11 @@ fn commit_counted<L: Ledger>(
     refs.commit(r, ver, &mut steps)
 }
 
-fn commit(out: &mut String, refs: &mut Refs, r: u32, ver: u32) -> Result<(), CaseFault>
+/// Commits a version, and counts nothing.
+pub fn commit_uncounted(refs: &mut Refs, r: u32, ver: u32) -> Result<(), RefFault>
     requires { r < length refs.old.content.references }
 {
-    show_done(out, commit_counted::<Brand>(refs, r, ver, Blank::new(1)))
+    commit_counted::<Brand>(refs, r, ver, Blank::new(1))
 }
 
 /// The step of this name on the version that is searched, or on all.
@@ -114,7 +116,7 @@ fn version_step(
     requires { r < length refs.old.content.references }
 {
     match name {
-        b"commit" => commit(out, refs, r, ver),
+        b"commit" => show_done(out, commit_uncounted(refs, r, ver)),
         b"clear" => {
             refs.clear(r, Some(ver));
             show_done(out, Ok(()))
@@ -246,6 +248,21 @@ fn change(
     }
 }
 
+/// Searches by the `k`-th use of a reference.
+fn find(
+    alloc: Global,
+    out: &mut String,
+    refs: &Refs,
+    r: u32,
+    k: u32,
+    text: &[u8],
+) -> Result<(), CaseFault>
+    requires { r < length refs.now.content.references }
+{
+    find_at(alloc, out, refs, r, k, text)?;
+    Ok(out.push('|')?)
+}
+
 /// The step of this name and this text, with more behind `@`.
 fn text_step_at(
     alloc: Global,
@@ -263,6 +280,7 @@ fn text_step_at(
         b"addmany" => add_many(alloc, out, refs, r, Some(id(at)?), text),
         b"resolve" => show_number(out, refs.resolve(text, side(at)?)),
         b"change" => change(out, refs, r, at, text),
+        b"find" => find(alloc, out, refs, r, id(at)?, text),
         _ => Err(CaseFault::BadArguments),
     }
 }
@@ -300,7 +318,9 @@ fn step(
 /// searched, and with `@VERSION` behind their name on that version. The others are `del:KEY`,
 /// `delid:VERSION.SERIAL`, `set:KEY=VALUE`, `setid:VERSION.SERIAL=VALUE`, `prepare`,
 /// `commit@VERSION`, `info`, `resolve@SIDE:WORD` with the sides `acl`, `write` and `map`, and
-/// `change@CHANGE:KEY` with the changes `add`, `del`, `delmap`, and `set`, which has KEY=VALUE.
+/// `change@CHANGE:KEY` with the changes `add`, `del`, `delmap`, and `set`, which has KEY=VALUE;
+/// and `find@K:TEXT`, which answers the entry that is found by the K-th use, from 0, for the text,
+/// or for the number or the address that it writes.
 pub fn references_case(alloc: Global, out: &mut String, args: &[Vec<u8>]) -> Result<(), CaseFault> {
     let [most, described, steps @ ..] = args else {
         return Err(CaseFault::BadArguments);
