@@ -74,12 +74,22 @@ def is_made(shown, made, backend):
     return as_kept(shown) == as_kept(made) if backend else shown == b"location: " + made
 
 
+def differing(shown, made, backend):
+    """The names of the header lines that differ, an empty one for the first line of a head, and
+    `location` where that is what was made."""
+    if not backend:
+        return {b"location"}
+    (first, lines), (other, others) = as_kept(shown), as_kept(made)
+    names = {name for name, _ in set(lines) ^ set(others)}
+    return names if first == other else names | {b""}
+
+
 class Tried:
     """The files of one frontend, and what is found wrong with them."""
 
     def __init__(self, name, folder, program):
         self.name, self.folder, self.program = name, folder, program
-        self.port, _ = proxy.FRONTENDS[name]
+        self.port = proxy.PORTS[name]
         self.wrong = []
         # how often each row of the manual's page explains a difference
         self.rows = collections.Counter()
@@ -95,14 +105,18 @@ class Tried:
         if ran.returncode not in statuses:
             self.wrong.append(f"{words[0]} ended with {ran.returncode}: {ran.stderr.decode()}")
 
+    def write_configuration(self):
+        """Writes the configuration that hxeval gets."""
+        with open(self.path("cfg"), "w", encoding="utf-8") as it:
+            it.write("\n".join([*proxy.lines_of(self.name), ""]))
+
     def make_records(self):
         commands = ("--commands", self.path("commands"))
         self.run("log.rec", "tools/from-log", "--frontend", self.name, *commands,
                  "--decided", self.path("log.decided"), f"{self.folder}/log")
         self.run("pcap.rec", "tools/from-pcap", "--port", str(self.port), *commands,
                  f"{self.folder}/capture.pcap")
-        with open(self.path("cfg"), "w", encoding="utf-8") as it:
-            it.write("\n".join([*proxy.lines_of(self.name), ""]))
+        self.write_configuration()
         for way in ("log", "pcap"):
             with open(self.path(f"{way}.rec"), "rb") as made:
                 self.run(f"{way}.answers", self.program, "run", self.path("cfg"), stdin=made)
@@ -119,16 +133,20 @@ class Tried:
 
     def compare_records(self):
         """Both records must have the same requests of each client. What HAProxy ended before the
-        rules is in the capture alone, and what came by TLS in the log alone."""
+        rules is in the capture alone, and what came by TLS in the log alone; and so may be what it
+        didn't answer."""
         logged, captured = self.requests("log"), self.requests("pcap")
-        for key, request in logged.items():
+        by_log = record.numbered(self.path("log.decided"), record.DECISION)
+        for (key, request), decision in zip(logged.items(), by_log):
             other = captured.get(key)
             if int(request.destination_port) != self.port:
+                continue
+            if other is None and decision == named.UNANSWERED:
                 continue
             if other is None or request[:4] != other[:4]:
                 self.wrong.append(f"{key} is in the log, and not in the capture")
             elif as_kept(request.head) != as_kept(other.head):
-                if not named.row_of(other, "pass -", named.BAD):
+                if not named.row_of_kept(other.head):
                     self.wrong.append(f"{key} has another head in the capture than in the log")
 
     def compare_decisions(self, answered):
@@ -183,10 +201,9 @@ class Tried:
             count += 1
             if is_made(shown, made, backend):
                 continue
-            row = named.row_of_made(request.head)
-            if row:
-                self.rows[row] += 1
-            else:
+            rows = named.rows_of_made(request.head, differing(shown, made, backend))
+            self.rows.update(rows)
+            if not rows:
                 self.wrong.append(f"{number}: hxeval shows {shown}, HAProxy made {made}")
         return count
 

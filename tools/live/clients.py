@@ -1,14 +1,25 @@
 """Clients: plain sockets, whose bytes are sent as they are, and curl."""
+import itertools
 import random
 import re
 import socket
+import ssl
 import subprocess
 import time
 
 from live import proxy
 
-# After so many a client gives up.
-SECONDS = 20
+# After so many a client gives up; and where it knows that no answer comes.
+SECONDS, SECONDS_IN_VAIN = 20, 0.5
+
+# The ports of clients, and where the ten begin of which curl takes the first that it can. None
+# comes again elsewhere, since clients are told apart by them; and the system gives none away.
+FREE_PORTS, CURL_PORTS = itertools.count(10000), itertools.count(20000, 10)
+
+# The certificate is signed by nobody.
+CONTEXT = ssl.create_default_context()
+CONTEXT.check_hostname, CONTEXT.verify_mode = False, ssl.CERT_NONE
+CONTEXT.set_alpn_protocols(["http/1.1"])
 
 
 class Answered:
@@ -68,13 +79,21 @@ def send(connection, data, how, chance):
         pass
 
 
-def talk(answered, frontend, source, requests, how="in turn", seed=0):
+def connect(frontend, source, seconds, tls):
+    """A connection to a frontend, on which a client waits so many seconds."""
+    port = proxy.PORTS[frontend] + proxy.TLS * tls
+    family = 6 if ":" in source else 4
+    it = socket.create_connection((proxy.PROXY[family], port), seconds, (source, next(FREE_PORTS)))
+    it.setsockopt(socket.IPPROTO_TCP, socket.TCP_NODELAY, 1)
+    return CONTEXT.wrap_socket(it) if tls else it
+
+
+def talk(answered, frontend, source, requests, how="in turn", *, seed=0, seconds=SECONDS,
+         tls=False):
     """A connection with these requests. They are sent in turn, each after the answer to the one
     before; all at once (`pipelined`); or all at once in pieces."""
-    port, chance = proxy.FRONTENDS[frontend][0], random.Random(seed)
-    family = 6 if ":" in source else 4
-    with socket.create_connection((proxy.PROXY[family], port), SECONDS, (source, 0)) as it:
-        it.setsockopt(socket.IPPROTO_TCP, socket.TCP_NODELAY, 1)
+    chance = random.Random(seed)
+    with connect(frontend, source, seconds, tls) as it:
         client = (frontend, source, it.getsockname()[1])
         groups = [[request] for request in requests] if how == "in turn" else [requests]
         with it.makefile("rb") as lines:
@@ -93,12 +112,13 @@ def talk(answered, frontend, source, requests, how="in turn", seed=0):
 
 def curl(answered, frontend, source, paths, *words, tls=False):
     """curl asks for these paths in turn, with these options for each of them."""
-    port = proxy.FRONTENDS[frontend][0] + proxy.TLS * tls
+    port = proxy.PORTS[frontend] + proxy.TLS * tls
     family = 6 if ":" in source else 4
     host = f"[{proxy.PROXY[6]}]" if family == 6 else proxy.PROXY[4]
     line = "client %{local_port} %{http_code} %header{x-backend} %header{location}\n"
+    first = next(CURL_PORTS)
     asked = ["curl", "-sk", "--path-as-is", "--interface", source, "--max-time", str(SECONDS)]
-    asked += ["-w", line, "-g", *words]
+    asked += ["--local-port", f"{first}-{first + 9}", "-w", line, "-g", *words]
     for path in paths:
         asked += [f"http{'s' * tls}://{host}:{port}{path}", "-o", "/dev/null"]
     ran = subprocess.run(asked, stdout=subprocess.PIPE, check=False, encoding="ascii")

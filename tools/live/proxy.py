@@ -1,5 +1,5 @@
 """A real HAProxy with the frontends of the examples, the server behind it, and a capture of what
-its clients send.
+its clients send. Its whole configuration of another example stands in live/whole.py.
 
 All of it runs in a network of its own, which has the addresses of ENDS and nothing else.
 """
@@ -14,29 +14,32 @@ import time
 TOP = os.path.dirname(os.path.dirname(os.path.dirname(os.path.realpath(__file__))))
 PAGE = f"{TOP}/docs/manual/traffic.md"
 
-# The frontends: their ports for plain traffic, and their lines.
+# The frontends that stand in a file each.
 FRONTENDS = {
-    "first": (8001, "examples/first/deny.cfg"),
-    "access": (8002, "examples/access/access.cfg"),
-    "public": (8003, "examples/frontend/frontend.cfg"),
-    "moved": (8004, "examples/moved/moved.cfg"),
-    "sites": (8005, "examples/blue-green/sites.cfg"),
-    "sessions": (8006, "tools/live/sessions.cfg"),
-    "rewrites": (8007, "tools/live/rewrites.cfg"),
+    "first": "examples/first/deny.cfg",
+    "access": "examples/access/access.cfg",
+    "public": "examples/frontend/frontend.cfg",
+    "moved": "examples/moved/moved.cfg",
+    "sites": "examples/blue-green/sites.cfg",
+    "sessions": "tools/live/sessions.cfg",
+    "rewrites": "tools/live/rewrites.cfg",
 }
+# Those of the whole configuration.
+WHOLE = ("plain", "shop", "api")
+# Where each takes plain traffic.
+PORTS = {name: port for port, name in enumerate([*FRONTENDS, *WHOLE], 8001)}
 # The port for TLS is the plain one and this.
 TLS = 1000
 SERVER_PORT = 9000
 BACKENDS = ("others", "books", "music", "cdn", "site_main", "blue", "green", "none")
-# The frontends whose requests go nowhere where no rule chooses a backend; the others have a
-# default.
+# The frontends whose requests go nowhere where no rule chooses a backend.
 WITHOUT_DEFAULT = ("access",)
-DEFAULT = "default_backend others"
+DEFAULT = "others"
 
 # The addresses of this network: those of clients, and the proxy's.
 SOURCES = (
     "127.0.0.1", "192.0.2.7", "192.0.2.33", "203.0.113.9", "203.0.113.200", "198.51.100.70",
-    "10.1.2.3", "::1", "2001:db8:5::1", "2001:db8:6::1",
+    "10.1.2.3", "::1", "2001:db8:5::1", "2001:db8:6::1", "2001:db8:bad::1",
 )
 PROXY = {4: "192.0.2.80", 6: "2001:db8::80"}
 
@@ -61,28 +64,40 @@ def logging_lines():
 def lines_of(name):
     """The lines of a frontend: those of its example without its name, its ports and its own log,
     and its default."""
-    with open(f"{TOP}/{FRONTENDS[name][1]}", encoding="utf-8") as it:
+    with open(f"{TOP}/{FRONTENDS[name]}", encoding="utf-8") as it:
         lines = [line.strip() for line in it]
     lines = [line for line in lines if not re.match(r"frontend |bind |option httplog|#", line)]
-    return [*lines, DEFAULT] if name not in WITHOUT_DEFAULT else lines
+    return lines if name in WITHOUT_DEFAULT else [*lines, f"default_backend {DEFAULT}"]
+
+
+def binds(name, folder):
+    """The lines by which a frontend takes traffic: plain and by TLS, of both versions of IP."""
+    port, tls = PORTS[name], f"ssl crt {folder}/pem alpn h2,http/1.1"
+    return [f"bind 0.0.0.0:{port}", f"bind :::{port} v6only",
+            f"bind 0.0.0.0:{port + TLS} {tls}", f"bind :::{port + TLS} v6only {tls}"]
+
+
+def backend(name):
+    """The lines of a backend, which tells its name to clients."""
+    return [f"backend {name}", f"http-response set-header X-Backend {name}",
+            f"server it 127.0.0.1:{SERVER_PORT}"]
 
 
 def configuration(folder):
-    """The configuration of HAProxy."""
+    """The configuration of HAProxy but for the whole one."""
     log, *rules, log_format = logging_lines()
     # the clocks of several threads may be apart, so that a command and the request after it change
     # places
     lines = ["global", "nbthread 1", f"stats socket {folder}/socket level admin", log]
+    # the whole configuration has room for more connections than are needed here
+    lines += ["no strict-limits"]
     lines += ["defaults", "mode http", "log global", "timeout connect 5s", "timeout client 20s"]
     lines += ["timeout server 20s"]
-    for name, (port, _) in FRONTENDS.items():
-        lines += [f"frontend {name}", f"bind 0.0.0.0:{port}", f"bind :::{port} v6only"]
-        lines += [f"bind 0.0.0.0:{port + TLS} ssl crt {folder}/pem alpn h2,http/1.1"]
-        lines += [*rules, *lines_of(name), log_format]
+    for name in FRONTENDS:
+        lines += [f"frontend {name}", *binds(name, folder), *rules, *lines_of(name), log_format]
     for name in BACKENDS:
-        lines += [f"backend {name}", f"http-response set-header X-Backend {name}"]
-        lines += [f"server it 127.0.0.1:{SERVER_PORT}"]
-    return "\n".join(lines) + "\n"
+        lines += backend(name)
+    return "\n".join([*lines, ""])
 
 
 def make_certificate(folder):
@@ -144,23 +159,23 @@ def read_body(head, lines):
 
 
 class Proxy:
-    """HAProxy, and a capture of its plain ports. Both end with `stop`."""
+    """HAProxy with the configurations of a folder, and a capture of its plain ports. Both end with
+    `stop`."""
 
-    def __init__(self, folder):
+    def __init__(self, folder, configurations):
         self.folder = folder
         make_certificate(folder)
-        with open(f"{folder}/haproxy.cfg", "w", encoding="utf-8") as it:
-            it.write(configuration(folder))
         self.log, self.capture = f"{folder}/log", f"{folder}/capture.pcap"
         with open(self.log, "wb") as log, open(f"{folder}/errors", "wb") as errors:
-            words = ["haproxy", "-db", "-f", f"{folder}/haproxy.cfg"]
+            words = ["haproxy", "-db"]
+            for path in configurations:
+                words += ["-f", path]
             self.process = subprocess.Popen(words, cwd=TOP, stdout=log, stderr=errors)
-            ports = [port for port, _ in FRONTENDS.values()]
             words = ["dumpcap", "-q", "-i", "lo", "-w", self.capture, "-f",
-                     f"tcp portrange {min(ports)}-{max(ports)}"]
+                     f"tcp portrange {min(PORTS.values())}-{max(PORTS.values())}"]
             self.capturing = subprocess.Popen(words, stderr=errors)
         # those of each frontend, as tools/from-log takes them
-        self.commands = {name: f"{folder}/{name}.commands" for name in FRONTENDS}
+        self.commands = {name: f"{folder}/{name}.commands" for name in PORTS}
         for path in self.commands.values():
             open(path, "w").close()
         self.wait()
@@ -170,7 +185,7 @@ class Proxy:
         for _ in range(300):
             time.sleep(0.1)
             if os.path.exists(self.capture) and os.path.getsize(self.capture) > 0:
-                if not socket.socket().connect_ex((PROXY[4], 8001)):
+                if not socket.socket().connect_ex((PROXY[4], min(PORTS.values()))):
                     return
         raise RuntimeError("HAProxy or dumpcap doesn't start")
 

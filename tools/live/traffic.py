@@ -1,13 +1,10 @@
-"""What clients send: requests to each frontend, drawn by chance from what its rules tell apart;
-heads that aren't as usual; and commands for the management socket."""
+"""What clients send: requests to each frontend of an example, drawn by chance from what its rules
+tell apart; heads that aren't as usual; and commands for the management socket."""
 import concurrent.futures
-import random
 
-from live import proxy
+from live import drawn, proxy, whole_traffic
 from live.clients import curl, talk
-
-METHODS = ("GET", "GET", "GET", "HEAD", "POST", "PUT", "DELETE", "OPTIONS", "PURGE")
-HOW = ("in turn", "pipelined", "pieces")
+from live.drawn import request
 
 PATHS = {
     "first": (
@@ -37,40 +34,10 @@ HEADERS = (
 )
 
 
-def request(line, *headers, body=b"", chunked=False):
-    """A request: its first line, its header lines, and its body with the lines that it asks for."""
-    lines = [line, *headers]
-    if chunked:
-        lines.append("Transfer-Encoding: chunked")
-        parts = [body[:5], body[5:]] if len(body) > 5 else [body]
-        body = b"".join(b"%x;n=v\r\n%b\r\n" % (len(part), part) for part in parts if part)
-        body += b"0\r\n\r\n"
-    elif body:
-        lines.append(f"Content-Length: {len(body)}")
-    return "\r\n".join([*lines, "", ""]).encode("latin-1") + body
-
-
-def any_request(frontend, chance):
-    """A request that this frontend's rules may tell from others."""
-    method, path = chance.choice(METHODS), chance.choice(PATHS[frontend])
-    host = chance.choice(HOSTS)
-    headers = [f"Host: {host}", *chance.sample(HEADERS, chance.randint(0, 4))]
-    if chance.random() < 0.1:
-        path = f"http://{host}{path}"
-    body = b""
-    if method in ("POST", "PUT"):
-        body = chance.choice((b"", b"a=1&b=2", b"GET /admin HTTP/1.1\r\n\r\n", b"x" * 5000))
-    return request(f"{method} {path} HTTP/1.1", *headers, body=body, chunked=chance.random() < 0.5
-                   and method in ("POST", "PUT"))
-
-
 def talks(answered, frontend, count, seed):
     """So many connections of several requests each."""
-    chance = random.Random(f"{seed} {frontend}")
-    for _ in range(count):
-        requests = [any_request(frontend, chance) for _ in range(chance.randint(1, 6))]
-        source, how = chance.choice(proxy.SOURCES), chance.choice(HOW)
-        talk(answered, frontend, source, requests, how, chance.random())
+    parts = drawn.Parts(PATHS[frontend], HOSTS, HEADERS)
+    drawn.talks(answered, frontend, parts, count, seed)
 
 
 def curls(answered, frontend):
@@ -205,9 +172,10 @@ def send_all(made, answered, seed):
     for frontend in ("moved", "sites", "sessions"):
         curls(answered, frontend)
         talks(answered, frontend, 10, seed)
-    replies = {name: [] for name in proxy.FRONTENDS}
+    replies = {name: [] for name in proxy.PORTS}
     for at, (frontend, lines) in enumerate(COMMANDS):
         replies[frontend].append(made.command(frontend, at % 3, lines))
         talk(answered, frontend, PARTNER, [AFTER[frontend]])
         talks(answered, frontend, 2, f"{seed} {at}")
+    whole_traffic.send_all(made, answered, seed, replies)
     return replies
