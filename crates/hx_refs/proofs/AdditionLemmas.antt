@@ -7,13 +7,12 @@ use Rattle.std.proofs.lemmas.List.{length-map}
 use Rattle.hx_text.specs.declared.kinds.By.{By}
 use Rattle.hx_match.specs.Patterns.{PatternText}
 use Rattle.hx_sample.specs.Find.{Entry}
-use Rattle.hx_refs.specs.Contents.{prepared_patterns}
 use Rattle.hx_outside.specs.Makers.{ExpressionText, MakerState}
 use Rattle.hx_sample.specs.Tables.{TableHead}
 use Rattle.hx_refs.specs.Additions.{addition_fault, AdditionAsksFor, AdditionCountsLarge, Pair, VersionAsksFor}
 use Rattle.hx_refs.specs.Kept.{kept_demands, shown_references, version_fault, AreKept, Kept}
-use Rattle.hx_refs.specs.NewEntries.{added_entry, AreReadyFor, IsReadyFor}
-use Rattle.hx_refs.specs.declared.content.NewEntry.{NewEntry}
+use Rattle.hx_versions.specs.NewEntries.{added_entry, prepared_patterns, AreReadyFor, IsReadyFor}
+use Rattle.hx_versions.specs.declared.content.NewEntry.{NewEntry}
 use Rattle.hx_refs.specs.References.{version_of, Reference}
 use Rattle.hx_refs.specs.Uses.{uses_of, Use}
 use Rattle.hx_refs.specs.declared.fault.RefFault.{RefFault}

@@ -13,7 +13,7 @@ use Rattle.hx_refs.specs.Numbers.{HasRisingNumbers}
 use Rattle.hx_refs.specs.References.{refuses_value, version_entries, version_of, version_place, Reference, Version}
 use Rattle.hx_refs.specs.declared.fault.RefFault.{RefFault}
 use Rattle.hx_refs.specs.declared.fault.RefFault.TheVariants.{BadValue, KeyNotFound}
-use Rattle.hx_refs.specs.Rows.{row_at, use_ways, version_numbered, with_last_entries, AreCounted, AreSearchedBy, Changes, StoreView}
+use Rattle.hx_versions.specs.Rows.{row_at, use_ways, version_numbered, with_last_entries, AreCounted, AreSearchedBy, Changes, StoreView}
 use Rattle.hx_refs.specs.Versions.{HasVersion}
 use Rattle.hx_refs.proofs.FilledLemmas.{filled_get, kept_at, row_changed, row_filled, row_within, same_rows, seen_from, set_itself}
 use Rattle.hx_refs.proofs.ReferenceLemmas.{change_shown, committable, entries_numbered, few_added, filled_after, none_appended, pairs_shown, rising_with_added, searched_place, version_here}

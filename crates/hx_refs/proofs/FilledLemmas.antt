@@ -8,7 +8,7 @@ use Rattle.std.proofs.lemmas.List.Elements.{All-map}
 use Rattle.std.proofs.lemmas.Option.{get_or_from_slice_get, same_Some, slice_get_read}
 use Rattle.hx_refs.specs.Kept.{all_filled, filled, shown_references, with_kept, AreFilled, IsFilled, Kept, KeptState}
 use Rattle.hx_refs.specs.References.{Reference}
-use Rattle.hx_refs.specs.Rows.{row_at, store_slots, ShownVersion, StoreView}
+use Rattle.hx_versions.specs.Rows.{row_at, store_slots, ShownVersion, StoreView}
 use Rattle.hx_refs.proofs.KeptLemmas.{found_within}
 use Rattle.hx_refs.proofs.ListLemmas.{get_last, get_more, get_past, get_set_other, get_set_same}
 

@@ -12,7 +12,8 @@ use Rattle.hx_sample.specs.declared.sample.Value.{Value}
 use Rattle.hx_sample.specs.Find.{found_entry, Entry}
 use Rattle.hx_sample.specs.Tables.{found_at, TableHead}
 use Rattle.hx_refs.specs.Changes.{fault_at}
-use Rattle.hx_refs.specs.Costs.{find_steps, search_steps}
+use Rattle.hx_refs.specs.Costs.{find_steps}
+use Rattle.hx_versions.specs.Costs.{search_steps}
 use Rattle.hx_refs.specs.Kept.{kept_fault, kept_uses, shown_references, with_kept, AreKept, Kept, KeptState, TakePatterns}
 use Rattle.hx_refs.specs.References.{changed_at, searched_lists, version_entries, with_reference, AreEmpty, Reference, References}
 use Rattle.hx_refs.specs.declared.fault.RefFault.{RefFault}

@@ -16,7 +16,7 @@ use Rattle.hx_refs.specs.Changes.{answer}
 use Rattle.hx_refs.specs.Kept.{all_filled, filled, shown_references, Kept}
 use Rattle.hx_refs.specs.Naming.{is_named, named_number, resolution, side_fault}
 use Rattle.hx_refs.specs.References.{Reference, References}
-use Rattle.hx_refs.specs.Rows.{ShownVersion}
+use Rattle.hx_versions.specs.Rows.{ShownVersion}
 
 -- ---- numbers
 

@@ -7,9 +7,8 @@ use Rattle.hx_outside.specs.Makers.{ExpressionText}
 use Rattle.hx_match.specs.Patterns.{PatternText}
 use Rattle.hx_sample.specs.Find.{Entry}
 use Rattle.hx_refs.specs.Additions.{new_entries, new_entry, pair_fault, pairs_fault, Demands, Pair, PairsAskFor}
-use Rattle.hx_refs.specs.Contents.{prepared_patterns}
-use Rattle.hx_refs.specs.NewEntries.{added_entry, IsReadyFor}
-use Rattle.hx_refs.specs.declared.content.NewEntry.{NewEntry}
+use Rattle.hx_versions.specs.NewEntries.{added_entry, prepared_patterns, IsReadyFor}
+use Rattle.hx_versions.specs.declared.content.NewEntry.{NewEntry}
 use Rattle.hx_refs.specs.declared.fault.RefFault.{RefFault}
 use Rattle.hx_refs.proofs.AdditionLemmas.{ready_entry}
 

@@ -6,7 +6,7 @@ use Rattle.hx_sample.specs.Find.{Entry}
 use Rattle.hx_refs.specs.Additions.{new_entries, Pair}
 use Rattle.hx_refs.specs.Numbers.{HasRisingNumbers, RiseBetween}
 use Rattle.hx_refs.specs.References.{Version}
-use Rattle.hx_refs.specs.Rows.{changed_entries, version_numbered, AreBelow, AreNumbered, ChangesVersion, ShownVersion}
+use Rattle.hx_versions.specs.Rows.{changed_entries, version_numbered, AreBelow, AreNumbered, ChangesVersion, ShownVersion}
 use Rattle.hx_refs.specs.Versions.{with_new_entries, AreRising}
 use Rattle.hx_refs.proofs.VersionLemmas.{dropped_others, none_below}
 

@@ -7,7 +7,7 @@ use Rattle.std.proofs.lemmas.Option.{get_or_from_slice_get, same_Some, slice_get
 use Rattle.hx_text.specs.declared.kinds.By.{By}
 use Rattle.hx_sample.specs.Tables.{TableHead}
 use Rattle.hx_refs.specs.Kept.{table_heads, AreSearchable, IsPlaced, Kept, PlacedHead}
-use Rattle.hx_refs.specs.Rows.{use_ways}
+use Rattle.hx_versions.specs.Rows.{use_ways}
 use Rattle.hx_refs.specs.Uses.{uses_of, Use}
 use Rattle.hx_refs.proofs.KeptLemmas.{kept_after_use}
 use Rattle.hx_refs.proofs.ListLemmas.{get_last, get_more, get_past}

@@ -13,7 +13,7 @@ use Rattle.hx_refs.specs.Kept.{filled, IsAdded, IsFilled, Kept}
 use Rattle.hx_refs.specs.Numbers.{HasRisingNumbers, HasVersionsInOrder, NumbersRise}
 use Rattle.hx_refs.specs.declared.fault.RefFault.TheVariants.{BadVersion}
 use Rattle.hx_refs.specs.References.{empty_version, version_entries, version_of, version_place, with_output, AreEmpty, Reference, Version}
-use Rattle.hx_refs.specs.Rows.{first_entries, total_count, use_ways, version_numbered, versions_between, versions_from, with_last_entries, AreBelow, AreCounted, AreNumbered, AreSearchedBy, Changes, ChangesVersion, IsCounted, IsDropped, IsSearchedBy, ShownVersion}
+use Rattle.hx_versions.specs.Rows.{first_entries, total_count, use_ways, version_numbered, versions_between, versions_from, with_last_entries, AreBelow, AreCounted, AreNumbered, AreSearchedBy, Changes, ChangesVersion, IsCounted, IsDropped, IsSearchedBy, ShownVersion}
 use Rattle.hx_refs.specs.Versions.{with_new_entries, AreRising, HasVersion}
 use Rattle.hx_refs.proofs.NumberLemmas.{rising_added, rising_after, rising_dropped}
 use Rattle.hx_refs.proofs.VersionLemmas.{changed_between, committed_between, counted_here, dropped_numbers, entries_counted, few_dropped, first_is_numbered, no_row, none_above, none_below, numbered_to, prepared_between, version_at}

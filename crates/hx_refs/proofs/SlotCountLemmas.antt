@@ -11,7 +11,7 @@ use Rattle.hx_sample.specs.Tables.{TableHead}
 use Rattle.hx_refs.specs.declared.limits.Limits.{Limits}
 use Rattle.hx_refs.specs.Kept.{all_filled, filled, kept_uses, shown_references, slots_in_kept, AreFilled, AreKept, IsFilled, Kept}
 use Rattle.hx_refs.specs.References.{after_tidying, empty_version, Version}
-use Rattle.hx_refs.specs.Rows.{kept_slots, row_slots, store_slots, use_ways, version_in_row, version_numbered, version_slots, versions_from, AreNumbered, IsSearchedBy, ShownVersion, StoreView}
+use Rattle.hx_versions.specs.Rows.{kept_slots, row_slots, store_slots, use_ways, version_in_row, version_numbered, version_slots, versions_from, AreNumbered, IsSearchedBy, ShownVersion, StoreView}
 use Rattle.hx_refs.specs.SlotCounts.{least_slots, most_slots, slots_in, slots_in_all}
 use Rattle.hx_refs.specs.Uses.{uses_of, Use}
 use Rattle.hx_refs.proofs.FilledLemmas.{row_in}

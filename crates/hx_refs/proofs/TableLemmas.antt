@@ -18,7 +18,7 @@ use Rattle.hx_refs.specs.References.{changed_at, entries_in, refuses_value, Refs
 use Rattle.hx_refs.specs.TableAnswers.{lacks_key, table_answer}
 use Rattle.hx_refs.specs.TableChanges.{after_fit_change, is_key_of, unless_refused, with_pair}
 use Rattle.hx_refs.specs.Uses.{uses_from}
-use Rattle.hx_refs.specs.Rows.{changed_entries}
+use Rattle.hx_versions.specs.Rows.{changed_entries}
 use Rattle.hx_refs.specs.Versions.{with_new_entries}
 use Rattle.hx_refs.specs.declared.fault.RefFault.{RefFault}
 use Rattle.hx_refs.specs.declared.fault.RefFault.TheVariants.{UnknownRef, BadVersion, KeyNotFound, BadPattern, BadValue, NeedsMap, UsedAsMap, VersionFull, VersionWorn, NoMoreVersions, TooLarge, NoMemory}

@@ -8,7 +8,7 @@ use Rattle.hx_refs.specs.Additions.{after_addition, Pair}
 use Rattle.hx_refs.specs.Changes.{after_clearing, after_commit, after_preparation, commit_fault, fault_at, fault_unless, with_current_version, with_new_version, with_version}
 use Rattle.hx_refs.specs.Numbers.{IsNotSearched}
 use Rattle.hx_refs.specs.References.{changed_at, empty_version, entries_in, searched_lists, version_entries, with_reference, Reference, References, Version}
-use Rattle.hx_refs.specs.Rows.{changed_entries}
+use Rattle.hx_versions.specs.Rows.{changed_entries}
 use Rattle.hx_refs.specs.Versions.{with_new_entries}
 use Rattle.hx_refs.specs.declared.fault.RefFault.{RefFault}
 use Rattle.hx_refs.specs.declared.fault.RefFault.TheVariants.{BadVersion}

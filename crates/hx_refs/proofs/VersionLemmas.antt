@@ -5,7 +5,7 @@ use Rattle.std.proofs.lemmas.List.Elements.{All-head, All-tail}
 use Rattle.std.proofs.lemmas.List.Sums.{sum_by-cons}
 use Rattle.std.proofs.lemmas.Bool.{ne_eqb, eq-eqb, cases_eq}
 use Rattle.hx_refs.specs.References.{changed_at, empty_version, AreEmpty, Version}
-use Rattle.hx_refs.specs.Rows.{first_entries, total_count, version_numbered, versions_between, versions_from, AreBelow, AreCounted, AreNumbered, BeginsFrom, ChangesVersion, IsCounted, ShownVersion}
+use Rattle.hx_versions.specs.Rows.{first_entries, total_count, version_numbered, versions_between, versions_from, AreBelow, AreCounted, AreNumbered, BeginsFrom, ChangesVersion, IsCounted, ShownVersion}
 
 -- ---- numbers
 

@@ -1,7 +1,7 @@
 -- What removals, changes of values and the calls on versions make of the references, and why they
 -- are refused (HAProxy management guide 2.4, section 9.3, `del map`, `set map`, `clear map`,
 -- `prepare map`, `commit map`, and the same of `acl`).
-use Rattle.std.specs.Prelude.{◌≡◌, ℕ, ◌+◌, ◌-◌, ◌==◌, ◌&&◌, nat_le, nat_lt, Bool, not, List, [], ◌∷◌, ◌++◌, map, drop, slice_get, Option, None, Some, Result, Ok, Err, if◌then◌else◌, ⊤}
+use Rattle.std.specs.Prelude.{◌≡◌, ℕ, ◌+◌, ◌-◌, ◌&&◌, nat_le, nat_lt, Bool, not, List, [], ◌∷◌, ◌++◌, map, drop, slice_get, Option, None, Some, Result, Ok, Err, if◌then◌else◌, ⊤}
 use Rattle.std.specs.List.{list_any}
 use Rattle.std.specs.Option.{option_map_or, option_or}
 use Rattle.hx_sample.specs.Find.{Entry}
@@ -10,10 +10,7 @@ use Rattle.hx_refs.specs.declared.fault.RefFault.{RefFault}
 use Rattle.hx_refs.specs.declared.fault.RefFault.TheVariants.{BadVersion, KeyNotFound, BadValue, NoMoreVersions, NoMemory}
 use Rattle.hx_refs.specs.declared.limits.Limits.{Limits}
 use Rattle.hx_refs.specs.References.{changed_at, empty_version, refuses_value, version_entries, version_place, with_reference, Reference, References, Version}
-
--- the entry has the number
-abbrev pub has_number : ℕ → Entry → Bool
-has_number number entry = entry.number == number
+pub use Rattle.hx_versions.specs.Versions.{has_number}
 
 -- ---- a reference
 

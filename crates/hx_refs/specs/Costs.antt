@@ -1,25 +1,9 @@
 -- How many slots of memory calls on references read, at most.
-use Rattle.std.specs.Prelude.{ℕ, ◌+◌, ◌-◌, ◌*◌, Bool, List, map, None, slice_get}
+use Rattle.std.specs.Prelude.{ℕ, ◌+◌, ◌-◌, ◌*◌, None, slice_get}
 use Rattle.std.specs.Option.{option_map_or}
-use Rattle.hx_text.specs.declared.kinds.By.{By}
 use Rattle.hx_sample.specs.declared.sample.Value.{Value}
-use Rattle.hx_sample.specs.Find.{Entry}
-use Rattle.hx_index.specs.Items.{Item}
-use Rattle.hx_index.specs.Index.{listed_count, tree_steps}
+use Rattle.hx_versions.specs.Costs.{search_steps}
 use Rattle.hx_refs.specs.References.{entries_in, Reference, References}
-
--- the key of an entry as a pattern of an index
-abbrev pub key_item : By → Bool → Entry → Item
-key_item method ci entry = record {
-  node = 0;
-  entry = 0;
-  pattern = record { by = method; ci = ci; text = entry.key };
-}
-
--- the most steps of a search for a value among entries: those of an index, and three more
-abbrev pub search_steps : By → Bool → List Entry → Value → ℕ
-search_steps method ci entries v =
-    tree_steps method ci v + 2 * listed_count (map (key_item method ci) entries) + 3
 
 -- a search by a head: those of a search among the entries of its list
 abbrev pub find_steps : References → ℕ → Value → ℕ

@@ -9,10 +9,10 @@ use Rattle.hx_refs.specs.Additions.{new_entries, pairs_fault, Demands, Pair}
 use Rattle.hx_refs.specs.declared.fault.RefFault.{RefFault}
 use Rattle.hx_refs.specs.declared.fault.RefFault.TheVariants.{BadPattern, BadVersion}
 use Rattle.hx_refs.specs.declared.limits.Limits.{Limits}
-use Rattle.hx_refs.specs.declared.slots.Slots.{Slots}
+use Rattle.hx_versions.specs.declared.slots.Slots.{Slots}
 use Rattle.hx_refs.specs.Numbers.{HaveOwnNames}
 use Rattle.hx_refs.specs.References.{changed_at, version_of, Reference, Version}
-use Rattle.hx_refs.specs.Rows.{row_at, use_ways, versions_between, AreCounted, AreNumbered, AreSearchedBy, ShownVersion, StoreView}
+use Rattle.hx_versions.specs.Rows.{row_at, use_ways, versions_between, AreCounted, AreNumbered, AreSearchedBy, ShownVersion, StoreView}
 use Rattle.hx_refs.specs.Uses.{Use, uses_of}
 use Rattle.hx_refs.specs.Versions.{AreRising}
 

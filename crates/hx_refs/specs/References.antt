@@ -10,18 +10,13 @@ use Rattle.hx_sample.specs.Find.{Entry}
 use Rattle.hx_sample.specs.Tables.{TableHead}
 use Rattle.hx_refs.specs.declared.limits.Limits.{Limits}
 use Rattle.hx_refs.specs.declared.info.RefInfo.{RefInfo}
-use Rattle.hx_refs.specs.declared.slots.Slots.{Slots}
+use Rattle.hx_versions.specs.declared.slots.Slots.{Slots}
+pub use Rattle.hx_versions.specs.Versions.{empty_version, Version}
 
 -- the types, beside strings, in which the values of a map are read; any value is a string
 pub record Outputs : Type 0 where
   pub as_int : Bool
   pub as_ip : Bool
-
--- a version of a list: the serial number of the entry that was added last, 0 before the first, and
--- the entries
-pub record Version : Type 0 where
-  pub serial : ℕ
-  pub entries : List Entry
 
 -- A reference: its number; its file, if it has one; whether its entries have values; whether an ACL
 -- uses it; how its values are read; the number of the version that is searched, and that of the
@@ -60,10 +55,6 @@ after_tidying most slots = record {
 }
 
 -- ---- parts of a reference
-
--- a version to which nothing was added
-abbrev pub empty_version : Version
-empty_version = record { serial = 0; entries = [] }
 
 -- nothing was added to any of the versions
 abbrev pub AreEmpty : List Version → Type 0

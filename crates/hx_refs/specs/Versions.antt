@@ -1,25 +1,9 @@
--- What calls speak of in the versions of a reference.
-use Rattle.std.specs.Prelude.{◌≡◌, ℕ, suc, ◌+◌, ◌≤◌, Bool, List, [], ◌∷◌, ◌++◌, length, if◌then◌else◌}
-use Rattle.hx_sample.specs.Changes.{has_key}
-use Rattle.hx_sample.specs.Find.{Entry}
+-- Which versions a reference has, what holds of their entries, and what an addition makes of one.
+use Rattle.std.specs.Prelude.{ℕ, ◌+◌, ◌≤◌, List, ◌++◌, length}
 use Rattle.hx_refs.specs.Additions.{new_entries, Pair}
-use Rattle.hx_refs.specs.Changes.{has_number}
 use Rattle.hx_refs.specs.Numbers.{HasRisingNumbers}
 use Rattle.hx_refs.specs.References.{Reference, Version}
-use Rattle.hx_refs.specs.Rows.{version_numbered, ShownVersion}
-use Rattle.hx_refs.specs.declared.choice.Choice.{Choice}
-use Rattle.hx_refs.specs.declared.choice.Choice.TheVariants as choice
-
--- an entry is one of those that a call speaks of
-abbrev pub is_chosen : Choice → Entry → Bool
-is_chosen (choice.Key key) = has_key key.now
-is_chosen (choice.Number number) = has_number number
-
--- how many entries a test chooses
-abbrev pub chosen_count : (Entry → Bool) → List Entry → ℕ
-chosen_count test [] = 0
-chosen_count test (entry ∷ entries) =
-    if test entry then suc (chosen_count test entries) else chosen_count test entries
+use Rattle.hx_versions.specs.Rows.{version_numbered, ShownVersion}
 
 -- the reference has a version of the number
 abbrev pub HasVersion : Reference → ℕ → Type 0

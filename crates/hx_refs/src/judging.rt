@@ -2,24 +2,19 @@ ghost use Rattle.std.specs.Prelude.{◌≡◌, ◌≢◌, ◌+◌, ◌<◌, ◌^
 ghost use Rattle.hx_text.specs.declared.kinds.By.{By as Method};
 ghost use Rattle.hx_match.specs.Patterns.{text_fault};
 ghost use Rattle.hx_refs.specs.Additions.{new_entries, pairs_fault, refuses_key, AdditionCountsLarge, IsReadAs, MayRefuse, PairsAskFor};
-ghost use Rattle.hx_refs.specs.Contents.{prepared_patterns};
 ghost use Rattle.hx_refs.specs.Kept.{key_fault, kept_demands, TakePatterns};
-ghost use Rattle.hx_refs.specs.NewEntries.{added_entries, added_entry, AreReadyFor, IsReadyFor};
+ghost use Rattle.hx_versions.specs.NewEntries.{added_entries, added_entry, prepared_patterns, AreReadyFor, IsReadyFor};
 ghost use Rattle.hx_refs.specs.References.{refuses_value};
-ghost use Rattle.hx_refs.specs.Rows.{use_ways};
+ghost use Rattle.hx_versions.specs.Rows.{use_ways};
 
-use crate::content::NewEntry;
 use crate::fault::RefFault;
-use crate::kept_text::KeptText;
 use crate::limits::Limits;
-use crate::node_numbers::NodeNumbers;
 use crate::pairs::KeptPair;
 use crate::reference::KeptReference;
-use crate::store::NewEntries;
-use crate::uses::KeptUse;
 use hx_index::{Prepared, prepare};
 use hx_outside::{PatFault, ReMaker};
 use hx_text::{By, NoMemory, read_i64, read_ip};
+use hx_versions::{KeptText, KeptUse, NewEntries, NewEntry, NodeNumbers};
 use std::alloc::Global;
 
 /// The key as a pattern, prepared for an index.

@@ -8,18 +8,19 @@ ghost use Rattle.hx_sample.specs.Seen.{value_of};
 ghost use Rattle.hx_sample.specs.Tables.{entry_of};
 ghost use Rattle.hx_refs.specs.Additions.{with_pairs, AdditionCountsLarge, MayRefuse, Pair, VersionAsksFor};
 ghost use Rattle.hx_refs.specs.Changes.{answer, commit_fault, deletion_fault, preparation_fault, value_fault, with_current_version, with_entries, with_new_version, MayFail};
-ghost use Rattle.hx_refs.specs.Costs.{search_steps, steps_to_commit};
+ghost use Rattle.hx_refs.specs.Costs.{steps_to_commit};
+ghost use Rattle.hx_versions.specs.Costs.{search_steps};
 ghost use Rattle.hx_refs.specs.Kept.{kept_demands, kept_fault, shown_references, slots_in_kept, version_fault, with_kept, IsAdded, Kept};
 ghost use Rattle.hx_refs.specs.Naming.{resolution};
-ghost use Rattle.hx_refs.specs.NewEntries.{added_entries, AreReadyFor};
+ghost use Rattle.hx_versions.specs.NewEntries.{added_entries, AreReadyFor};
 ghost use Rattle.hx_refs.specs.Numbers.{HasVersionsInOrder, NumbersRise};
 ghost use Rattle.hx_refs.specs.References.{after_tidying, info_of, new_reference, no_slots, version_entries, version_of, with_output, AreEmpty, References};
-ghost use Rattle.hx_refs.specs.Rows.{use_ways};
+ghost use Rattle.hx_versions.specs.Rows.{use_ways};
 ghost use Rattle.hx_refs.specs.SlotCounts.{least_slots, most_slots};
 ghost use Rattle.hx_refs.specs.Uses.{use_parts, use_with, uses_in_order};
-ghost use Rattle.hx_refs.specs.Versions.{is_chosen, HasVersion};
+ghost use Rattle.hx_refs.specs.Versions.{HasVersion};
+ghost use Rattle.hx_versions.specs.Versions.{is_chosen};
 
-use crate::choice::Choice;
 use crate::fault::RefFault;
 use crate::info::RefInfo;
 use crate::judging::new_entries;
@@ -28,13 +29,11 @@ use crate::naming::named_number;
 use crate::pairs::KeptPair;
 use crate::reference::KeptReference;
 use crate::side::Side;
-use crate::slots::Slots;
-use crate::store::{NewEntries, Store};
-use crate::version_entries::Entries;
 use hx_outside::ReMaker;
 use hx_pool::Steps;
 use hx_sample::{Hit, Sample};
 use hx_text::{By, NoMemory, Out};
+use hx_versions::{Choice, Entries, NewEntries, Slots, Store};
 use std::alloc::Global;
 use std::marker::{Brand, Model};
 use std::sync::ledger::{Blank, Ledger};
@@ -59,7 +58,7 @@ pub(crate) struct KeptReferences {
 
 impl Model for KeptReferences {
     ghost use Rattle.hx_refs.specs.Kept.{all_filled, AreFilled, KeptState};
-    ghost use Rattle.hx_refs.specs.Rows.{store_slots};
+    ghost use Rattle.hx_versions.specs.Rows.{store_slots};
 
     ghost Value = { KeptState };
 

@@ -5,52 +5,28 @@
 //! `specs/TableChanges.antt` what a change that a rule asks for makes of them,
 //! `specs/Naming.antt` which of them a word names, and `specs/FileLines.antt` which entries the
 //! lines of a file give. `specs/Numbers.antt` says what holds of them at any time, and
-//! `laws` what follows from the definitions.
+//! `laws` what follows from the definitions. Their versions lie in a store of `hx_versions`.
 #![tactic(auto)]
 
-mod appending;
-mod choice;
-mod choosing;
-mod content;
-mod dismantling;
 mod fault;
-mod filling;
-mod finding;
-mod growing;
 mod heads;
-mod indexing;
 mod info;
 mod judging;
 mod kept_references;
-mod kept_text;
 pub mod laws;
 mod limits;
 mod lines;
 mod naming;
-mod node_numbers;
 mod pairs;
-mod placing;
-mod pools;
-mod reaching;
-mod reading;
 mod reference;
 mod refs;
-mod retiring;
 mod side;
-mod slots;
-mod store;
-mod stored_entry;
-mod stored_version;
 mod table_changes;
-mod uses;
-mod values;
-mod version_entries;
 
 pub use fault::RefFault;
+pub use hx_versions::{Entries, Slots};
 pub use info::RefInfo;
 pub use limits::Limits;
 pub use pairs::Pairs;
 pub use refs::Refs;
 pub use side::Side;
-pub use slots::Slots;
-pub use version_entries::Entries;

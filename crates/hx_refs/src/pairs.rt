@@ -1,7 +1,7 @@
 ghost use Rattle.std.specs.Prelude.{◌≡◌, [], ◌∷◌, ◌++◌, length, IfOk, OnOk, OnErr};
 
-use crate::kept_text::KeptText;
 use hx_text::NoMemory;
+use hx_versions::KeptText;
 use std::alloc::Global;
 use std::marker::Model;
 

@@ -5,22 +5,21 @@ ghost use Rattle.hx_refs.specs.Additions.{new_entry, pair_fault, AdditionCountsL
 ghost use Rattle.hx_refs.specs.Changes.{answer, commit_fault, preparation_fault};
 ghost use Rattle.hx_refs.specs.Kept.{kept_demands};
 ghost use Rattle.hx_refs.specs.Naming.{is_named, side_fault};
-ghost use Rattle.hx_refs.specs.NewEntries.{added_entry, IsReadyFor};
+ghost use Rattle.hx_versions.specs.NewEntries.{added_entry, IsReadyFor};
 ghost use Rattle.hx_refs.specs.References.{new_reference, refuses_value, version_place, with_output};
-ghost use Rattle.hx_refs.specs.Rows.{use_ways};
+ghost use Rattle.hx_versions.specs.Rows.{use_ways};
 ghost use Rattle.hx_refs.specs.Uses.{use_parts, use_with, uses_in_order};
 ghost use Rattle.hx_refs.specs.Versions.{HasVersion};
 
-use crate::content::NewEntry;
 use crate::fault::RefFault;
 use crate::info::RefInfo;
 use crate::judging::{entry_of_pair, prepare_keys, refuses_value};
 use crate::limits::Limits;
 use crate::pairs::KeptPair;
 use crate::side::Side;
-use crate::uses::{KeptUse, use_in_order, use_with};
 use hx_outside::ReMaker;
 use hx_text::{By, NoMemory, Octets, Out};
+use hx_versions::{KeptUse, NewEntry, use_in_order, use_with};
 use std::alloc::Global;
 use std::marker::Model;
 

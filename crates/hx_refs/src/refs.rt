@@ -12,9 +12,8 @@ ghost use Rattle.hx_refs.specs.References.{after_output, after_tidying, entries_
 ghost use Rattle.hx_refs.specs.SlotCounts.{least_slots, most_slots, slots_in_all};
 ghost use Rattle.hx_refs.specs.TableChanges.{is_key_of};
 ghost use Rattle.hx_refs.specs.Uses.{after_use, head_for, use_parts, uses_in_order, uses_of, KeepsToCase};
-ghost use Rattle.hx_refs.specs.Versions.{is_chosen};
+ghost use Rattle.hx_versions.specs.Versions.{is_chosen};
 
-use crate::choice::Choice;
 use crate::fault::RefFault;
 use crate::heads::KeptHead;
 use crate::info::RefInfo;
@@ -22,13 +21,12 @@ use crate::kept_references::KeptReferences;
 use crate::limits::Limits;
 use crate::pairs::{KeptPair, Pairs};
 use crate::side::Side;
-use crate::slots::Slots;
 use crate::table_changes::is_fit;
-use crate::version_entries::Entries;
 use hx_outside::ReMaker;
 use hx_pool::Steps;
 use hx_sample::{Change, Hit, Sample, TableFault, Tables};
 use hx_text::{By, NoMemory, Out};
+use hx_versions::{Choice, Entries, Slots};
 use std::alloc::Global;
 use std::marker::Model;
 use std::sync::ledger::Ledger;

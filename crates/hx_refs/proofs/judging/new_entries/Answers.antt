@@ -1,8 +1,8 @@
 use Rattle.std.proofs.Common.{◌∙◌}
 use Rattle.hx_refs.specs.Additions.{new_entries, pairs_fault, PairsAskFor}
 use Rattle.hx_refs.specs.Kept.{kept_demands}
-use Rattle.hx_refs.specs.NewEntries.{added_entries, added_entry}
-use Rattle.hx_refs.specs.Rows.{use_ways}
+use Rattle.hx_versions.specs.NewEntries.{added_entries, added_entry}
+use Rattle.hx_versions.specs.Rows.{use_ways}
 use Rattle.hx_refs.proofs.NewEntryLemmas.{asked_left, entries_left, fault_left, fewer_left}
 use Rattle.hx_refs.proofs.judging.new_entries.Goals as goal
 

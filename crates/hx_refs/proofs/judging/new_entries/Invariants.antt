@@ -2,8 +2,8 @@ use Rattle.std.proofs.Common.{◌≡◌, ◌+◌, ◌++◌, length}
 use Rattle.hx_outside.specs.Makers.{ExpressionText}
 use Rattle.hx_refs.specs.Additions.{new_entries, pairs_fault, PairsAskFor}
 use Rattle.hx_refs.specs.Kept.{kept_demands}
-use Rattle.hx_refs.specs.NewEntries.{added_entries, AreReadyFor}
-use Rattle.hx_refs.specs.Rows.{use_ways}
+use Rattle.hx_versions.specs.NewEntries.{added_entries, AreReadyFor}
+use Rattle.hx_versions.specs.Rows.{use_ways}
 use Rattle.hx_refs.proofs.judging.new_entries.Given as goal
 
 abbrev pub invariant-loop-rest : goal.invariant-loop-rest

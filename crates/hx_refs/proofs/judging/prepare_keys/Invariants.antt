@@ -1,9 +1,9 @@
 use Rattle.std.proofs.Common.{◌≡◌, ◌++◌, length}
 use Rattle.hx_outside.specs.Makers.{ExpressionText}
 use Rattle.hx_refs.specs.Additions.{refuses_key, IsReadAs}
-use Rattle.hx_refs.specs.Contents.{prepared_patterns}
+use Rattle.hx_versions.specs.NewEntries.{prepared_patterns}
 use Rattle.hx_refs.specs.Kept.{TakePatterns}
-use Rattle.hx_refs.specs.Rows.{use_ways}
+use Rattle.hx_versions.specs.Rows.{use_ways}
 use Rattle.hx_refs.proofs.judging.prepare_keys.Given as goal
 
 abbrev pub invariant-loop-rest : goal.invariant-loop-rest

@@ -1,6 +1,6 @@
 use Rattle.std.proofs.Common.{[], ◌∷◌}
 use Rattle.std.proofs.lemmas.List.{map-append}
-use Rattle.hx_refs.specs.NewEntries.{added_entry}
+use Rattle.hx_versions.specs.NewEntries.{added_entry}
 use Rattle.hx_refs.proofs.AdditionLemmas.{all_ready}
 use Rattle.hx_refs.proofs.judging.push_entry.Goals as goal
 

@@ -1,6 +1,6 @@
 use Rattle.std.proofs.Common.{refl, arith}
 use Rattle.hx_refs.specs.References.{with_output, Reference}
-use Rattle.hx_refs.specs.Rows.{row_at}
+use Rattle.hx_versions.specs.Rows.{row_at}
 use Rattle.hx_refs.proofs.ChangeLemmas.{holds_here}
 use Rattle.hx_refs.proofs.FilledLemmas.{kept_at, kept_changed, kept_filled, row_within, filled_length}
 use Rattle.hx_refs.proofs.ReferenceLemmas.{filled_read, with_out}

@@ -3,7 +3,7 @@ use Rattle.hx_refs.specs.Kept.{IsAdded, Kept}
 use Rattle.std.proofs.Common.{ap, arith, ◌≡◌, ◌<◌, length, subst, sym, ◌∙◌}
 use Rattle.std.proofs.lemmas.List.{length-map}
 use Rattle.std.proofs.lemmas.Result.{on_ok_weaker, on_err_weaker}
-use Rattle.hx_refs.specs.NewEntries.{added_entries, added_entry}
+use Rattle.hx_versions.specs.NewEntries.{added_entries, added_entry}
 use Rattle.hx_refs.proofs.ChangeLemmas.{holds_here, seen_here, few_in_row, counted_in_row, either, entries_appended, none_pairs}
 use Rattle.hx_refs.proofs.FilledLemmas.{row_within, filled_length, no_items, seen_from, state_of}
 use Rattle.hx_refs.proofs.kept_references.KeptReferences.append.Goals as goal

@@ -1,6 +1,6 @@
 use Rattle.hx_refs.proofs.FilledLemmas.{filled_length, row_within}
 use Rattle.std.proofs.Common.{[], arith}
-use Rattle.hx_refs.specs.Rows.{changed_entries}
+use Rattle.hx_versions.specs.Rows.{changed_entries}
 use Rattle.hx_refs.proofs.ChangeLemmas.{version_changed, holds_here, none_changed}
 use Rattle.hx_refs.proofs.kept_references.KeptReferences.clear.Goals as goal
 

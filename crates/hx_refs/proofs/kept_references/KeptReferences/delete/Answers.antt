@@ -1,6 +1,6 @@
 use Rattle.std.proofs.Common.{ap, sym, ◌∙◌}
 use Rattle.hx_refs.specs.Changes.{answer, deletion_fault}
-use Rattle.hx_refs.specs.Versions.{is_chosen}
+use Rattle.hx_versions.specs.Versions.{is_chosen}
 use Rattle.hx_refs.proofs.ChangeLemmas.{chosen_deletion, fault_of, lacking_deletion}
 use Rattle.hx_refs.proofs.KeptLemmas.{found_within}
 use Rattle.hx_refs.proofs.kept_references.KeptReferences.delete.Goals as goal

@@ -1,7 +1,7 @@
 use Rattle.std.proofs.Common.{ap, sym, ◌∙◌, arith}
 use Rattle.hx_refs.specs.Kept.{Kept}
 use Rattle.hx_refs.specs.References.{version_entries}
-use Rattle.hx_refs.specs.Rows.{row_at, version_numbered}
+use Rattle.hx_versions.specs.Rows.{row_at, version_numbered}
 use Rattle.hx_refs.proofs.ChangeLemmas.{holds_here}
 use Rattle.hx_refs.proofs.FilledLemmas.{row_within, seen_from, filled_length}
 use Rattle.hx_refs.proofs.ReferenceLemmas.{entries_numbered}

@@ -3,10 +3,10 @@ use Rattle.std.specs.Prelude.{None}
 use Rattle.std.proofs.lemmas.Result.{IfOk-weaker}
 use Rattle.hx_sample.specs.Find.{found_entry}
 use Rattle.hx_sample.specs.Seen.{value_of}
-use Rattle.hx_refs.specs.Costs.{search_steps}
+use Rattle.hx_versions.specs.Costs.{search_steps}
 use Rattle.hx_refs.specs.Kept.{Kept}
 use Rattle.hx_refs.specs.References.{version_entries}
-use Rattle.hx_refs.specs.Rows.{first_entries, row_at, use_ways}
+use Rattle.hx_versions.specs.Rows.{first_entries, row_at, use_ways}
 use Rattle.hx_refs.proofs.ChangeLemmas.{holds_here, seen_here}
 use Rattle.hx_refs.proofs.FilledLemmas.{row_within, seen_from, filled_length}
 use Rattle.hx_refs.proofs.ReferenceLemmas.{searched_first}

@@ -3,8 +3,8 @@ use Rattle.std.specs.Prelude.{None}
 use Rattle.std.specs.List.{list_any}
 use Rattle.hx_refs.specs.Kept.{Kept}
 use Rattle.hx_refs.specs.References.{version_entries}
-use Rattle.hx_refs.specs.Rows.{row_at, version_numbered}
-use Rattle.hx_refs.specs.Versions.{is_chosen}
+use Rattle.hx_versions.specs.Rows.{row_at, version_numbered}
+use Rattle.hx_versions.specs.Versions.{is_chosen}
 use Rattle.hx_refs.proofs.ChangeLemmas.{holds_here}
 use Rattle.hx_refs.proofs.FilledLemmas.{row_within, seen_from, filled_length}
 use Rattle.hx_refs.proofs.kept_references.KeptReferences.has_chosen.Goals as goal

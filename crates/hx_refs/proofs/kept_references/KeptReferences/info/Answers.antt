@@ -2,7 +2,7 @@ use Rattle.std.proofs.Common.{ℕ, ap, sym, ◌∙◌, arith}
 use Rattle.hx_refs.specs.declared.info.RefInfo.{RefInfo}
 use Rattle.hx_refs.specs.Kept.{Kept}
 use Rattle.hx_refs.specs.References.{info_of}
-use Rattle.hx_refs.specs.Rows.{row_at}
+use Rattle.hx_versions.specs.Rows.{row_at}
 use Rattle.hx_refs.proofs.ChangeLemmas.{holds_here}
 use Rattle.hx_refs.proofs.FilledLemmas.{row_within, seen_from, filled_length}
 use Rattle.hx_refs.proofs.ReferenceLemmas.{count_shown}

@@ -3,7 +3,7 @@ use Rattle.std.proofs.lemmas.List.{length-map}
 use Rattle.std.proofs.lemmas.Result.{IfErr-weaker, IfOk-weaker, on_ok_weaker}
 use Rattle.hx_refs.specs.Additions.{PairsAskFor}
 use Rattle.hx_refs.specs.Kept.{kept_demands}
-use Rattle.hx_refs.specs.NewEntries.{added_entry}
+use Rattle.hx_versions.specs.NewEntries.{added_entry}
 use Rattle.hx_refs.proofs.AdditionLemmas.{asked_wider}
 use Rattle.hx_refs.proofs.ChangeLemmas.{added_seen, asked_seen, fault_seen, few_seen, holds_here, if_ok_both, ok_of_each, seen_here}
 use Rattle.hx_refs.proofs.FilledLemmas.{row_within, seen_from, filled_length}

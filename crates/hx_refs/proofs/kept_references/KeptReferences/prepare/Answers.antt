@@ -2,7 +2,7 @@ use Rattle.std.proofs.Common.{◌+◌, ap, sym, ◌∙◌, arith}
 use Rattle.std.proofs.lemmas.Result.{on_err_weaker, on_ok_weaker}
 use Rattle.hx_refs.specs.Changes.{answer, preparation_fault, with_new_version}
 use Rattle.hx_refs.specs.Kept.{Kept}
-use Rattle.hx_refs.specs.Rows.{row_at}
+use Rattle.hx_versions.specs.Rows.{row_at}
 use Rattle.hx_refs.proofs.ChangeLemmas.{either, holds_here}
 use Rattle.hx_refs.proofs.FilledLemmas.{kept_at, kept_changed, kept_filled, row_within, seen_from, filled_length, kept_same, state_of}
 use Rattle.hx_refs.proofs.ReferenceLemmas.{filled_prepared, prepared_shown, with_next}

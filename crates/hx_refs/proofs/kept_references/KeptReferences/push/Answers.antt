@@ -1,5 +1,5 @@
 use Rattle.std.proofs.Common.{ap, refl}
-use Rattle.hx_refs.specs.Rows.{StoreView}
+use Rattle.hx_versions.specs.Rows.{StoreView}
 use Rattle.hx_refs.proofs.FilledLemmas.{filled_more, filled_with_new}
 use Rattle.hx_refs.proofs.ReferenceLemmas.{filled_new}
 use Rattle.hx_refs.proofs.kept_references.KeptReferences.push.Goals as goal

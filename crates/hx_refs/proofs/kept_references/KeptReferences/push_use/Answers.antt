@@ -2,7 +2,7 @@ use Rattle.std.proofs.Common.{ap, refl, sym, ◌∙◌, arith}
 use Rattle.std.proofs.lemmas.Result.{on_err_weaker, on_ok_weaker}
 use Rattle.std.specs.Prelude.{slice_set}
 use Rattle.hx_refs.specs.Kept.{all_filled, Kept}
-use Rattle.hx_refs.specs.Rows.{row_at}
+use Rattle.hx_versions.specs.Rows.{row_at}
 use Rattle.hx_refs.proofs.ChangeLemmas.{either, holds_here, seen_here}
 use Rattle.hx_refs.proofs.FilledLemmas.{kept_at, kept_filled, kept_set, row_within, seen_from, filled_length, kept_same, state_of}
 use Rattle.hx_refs.proofs.ReferenceLemmas.{filled_unused, with_use}

@@ -1,8 +1,8 @@
 use Rattle.hx_refs.proofs.FilledLemmas.{filled_length, row_within}
 use Rattle.std.proofs.Common.{arith}
 use Rattle.hx_sample.specs.Changes.{without_chosen}
-use Rattle.hx_refs.specs.Rows.{changed_entries}
-use Rattle.hx_refs.specs.Versions.{is_chosen}
+use Rattle.hx_versions.specs.Rows.{changed_entries}
+use Rattle.hx_versions.specs.Versions.{is_chosen}
 use Rattle.hx_refs.proofs.ChangeLemmas.{searched_changed}
 use Rattle.hx_refs.proofs.NumberLemmas.{rising_without}
 use Rattle.hx_refs.proofs.kept_references.KeptReferences.remove.Goals as goal

@@ -1,8 +1,8 @@
 use Rattle.std.proofs.Common.{arith, sym, ◌∙◌}
 use Rattle.hx_refs.specs.Changes.{value_fault}
 use Rattle.hx_refs.specs.Kept.{filled}
-use Rattle.hx_refs.specs.Rows.{row_at}
-use Rattle.hx_refs.specs.Versions.{is_chosen}
+use Rattle.hx_versions.specs.Rows.{row_at}
+use Rattle.hx_versions.specs.Versions.{is_chosen}
 use Rattle.hx_refs.proofs.ChangeLemmas.{fault_here, fault_of, fine_value, lacking_value, refused_value, seen_here}
 use Rattle.hx_refs.proofs.FilledLemmas.{filled_length}
 use Rattle.hx_refs.proofs.KeptLemmas.{found_within}

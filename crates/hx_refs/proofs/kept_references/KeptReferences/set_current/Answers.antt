@@ -1,6 +1,6 @@
 use Rattle.std.proofs.Common.{arith}
 use Rattle.hx_refs.specs.Changes.{with_current_version}
-use Rattle.hx_refs.specs.Rows.{row_at}
+use Rattle.hx_versions.specs.Rows.{row_at}
 use Rattle.hx_refs.proofs.ChangeLemmas.{holds_here, seen_here}
 use Rattle.hx_refs.proofs.FilledLemmas.{both_changed, both_filled, kept_at, row_within, seen_from, filled_length}
 use Rattle.hx_refs.proofs.ReferenceLemmas.{committed_shown, dropped_count, filled_committed, with_curr}

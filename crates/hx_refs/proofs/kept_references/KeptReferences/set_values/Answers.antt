@@ -2,8 +2,8 @@ use Rattle.hx_refs.proofs.FilledLemmas.{filled_length, row_within, state_of}
 use Rattle.std.proofs.Common.{map, arith, ap}
 use Rattle.std.proofs.lemmas.Result.{on_ok_weaker, on_err_weaker}
 use Rattle.hx_sample.specs.Changes.{with_value}
-use Rattle.hx_refs.specs.Rows.{changed_entries}
-use Rattle.hx_refs.specs.Versions.{is_chosen}
+use Rattle.hx_versions.specs.Rows.{changed_entries}
+use Rattle.hx_versions.specs.Versions.{is_chosen}
 use Rattle.hx_refs.proofs.ChangeLemmas.{either, searched_changed}
 use Rattle.hx_refs.proofs.NumberLemmas.{rising_with}
 use Rattle.hx_refs.proofs.kept_references.KeptReferences.set_values.Goals as goal

@@ -1,6 +1,6 @@
 use Rattle.std.proofs.Common.{ap}
 use Rattle.hx_refs.specs.Kept.{all_filled}
-use Rattle.hx_refs.specs.Rows.{StoreView}
+use Rattle.hx_versions.specs.Rows.{StoreView}
 use Rattle.hx_refs.proofs.SlotCountLemmas.{tidied_filled, tidied_slots}
 use Rattle.hx_refs.proofs.kept_references.KeptReferences.tidy.Goals as goal
 

@@ -1,4 +1,4 @@
-use Rattle.hx_refs.specs.Rows.{use_ways}
+use Rattle.hx_versions.specs.Rows.{use_ways}
 use Rattle.hx_refs.proofs.NewEntryLemmas.{ready_answer}
 use Rattle.hx_refs.proofs.reference.KeptReference.new_entry.Goals as goal
 

@@ -5,7 +5,7 @@ use Rattle.std.proofs.Common.{map}
 use Rattle.std.specs.Prelude.{None}
 use Rattle.hx_sample.specs.Changes.{with_value}
 use Rattle.hx_refs.specs.Changes.{value_fault, with_entries}
-use Rattle.hx_refs.specs.Versions.{is_chosen}
+use Rattle.hx_versions.specs.Versions.{is_chosen}
 use Rattle.hx_refs.specs.Kept.{table_heads}
 use Rattle.hx_refs.proofs.KeptLemmas.{fault_shown}
 use Rattle.hx_refs.proofs.NameLemmas.{entries_keep}
