@@ -3,6 +3,7 @@ ghost use Rattle.std.specs.Prelude.{◌≡◌};
 use crate::spelling::first_line;
 use hx_outside::{Failed, Source};
 use hx_text::{cut_at, read_number, without_cr};
+use memchr::memchr_iter;
 use std::alloc::{AllocError, Global};
 use std::mem;
 
@@ -152,7 +153,7 @@ fn request_len(line: &[u8]) -> Option<u64> {
 
 /// How many line feeds a text has.
 fn feeds(text: &[u8]) -> u64 {
-    text.iter().filter(|byte| **byte == b'\n').count() as u64
+    memchr_iter(b'\n', text).count() as u64
 }
 
 impl<S: Source> Source for RecentRecord<S> {
