@@ -22,6 +22,7 @@
 #![tactic(auto)]
 
 mod about;
+mod codes;
 mod known_files;
 mod machine;
 mod parts;
@@ -29,6 +30,10 @@ mod tables;
 mod watched;
 
 pub use about::{is_help, is_version, version};
+pub use codes::{
+    BAD_CONDITION, BAD_LINE, BAD_PATTERN, BAD_TYPE, BAD_VALUE, CONFIG_CODES, CUT_REQUEST,
+    FILE_TOO_LONG, MISPLACED, RECORD_CODES, UNSUPPORTED,
+};
 pub use known_files::KnownFiles;
 pub use machine::{
     IndexedTexts, MachineArguments, MachineEntries, MachineFault, arguments, environment,

@@ -3,7 +3,7 @@
 use Rattle.std.specs.Prelude.{ℕ, ◌==◌, List, ◌++◌, codes, length, map, if◌then◌else◌}
 use Rattle.std.specs.Fmt.{decimal}
 use Rattle.hx_program.specs.Tables.{meaning_of}
-use Rattle.hx_replay.specs.declared.codes.TheConstants.{CONFIG_CODES, RECORD_CODES}
+use Rattle.hx_program.specs.declared.codes.TheConstants.{CONFIG_CODES, RECORD_CODES}
 use Rattle.hx_replay.specs.declared.ending.Ending.{Ending}
 use Rattle.hx_replay.specs.declared.ending.Ending.TheVariants.{ConfigRefused, RecordRefused, UnreadFile, TooLarge, Other}
 use Rattle.hx_replay.specs.declared.explanation.Told.{Told}

@@ -7,10 +7,9 @@ ghost use Rattle.hx_program.specs.Tables.{meaning_of};
 ghost use Rattle.hx_replay.specs.Explanation.{ending_text, explanation, reason_of, refusal_text};
 ghost use Rattle.hx_replay.specs.Explanation.{told_of, too_large_text, unread_text};
 
-use crate::codes::{CONFIG_CODES, RECORD_CODES};
 use crate::ending::Ending;
 use hx_outside::{Sink, SinkFault};
-use hx_program::{Parts, Row, meaning_of, three_parts, write_parts};
+use hx_program::{CONFIG_CODES, Parts, RECORD_CODES, Row, meaning_of, three_parts, write_parts};
 use itoa::Buffer;
 
 /// What is told of a run beside its ending. Contracts see the texts.

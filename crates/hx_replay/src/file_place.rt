@@ -1,8 +1,8 @@
-use crate::codes::{BAD_PATTERN, BAD_VALUE, FILE_TOO_LONG};
 use crate::place::{Place, placed, unplaced};
 use crate::spelling::{first_line, pass_all};
 use hx_match::{Pattern, parse};
 use hx_outside::{PatFault, PlainMaker};
+use hx_program::{BAD_PATTERN, BAD_VALUE, FILE_TOO_LONG};
 use hx_spell::{HeadSpec, Speller, TableSpec, TableSpecs};
 use hx_text::{By, read_i64, read_ip};
 use itoa::Buffer;

@@ -26,7 +26,6 @@
 #![tactic(auto)]
 
 mod answers;
-mod codes;
 mod ending;
 mod explanation;
 mod file_place;

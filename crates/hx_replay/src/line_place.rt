@@ -1,9 +1,9 @@
-use crate::codes::{BAD_CONDITION, BAD_PATTERN, BAD_TYPE, MISPLACED, UNSUPPORTED};
 use crate::judged_word::judged_word;
 use crate::place::{Place, placed, unplaced};
 use crate::refused_word::right_words;
 use crate::spelling::{code_of, first_line, pass_lines, words_and};
 use crate::unknown_call::{Form, UnknownCall, unknown_call};
+use hx_program::{BAD_CONDITION, BAD_PATTERN, BAD_TYPE, MISPLACED, UNSUPPORTED};
 use hx_spell::Speller;
 use hx_text::Octets;
 use hx_words::split;

@@ -1,4 +1,3 @@
-use crate::codes::{BAD_PATTERN, BAD_VALUE, FILE_TOO_LONG};
 use crate::ending::Ending;
 use crate::file_place::{entry_place, naming_line};
 use crate::line_place::line_place;
@@ -6,6 +5,7 @@ use crate::recent_record::RecentRecord;
 use crate::record_place::record_place;
 use crate::spelling::push_escaped;
 use hx_outside::Files;
+use hx_program::{BAD_PATTERN, BAD_VALUE, FILE_TOO_LONG};
 use itoa::Buffer;
 use std::alloc::{AllocError, Global};
 

@@ -1,7 +1,7 @@
-use crate::codes::{BAD_LINE, CUT_REQUEST};
 use crate::place::{Place, placed};
 use crate::recent_record::{RecentRecord, RecordLine};
 use hx_outside::MemSource;
+use hx_program::{BAD_LINE, CUT_REQUEST};
 use hx_record::{Reader, RecordFault};
 use itoa::Buffer;
 use std::alloc::Global;

@@ -1,5 +1,5 @@
-use crate::codes::UNSUPPORTED;
 use crate::spelling::{code_of, push_word};
+use hx_program::UNSUPPORTED;
 use hx_spell::Speller;
 use hx_text::cut_at;
 use hx_words::{CallStep, next_call, split};

@@ -1,7 +1,9 @@
-use hx_program::Row;
+//! The codes with which a configuration or a record is refused, each with its name and its reason.
+
+use crate::tables::Row;
 
 /// The codes of a configuration that is refused.
-pub(crate) const CONFIG_CODES: [Row; 23] = [
+pub const CONFIG_CODES: [Row; 23] = [
     (b"1", b"OpenQuote", b"the line ends inside a quote"),
     (
         b"2",
@@ -109,7 +111,7 @@ pub(crate) const CONFIG_CODES: [Row; 23] = [
 
 /// The codes of a record that is refused. The last line doesn't say what is wrong of a bad line, so
 /// its reason lists what may be.
-pub(crate) const RECORD_CODES: [Row; 7] = [
+pub const RECORD_CODES: [Row; 7] = [
     (
         b"1",
         b"BadLine",
@@ -146,21 +148,21 @@ pub(crate) const RECORD_CODES: [Row; 7] = [
 
 /// The codes of a configuration of which more is told than their rows say, or whose place is found
 /// in a way of its own.
-pub(crate) const UNSUPPORTED: u32 = 9;
+pub const UNSUPPORTED: u32 = 9;
 
-pub(crate) const BAD_TYPE: u32 = 11;
+pub const BAD_TYPE: u32 = 11;
 
-pub(crate) const BAD_CONDITION: u32 = 14;
+pub const BAD_CONDITION: u32 = 14;
 
-pub(crate) const BAD_PATTERN: u32 = 16;
+pub const BAD_PATTERN: u32 = 16;
 
-pub(crate) const BAD_VALUE: u32 = 18;
+pub const BAD_VALUE: u32 = 18;
 
-pub(crate) const MISPLACED: u32 = 19;
+pub const MISPLACED: u32 = 19;
 
-pub(crate) const FILE_TOO_LONG: u32 = 20;
+pub const FILE_TOO_LONG: u32 = 20;
 
 /// The same of a record: a line that is no event, and a request that is cut short.
-pub(crate) const BAD_LINE: u32 = 1;
+pub const BAD_LINE: u32 = 1;
 
-pub(crate) const CUT_REQUEST: u32 = 3;
+pub const CUT_REQUEST: u32 = 3;
