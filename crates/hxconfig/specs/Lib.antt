@@ -11,6 +11,7 @@ pub mod Formats
 pub mod Conditions
 pub mod Guards
 pub mod Quoted
+pub mod Setting
 pub mod Replacing
 pub mod Reading
 pub mod Said

@@ -4,8 +4,9 @@
 use Rattle.std.specs.Prelude.{ℕ, nat_lt, ◌==◌, Bool, true, false, ◌&&◌, List, [], ◌∷◌, ◌++◌, codes, Option, None, Some, if◌then◌else◌}
 use Rattle.std.specs.Str.{bytes_eq}
 use Rattle.hx_base.specs.Bytes.{ascii}
-use Rattle.hxconfig.specs.Guards.{with_path}
+use Rattle.hxconfig.specs.Guards.{with_guard}
 use Rattle.hxconfig.specs.Quoted.{quoted}
+use Rattle.hxconfig.specs.Setting.{setting_said}
 use Rattle.hxconfig.specs.declared.replacing.TheConstants.{AUTHORITY, PATH_AND_QUERY}
 
 -- ---- what a replacement may have
@@ -51,13 +52,14 @@ as_replacement action before fetch condition expression replacement =
 -- whatever its path and query become.
 abbrev pub path_replaced : List (List ℕ) → Option (List (List ℕ))
 path_replaced (expression ∷ replacement ∷ condition) =
-    as_replacement (codes "set-path") [] (codes "path") (with_path condition) expression replacement
+    as_replacement (codes "set-path") [] (codes "path") (with_guard (codes "path") true condition)
+    expression replacement
 path_replaced _ = None
 
 abbrev pub path_and_query_replaced : List (List ℕ) → Option (List (List ℕ))
 path_and_query_replaced (expression ∷ replacement ∷ condition) =
-    as_replacement (codes "set-uri") AUTHORITY.now PATH_AND_QUERY.now (with_path condition)
-    expression replacement
+    as_replacement (codes "set-uri") AUTHORITY.now PATH_AND_QUERY.now
+    (with_guard (codes "path") true condition) expression replacement
 path_and_query_replaced _ = None
 
 abbrev pub target_replaced : List (List ℕ) → Option (List (List ℕ))
@@ -77,4 +79,5 @@ target_said action words =
     if bytes_eq action (codes "replace-path") then path_replaced words
     else (if bytes_eq action (codes "replace-pathq") then path_and_query_replaced words
     else (if bytes_eq action (codes "replace-uri") then target_replaced words
-    else (if bytes_eq action (codes "set-pathq") then path_and_query_set words else None)))
+    else (if bytes_eq action (codes "set-pathq") then path_and_query_set words
+    else setting_said action words)))

@@ -36,6 +36,7 @@ mod run_fault;
 mod runs;
 mod said;
 mod said_tables;
+mod setting;
 mod spelling;
 mod table;
 #[cfg(test)]

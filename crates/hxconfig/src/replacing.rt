@@ -4,8 +4,9 @@ ghost use Rattle.hxconfig.specs.Replacing.{is_plain_text, path_and_query_replace
 ghost use Rattle.hxconfig.specs.Replacing.{path_and_query_set, path_replaced, replaced};
 ghost use Rattle.hxconfig.specs.Replacing.{target_replaced, target_said};
 
-use crate::guards::push_with_path;
+use crate::guards::push_with_guard;
 use crate::quoted::push_quoted;
+use crate::setting::setting_said;
 use crate::words::{push, push_all};
 use hx_text::{NoMemory, Octets};
 use std::alloc::Global;
@@ -36,7 +37,7 @@ pub(crate) fn target_said(
     } else if action == b"set-pathq".as_slice() {
         path_and_query_set(alloc, words)
     } else {
-        Ok(None)
+        setting_said(alloc, action, words)
     }
 }
 
@@ -49,7 +50,7 @@ fn path_replaced(alloc: Global, words: &[Octets]) -> Result<Option<Vec<Octets>>,
         return Ok(None);
     };
     let mut guarded = Vec::new(alloc);
-    push_with_path(alloc, &mut guarded, condition)?;
+    push_with_guard(alloc, &mut guarded, b"path", true, condition)?;
     replacement_said(
         alloc,
         (b"set-path", b"", b"path"),
@@ -68,7 +69,7 @@ fn path_and_query_replaced(alloc: Global, words: &[Octets]) -> Result<Option<Vec
         return Ok(None);
     };
     let mut guarded = Vec::new(alloc);
-    push_with_path(alloc, &mut guarded, condition)?;
+    push_with_guard(alloc, &mut guarded, b"path", true, condition)?;
     replacement_said(
         alloc,
         (b"set-uri", AUTHORITY, PATH_AND_QUERY),

@@ -250,4 +250,11 @@ own http-request set-var-fmt(txn.a) %Ts
 own http-request set-var-fmt(txn.a) a%
 own http-request set-var-fmt(txn.a) %[src
 own http-request set-var-fmt(txn.a)
+other http-request set-var(txn.a,ifnotset) str(b) | http-request set-var(txn.a) str(b) if !{ var(txn.a) -m found }
+other http-request set-var(txn.a,ifset) ssl_fc if { path /a } or b | http-request set-var(txn.a) dst_port,xor(443),not if { var(txn.a) -m found } { path /a } or { var(txn.a) -m found } b
+other http-request set-var(txn.a,ifnotset) str(b) unless x | http-request set-var(txn.a) str(b) unless x or { var(txn.a) -m found }
+own http-request set-var(txn.a,ifgt,1) int(2)
+own http-request set-var(txn.a,ifexists) str(b)
+own http-request set-var(txn.a,ifnotset)
+own http-request unset-var(txn.a,ifset) a
 ";
