@@ -16,15 +16,15 @@ use Rattle.hx_spell.specs.declared.fault.SpellFault.{SpellFault}
 use Rattle.hx_spell.specs.ActionRelation.{IsCall, IsName}
 use Rattle.hx_spell.specs.Actions.{ActionHead, BareAction, FileAction, HeadMaker, VariableAction, Bare, OfFile, OfVariable, action_table, bare_head, changes_map, file_head, given_file, head_by, head_fault_by, head_of_step, head_reading, variable_head}
 use Rattle.hx_base.specs.Results.{◌>>=◌}
-use Rattle.hx_spell.specs.Arguments.{counted, is_count, required, single}
+use Rattle.hx_spell.specs.Arguments.{counted, is_count, read_form, required, single}
 use Rattle.hx_spell.specs.Codes.{bad_argument, bad_name, unsupported}
+use Rattle.hx_spell.specs.Forms.Form.{Variable}
 use Rattle.hx_spell.specs.Known.{Known, Reading, with_file}
 use Rattle.hx_spell.specs.Tables.{entry_at}
 use Rattle.hx_spell.specs.Values.{variable_name_of}
 use Rattle.hx_spell.proofs.CallTextLemmas.{last_is, last_spells}
 use Rattle.hx_spell.proofs.ResultLemmas.{and_then_ok, both, ok_or_is}
-use Rattle.hx_spell.proofs.RowLemmas.{EachRow, found_row}
-use Rattle.hx_spell.proofs.TableFormLemmas.{◌&◌}
+use Rattle.hx_spell.proofs.RowLemmas.{◌&◌, EachRow, found_row}
 
 -- ---- names
 
@@ -177,13 +177,13 @@ bare_row act line args before head is =
 variable_row : (act : VariableAction) → IsRow (variable_text act) (variable_head act)
 variable_row act line args before head is =
     let (v, one, whole) =
-    and_then_ok (single variable_name_of bad_name args)
+    and_then_ok (single (read_form Variable) args)
     (λ v. Ok (head_reading before (OfVariable act v))) head is in
     let (low, high, read) =
-    counted_is 1 1 args (required variable_name_of bad_name (slice_get args 0)) v one in
+    counted_is 1 1 args (required (read_form Variable) (slice_get args 0)) v one in
     let (arg, args_are) = one_arg args low high in
     let found : ok_or (variable_name_of arg) bad_name ≡ Ok v =
-    subst (λ (a : List (List ℕ)). required variable_name_of bad_name (slice_get a 0) ≡ Ok v) args_are
+    subst (λ (a : List (List ℕ)). required (read_form Variable) (slice_get a 0) ≡ Ok v) args_are
     read in
     let same : head_reading before (OfVariable act v) ≡ head = cc in
     subst

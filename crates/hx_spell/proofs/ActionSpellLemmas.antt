@@ -35,8 +35,7 @@ use Rattle.hx_spell.proofs.ExpressionLemmas.{expr_law}
 use Rattle.hx_spell.proofs.FormLemmas.{header_such}
 use Rattle.hx_spell.proofs.FormatSpellLemmas.{format_writes}
 use Rattle.hx_spell.proofs.ResultLemmas.{and_then_ok, ok_or_is, some_map}
-use Rattle.hx_spell.proofs.RowLemmas.{EachRow, found_row}
-use Rattle.hx_spell.proofs.TableFormLemmas.{◌&◌}
+use Rattle.hx_spell.proofs.RowLemmas.{◌&◌, EachRow, found_row}
 
 -- Words begin with those of an action, which are such.
 pub record ActionSpelled (IsActionOf : List (List ℕ) → Reading Action → Type 0)

@@ -1,60 +1,52 @@
 -- What is read of a criterion is such as the syntax allows, or is refused by a code.
-use Rattle.std.proofs.Common.{◌≡◌, ◌≢◌, ℕ, Bool, true, false, cond, List, [], ◌∷◌, length, Option, None, Some, Ok, Err, refl, sym, ap, subst}
-use Rattle.std.specs.Prelude.{Result, IfSome, IsSome, nat_lt, codes, option_map, option_and_then, slice_get}
+use Rattle.std.proofs.Common.{◌≡◌, ◌≢◌, ℕ, Bool, true, false, cond, List, [], ◌∷◌, length, Option, None, Some, Ok, Err, refl, ap}
+use Rattle.std.specs.Prelude.{Result, IfSome, nat_lt, option_map, option_and_then, slice_get}
 use Rattle.std.specs.List.{AllByRecursion, list_all}
-use Rattle.std.specs.Option.{ok_or, option_or}
+use Rattle.std.specs.Option.{option_map_or, option_or}
 use Rattle.std.specs.Str.{bytes_eq}
 use Rattle.std.proofs.lemmas.List.Elements.{All-from_recursion}
 use Rattle.hx_base.specs.Bytes.{ascii}
-use Rattle.hx_text.specs.Address.{ip_of}
 use Rattle.hx_text.specs.Cut.{cut_of}
-use Rattle.hx_text.specs.Number.{int_of}
 use Rattle.hx_text.specs.declared.By.{By}
 use Rattle.hx_text.specs.declared.Out.{Out}
-use Rattle.hx_text.specs.declared.Out.TheVariants as output
 use Rattle.hx_words.specs.CallForm.{CallForm}
 use Rattle.hx_words.specs.Calls.{Step, calls_of_steps, longer_calls}
 use Rattle.hx_words.specs.Calls.Step.{Last, More, Faulty}
 use Rattle.hx_words.specs.declared.ArgFault.{ArgFault}
 use Rattle.hx_words.specs.declared.ArgFault.TheVariants as arg
 use Rattle.hx_ast.specs.declared.Conv.{Conv}
-use Rattle.hx_ast.specs.declared.Fetch.{Fetch}
+use Rattle.hx_spell.specs.declared.convs.ConvName.{ConvName}
+use Rattle.hx_spell.specs.declared.fetches.FetchName.{FetchName}
 use Rattle.hx_ast.specs.Acls.{takes_patterns}
 use Rattle.hx_ast.specs.Convs.{IsConv, IsExpr, IsReadableAs, is_map_method}
 use Rattle.hx_ast.specs.Fetches.{IsFetch}
 use Rattle.hx_spell.specs.declared.fault.SpellFault.{SpellFault}
-use Rattle.hx_spell.specs.declared.fault.SpellFault.TheVariants as spell
 use Rattle.hx_base.specs.Results.{◌>>=◌}
-use Rattle.hx_spell.specs.Arguments.{optional}
-use Rattle.hx_spell.specs.Codes.{bad_argument, form_fault}
-use Rattle.hx_spell.specs.Criteria.{Criterion, FetchWay, MapWay, MethodFetch, conv_by, conv_call, conv_fault_by, convs_after, criterion, criterion_of_steps, derived_fetches, derived_methods, derived_of_parts, fetch_by, fetch_fault_by, fetch_way, map_arguments, map_table, value_of_map, way_with}
-use Rattle.hx_spell.specs.Expressions.{call_meaning, fault_of, made_of}
-use Rattle.hx_spell.specs.Known.{Known, Reading, ReferenceForm, has_columns, most_references, nothing_known, reference_form, with_file, with_named, with_named_file, with_reference, reading}
-use Rattle.hx_spell.specs.Tables.{Maker, Table, conv_table, entry_at, fetch_table}
+use Rattle.hx_spell.specs.Arguments.{given_of, optional, read_form, required}
+use Rattle.hx_spell.specs.Codes.{form_fault}
+use Rattle.hx_spell.specs.Criteria.{Criterion, FetchWay, MapWay, MethodFetch, conv_by, conv_call, conv_fault, convs_after, criterion, criterion_of_steps, derived_fetches, derived_methods, derived_of_parts, fetch_by, fetch_way, map_arguments, map_table, way_with}
+use Rattle.hx_spell.specs.Expressions.{call_fault, conv_by_name, fetch_made}
+use Rattle.hx_spell.specs.Forms.{WritesParameter}
+use Rattle.hx_spell.specs.Forms.Form.{ValueOfMap}
+use Rattle.hx_spell.specs.Forms.Parameter.{Optional}
+use Rattle.hx_spell.specs.Known.{Known, Reading, ReferenceForm, has_columns, most_references, reference_form, with_file, with_named_file, with_reference, reading}
+use Rattle.hx_spell.specs.Tables.{Table, conv_names, entry_at, fetch_names}
+use Rattle.hx_spell.proofs.ArgumentLemmas.{counted_gives, parameter_gives}
 use Rattle.hx_spell.proofs.CallTextLemmas.{IsReading}
 use Rattle.hx_spell.proofs.KnownLemmas.{file_or_new}
-use Rattle.hx_spell.proofs.ResultLemmas.{Gives, both, some_map, then_gives}
-use Rattle.hx_spell.proofs.TableFormLemmas.{◌&◌, IsPlainConv, MakesSuch, ReadsSuch, conv_gives, counted_gives, fetch_gives, optional_gives}
-
--- it has a value, or a code
-abbrev pub IsCoded : {A : Type 0} → Result A SpellFault → Type 0
-IsCoded r = Gives (λ x. Unit {0}) r
+use Rattle.hx_spell.proofs.ResultLemmas.{Gives, IsCoded, both, gives_also, tested_coded, then_coded, then_gives}
+use Rattle.hx_spell.proofs.TableFormLemmas.{IsPlainConv, conv_name_gives, fetch_gives, parameter_allowed}
 
 -- ---- references
 
-either_coded : {A : Type 0} (b : Bool) (x : A) (n : ℕ)
-    → IsCoded (cond b (Ok x) (Err (spell.Code n)))
-either_coded true x n = tt
-either_coded false x n = tt
-
 pub reference_coded : (form : ReferenceForm) (known : Known) → IsCoded (with_reference form known)
 reference_coded form known =
-    either_coded (nat_lt (length known.references) most_references) _ 23
+    tested_coded (nat_lt (length known.references) most_references) _ _ tt tt
 
 found_coded : (form : ReferenceForm) (known : Known) (place : Option ℕ)
     → IsCoded (file_or_new form known place)
 found_coded form known (Some place) =
-    either_coded (has_columns known place form.two_column) _ 17
+    tested_coded (has_columns known place form.two_column) _ _ tt tt
 found_coded form known None = reference_coded form known
 
 pub file_coded : (line : ℕ) (name : List ℕ) (two : Bool) (known : Known)
@@ -66,9 +58,7 @@ file_coded line name two known =
 pub named_file_coded : (line : ℕ) (name : List ℕ) (two : Bool) (known : Known)
     → IsCoded (with_named_file line name two known)
 named_file_coded line name two known =
-    then_gives (λ file. Unit {0}) (λ file. Unit {0}) (with_file line name two known)
-    (λ file. Ok (reading file.value (with_named file.value file.known)))
-    (file_coded line name two known) (λ file any. tt)
+    then_coded (with_file line name two known) _ (file_coded line name two known) (λ file. tt)
 
 -- ---- tables
 
@@ -109,21 +99,21 @@ each_map = each_passes (λ (way : MapWay). is_map_method way.by) map_table refl
 pub map_entry : (name : List ℕ) → IfSome (entry_at map_table name) IsMapWay
 map_entry name = entry_such IsMapWay map_table each_map name
 
-pub map_value_such : (out : Out) → ReadsSuch (IsReadableAs out) (value_of_map out)
-map_value_such output.Str text x is = tt
-map_value_such output.Int text x is =
-    let (n, read, same) = some_map (λ n. text) (int_of text) x is in
-    subst (λ (t : List ℕ). IsSome (int_of t)) same (rw read refl)
-map_value_such output.Ip text x is =
-    let (ip, read, same) = some_map (λ ip. text) (ip_of text) x is in
-    subst (λ (t : List ℕ). IsSome (ip_of t)) same (rw read refl)
+-- a default can be read as a value
+pub default_gives : (out : Out) (arg : Option (List ℕ))
+    → Gives (λ text. IfSome text (IsReadableAs out)) (optional (read_form (ValueOfMap out)) arg)
+default_gives out arg =
+    gives_also (λ text. WritesParameter (Optional (ValueOfMap out)) arg text)
+    (λ text. IfSome text (IsReadableAs out)) (given_of (Optional (ValueOfMap out)) arg)
+    (parameter_gives (Optional (ValueOfMap out)) arg)
+    (λ text writes. parameter_allowed (Optional (ValueOfMap out)) arg text writes)
 
 -- the converter that is read is such
 abbrev pub ReadsConv : Reading Conv → Type 0
 ReadsConv read = IsConv read.value
 
 map_file_coded : (line : ℕ) (name : Option (List ℕ)) (known : Known)
-    → IsCoded (ok_or name bad_argument >>= (λ name. with_named_file line name true known))
+    → IsCoded (required (λ name. with_named_file line name true known) name)
 map_file_coded line None known = tt
 map_file_coded line (Some name) known = named_file_coded line name true known
 
@@ -132,12 +122,11 @@ map_gives : (line : ℕ) (way : MapWay) → IsMapWay way → (args : List (List 
 map_gives line way such args known =
     counted_gives ReadsConv 1 2 args _
     (then_gives (λ file. Unit {0}) ReadsConv
-    (ok_or (slice_get args 0) bad_argument >>= (λ name. with_named_file line name true known)) _
+    (required (λ name. with_named_file line name true known) (slice_get args 0)) _
     (map_file_coded line (slice_get args 0) known)
     (λ file any. then_gives (λ v. IfSome v (IsReadableAs way.out)) ReadsConv
-    (optional (value_of_map way.out) bad_argument (slice_get args 1)) _
-    (optional_gives (IsReadableAs way.out) (value_of_map way.out) 10 (map_value_such way.out)
-    (slice_get args 1))
+    (optional (read_form (ValueOfMap way.out)) (slice_get args 1)) _
+    (default_gives way.out (slice_get args 1))
     (λ default readable. record { method = such; default = readable })))
 
 -- ---- converters
@@ -146,8 +135,9 @@ conv_by_gives : (line : ℕ) (way : Option MapWay) → IfSome way IsMapWay → (
     (known : Known) → Gives ReadsConv (conv_by line way call known)
 conv_by_gives line (Some way) such call known = map_gives line way such call.args known
 conv_by_gives line None such call known =
-    then_gives IsPlainConv ReadsConv (call_meaning conv_table call) (λ c. Ok (reading c known))
-    (conv_gives call) (λ c plain. plain.0)
+    then_gives IsPlainConv ReadsConv (conv_by_name (entry_at conv_names call.name) call.args)
+    (λ c. Ok (reading c known)) (conv_name_gives (entry_at conv_names call.name) call.args)
+    (λ c plain. plain.0)
 
 conv_call_gives : (line : ℕ) (call : CallForm) (known : Known)
     → Gives ReadsConv (conv_call line call known)
@@ -163,18 +153,21 @@ fault_gives P arg.BadEscape never = tt
 fault_gives P arg.OpenQuote never = tt
 fault_gives P arg.NoMemory never = never refl
 
-plain_fault_gives : {A B : Type 0} (P : B → Type 0) (found : Option (Maker A)) (fault : ArgFault)
-    (f : A → Result B SpellFault) → fault ≢ arg.NoMemory → Gives P (fault_of found fault >>= f)
-plain_fault_gives P None fault f never = tt
-plain_fault_gives P (Some make) fault f never = fault_gives P fault never
+pub call_fault_gives : {A N : Type 0} (P : A → Type 0) (name : Option N) (fault : ArgFault)
+    → fault ≢ arg.NoMemory → Gives P (Err (call_fault name fault))
+call_fault_gives P None fault never = tt
+call_fault_gives P (Some name) fault never = fault_gives P fault never
 
--- what is read of a fault is no value
-conv_fault_gives : (way : Option MapWay) (name : List ℕ) (fault : ArgFault)
-    → fault ≢ arg.NoMemory → Gives (λ c. ⊥) (conv_fault_by way name fault)
-conv_fault_gives (Some way) name fault never = fault_gives (λ (c : Reading Conv). ⊥) fault never
-conv_fault_gives None name fault never =
-    plain_fault_gives (λ c. ⊥) (entry_at conv_table name) fault
-    (λ c. Ok (reading c nothing_known)) never
+by_way_gives : {A : Type 0} (P : A → Type 0) (way : Option MapWay) (name : Option ConvName)
+    (fault : ArgFault) → fault ≢ arg.NoMemory
+    → Gives P (Err (option_map_or (λ w. form_fault fault) way (call_fault name fault)))
+by_way_gives P (Some way) name fault never = fault_gives P fault never
+by_way_gives P None name fault never = call_fault_gives P name fault never
+
+conv_fault_gives : {A : Type 0} (P : A → Type 0) (name : List ℕ) (fault : ArgFault)
+    → fault ≢ arg.NoMemory → Gives P (Err (conv_fault name fault))
+conv_fault_gives P name fault never =
+    by_way_gives P (entry_at map_table name) (entry_at conv_names name) fault never
 
 abbrev pub ReadsConvs : Reading (List Conv) → Type 0
 ReadsConvs read = AllByRecursion IsConv read.value
@@ -207,79 +200,56 @@ convs_give line (More call rest ∷ steps) known reading never =
     first_gives line steps (conv_call line call known) (conv_call_gives line call known)
     (λ k. convs_give line steps k reading (λ is. never (ap (λ r. longer_calls call r) is)))
 convs_give line (Faulty name fault ∷ steps) known reading never =
-    then_gives (λ c. ⊥) ReadsConvs (conv_fault_by (entry_at map_table name) name fault) _
-    (conv_fault_gives (entry_at map_table name) name fault (λ is. never (ap (λ f. Err f) is)))
-    (λ c no. absurd no)
+    conv_fault_gives ReadsConvs name fault (λ is. never (ap (λ f. Err f) is))
 
 -- ---- fetches
 
 abbrev pub TakesPatterns : By → Type 0
 TakesPatterns by = takes_patterns by ≡ true
 
-abbrev IsFetchWay : FetchWay → Type 0
-IsFetchWay way = MakesSuch IsFetch way.make × IfSome way.by TakesPatterns
-
 abbrev IsMethodFetch : MethodFetch → Type 0
 IsMethodFetch found = IsFetch found.fetch × IfSome found.by TakesPatterns
-
-named_such : (name : List ℕ) → MakesSuch IsFetch (made_of (entry_at fetch_table name))
-named_such name args = fetch_gives (record { name = name; args = args })
-
-each_derived : EachEntry (MakesSuch IsFetch) derived_fetches
-unfolding derived_fetches
-each_derived =
-    named_such (codes "base")
-    & named_such (codes "cook")
-    & named_such (codes "hdr")
-    & named_such (codes "path")
-    & named_such (codes "url")
-    & named_such (codes "urlp")
-    & tt
 
 each_method : EachEntry TakesPatterns derived_methods
 unfolding derived_methods
 each_method = each_passes takes_patterns derived_methods refl
 
-both_such : (make : Option (Maker Fetch)) (by : Option By) → IfSome make (MakesSuch IsFetch)
-    → IfSome by TakesPatterns
-    → IfSome (option_and_then (λ make. option_map (λ by. way_with (Some by) make) by) make) IsFetchWay
-both_such None by makes takes = tt
-both_such (Some make) None makes takes = tt
-both_such (Some make) (Some by) makes takes = (makes, takes)
+-- the method in a name takes patterns
+abbrev HasPatternMethod : FetchWay → Type 0
+HasPatternMethod way = IfSome way.by TakesPatterns
+
+both_such : (name : Option FetchName) (by : Option By) → IfSome by TakesPatterns
+    → IfSome (option_and_then (λ name. option_map (λ by. way_with (Some by) name) by) name)
+    HasPatternMethod
+both_such None by takes = tt
+both_such (Some name) None takes = tt
+both_such (Some name) (Some by) takes = takes
 
 parts_such : (parts : Option (List ℕ × List ℕ))
-    → IfSome (option_and_then derived_of_parts parts) IsFetchWay
+    → IfSome (option_and_then derived_of_parts parts) HasPatternMethod
 parts_such None = tt
 parts_such (Some parts) =
     both_such (entry_at derived_fetches parts.0) (entry_at derived_methods parts.1)
-    (entry_such (MakesSuch IsFetch) derived_fetches each_derived parts.0)
     (entry_such TakesPatterns derived_methods each_method parts.1)
 
-way_by : (name : List ℕ) (found : Option (Maker Fetch)) → found ≡ entry_at fetch_table name
+way_by : (name : List ℕ) (found : Option FetchName)
     → IfSome (option_or (option_map (way_with None) found)
-    (option_and_then derived_of_parts (cut_of (ascii "_") name))) IsFetchWay
-way_by name None is = parts_such (cut_of (ascii "_") name)
-way_by name (Some make) is = (
-  subst (λ (m : Option (Maker Fetch)). MakesSuch IsFetch (made_of m)) (sym is) (named_such name),
-  tt,
-)
+    (option_and_then derived_of_parts (cut_of (ascii "_") name))) HasPatternMethod
+way_by name None = parts_such (cut_of (ascii "_") name)
+way_by name (Some found) = tt
 
-way_such : (name : List ℕ) → IfSome (fetch_way name) IsFetchWay
-way_such name = way_by name (entry_at fetch_table name) refl
+way_such : (name : List ℕ) → IfSome (fetch_way name) HasPatternMethod
+way_such name = way_by name (entry_at fetch_names name)
 
-fetch_by_gives : (way : Option FetchWay) → IfSome way IsFetchWay → (args : List (List ℕ))
+fetch_by_gives : (way : Option FetchWay) → IfSome way HasPatternMethod → (args : List (List ℕ))
     → Gives IsMethodFetch (fetch_by way args)
 fetch_by_gives None such args = tt
 fetch_by_gives (Some way) such args =
-    then_gives IsFetch IsMethodFetch (way.make args) _ (such.0 args) (λ f fits. (fits, such.1))
+    then_gives IsFetch IsMethodFetch (fetch_made way.name args) _ (fetch_gives way.name args)
+    (λ f fits. (fits, such))
 
 named_gives : (call : CallForm) → Gives IsMethodFetch (fetch_by (fetch_way call.name) call.args)
 named_gives call = fetch_by_gives (fetch_way call.name) (way_such call.name) call.args
-
-fetch_fault_gives : (way : Option FetchWay) (fault : ArgFault) → fault ≢ arg.NoMemory
-    → Gives (λ found. ⊥) (fetch_fault_by way fault)
-fetch_fault_gives None fault never = tt
-fetch_fault_gives (Some way) fault never = fault_gives (λ (found : MethodFetch). ⊥) fault never
 
 -- ---- criteria
 
@@ -314,6 +284,4 @@ steps_give line (More call rest ∷ steps) known reading never =
     with_convs_give line steps known call
     (convs_give line steps known reading (λ is. never (ap (λ r. longer_calls call r) is)))
 steps_give line (Faulty name fault ∷ steps) known reading never =
-    then_gives (λ found. ⊥) ReadsCriterion (fetch_fault_by (fetch_way name) fault) _
-    (fetch_fault_gives (fetch_way name) fault (λ is. never (ap (λ f. Err f) is)))
-    (λ found no. absurd no)
+    call_fault_gives ReadsCriterion (fetch_way name) fault (λ is. never (ap (λ f. Err f) is))

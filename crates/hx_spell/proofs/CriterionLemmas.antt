@@ -1,12 +1,11 @@
 -- A text that writes a criterion is read as it, so it writes one at most; another is refused by a
 -- code.
-use Rattle.std.proofs.Common.{◌≡◌, ◌≢◌, ◌↔◌, ℕ, true, List, [], ◌∷◌, Option, None, Some, Ok, Err, refl, sym, ◌∙◌, ap}
+use Rattle.std.proofs.Common.{◌≡◌, ◌≢◌, ◌↔◌, ℕ, true, List, [], ◌∷◌, None, Ok, Err, refl, sym, ◌∙◌, ap}
 use Rattle.std.specs.Prelude.{Result, IfSome}
 use Rattle.hx_words.specs.CallForm.{CallForm}
 use Rattle.hx_words.specs.Calls.{Step, steps_of, calls_of_steps, longer_calls}
 use Rattle.hx_words.specs.Calls.Step.{Last, More, Faulty}
 use Rattle.hx_words.specs.Spelling.{SpellsCalls}
-use Rattle.hx_words.specs.declared.ArgFault.{ArgFault}
 use Rattle.hx_ast.specs.declared.Conv.{Conv}
 use Rattle.hx_ast.specs.Acls.{takes_patterns}
 use Rattle.hx_ast.specs.Convs.{IsExpr}
@@ -14,11 +13,10 @@ use Rattle.hx_spell.specs.declared.fault.SpellFault.{SpellFault}
 use Rattle.hx_spell.specs.declared.fault.SpellFault.TheVariants as spell
 use Rattle.hx_base.specs.Results.{◌>>=◌}
 use Rattle.hx_spell.specs.Codes.{unsupported}
-use Rattle.hx_spell.specs.Criteria.{Criterion, FetchWay, MapWay, MethodFetch, conv_call, conv_fault_by, convs_after, criterion, criterion_of, criterion_of_steps, fetch_by, fetch_fault_by, fetch_way, map_table}
-use Rattle.hx_spell.specs.Expressions.{fault_of}
-use Rattle.hx_spell.specs.Known.{Known, Reading, nothing_known, reading}
+use Rattle.hx_spell.specs.Criteria.{Criterion, MethodFetch, conv_call, convs_after, criterion, criterion_of, criterion_of_steps, fetch_by, fetch_way}
+use Rattle.hx_spell.specs.Known.{Known, Reading}
 use Rattle.hx_spell.specs.ExpressionRelation.{WriteConvs, WritesCriterion}
-use Rattle.hx_spell.specs.Tables.{Maker, conv_table, entry_at}
+use Rattle.hx_spell.proofs.CallMeaningLemmas.{conv_read, conv_writes, method_fetch_read, method_fetch_writes}
 use Rattle.hx_spell.proofs.CallTextLemmas.{AreOf, IsReading, is_reading, longer_is, read_as, same_calls, spelled_steps, steps_never_lack, steps_spelled}
 use Rattle.hx_spell.proofs.CriterionFormLemmas.{ReadsCriterion, steps_give, with_first}
 use Rattle.hx_spell.proofs.ResultLemmas.{Gives, and_then_ok, given_value, never_without_memory, then_ok}
@@ -58,17 +56,6 @@ convs_by_calls line (More call left ∷ steps) calls rest known reading is =
 convs_by_calls line (Faulty name fault ∷ steps) calls rest known reading is =
     absurd (let no : ⊥ = cc in no)
 
-no_fault : {A B : Type 0} (found : Option (Maker A)) (fault : ArgFault)
-    (f : A → Result B SpellFault) (y : B) → (fault_of found fault >>= f) ≡ Ok y → ⊥
-no_fault None fault f y is = cc
-no_fault (Some make) fault f y is = cc
-
-no_conv : (way : Option MapWay) (name : List ℕ) (fault : ArgFault) (x : Reading Conv)
-    → conv_fault_by way name fault ≡ Ok x → ⊥
-no_conv (Some way) name fault x is = cc
-no_conv None name fault x is =
-    no_fault (entry_at conv_table name) fault (λ c. Ok (reading c nothing_known)) x is
-
 -- the steps are of calls
 abbrev pub Called : List Step → Type 0
 Called steps = (calls : List CallForm) × AreOf calls steps
@@ -90,11 +77,7 @@ convs_called line (More call rest ∷ steps) known convs is =
     let (others, read, whole) =
     and_then_ok (convs_after line steps first.known) (with_first first) convs after in
     longer_called call rest steps (convs_called line steps first.known others read)
-convs_called line (Faulty name fault ∷ steps) known convs is =
-    let (first, made, after) =
-    and_then_ok (conv_fault_by (entry_at map_table name) name fault)
-    (λ first. convs_after line steps first.known >>= with_first first) convs is in
-    absurd (no_conv (entry_at map_table name) name fault first made)
+convs_called line (Faulty name fault ∷ steps) known convs is = absurd (let no : ⊥ = cc in no)
 
 pub convs_written : (line : ℕ) (calls : List CallForm) (known : Known) (convs : Reading (List Conv))
     → convs_of_calls line calls known ≡ Ok convs → WriteConvs line known calls convs
@@ -104,15 +87,21 @@ convs_written line (call ∷ calls) known convs is =
     and_then_ok (conv_call line call known)
     (λ first. convs_of_calls line calls first.known >>= with_first first) convs is in
     let (others, read, whole) =
-    and_then_ok (convs_of_calls line calls first.known) (with_first first) convs after in
-    (first, others, cc, made, convs_written line calls first.known others read)
+    and_then_ok (convs_of_calls line calls first.known) (with_first first) convs after in (
+      first,
+      others,
+      cc,
+      conv_writes line call known first made,
+      convs_written line calls first.known others read,
+    )
 
 pub convs_read : (line : ℕ) (calls : List CallForm) (known : Known) (convs : Reading (List Conv))
     → WriteConvs line known calls convs → convs_of_calls line calls known ≡ Ok convs
 convs_read line [] known convs is = ap (λ c. Ok c) (sym is)
-convs_read line (call ∷ calls) known convs (first, others, is, made, write) =
+convs_read line (call ∷ calls) known convs (first, others, is, writes, write) =
     then_ok (conv_call line call known)
-    (λ first. convs_of_calls line calls first.known >>= with_first first) first convs made
+    (λ first. convs_of_calls line calls first.known >>= with_first first) first convs
+    (conv_read line call known first writes)
     (then_ok (convs_of_calls line calls first.known) (with_first first) others convs
     (convs_read line calls first.known others write) (ap (λ c. Ok c) (sym is)))
 
@@ -145,11 +134,6 @@ criterion_by_calls line (More call left ∷ steps) calls rest known reading is =
 criterion_by_calls line (Faulty name fault ∷ steps) calls rest known reading is =
     absurd (let no : ⊥ = cc in no)
 
-no_fetch : (way : Option FetchWay) (fault : ArgFault) (x : MethodFetch)
-    → fetch_fault_by way fault ≡ Ok x → ⊥
-no_fetch None fault x is = cc
-no_fetch (Some way) fault x is = cc
-
 criterion_called : (line : ℕ) (steps : List Step) (known : Known) (read : Reading Criterion)
     → criterion_of_steps line steps known ≡ Ok read → Called steps
 criterion_called line [] known read is = ([], ([], refl))
@@ -161,11 +145,7 @@ criterion_called line (More call rest ∷ steps) known read is =
     let (convs, converted, whole) =
     and_then_ok (convs_after line steps known) (λ c. Ok (criterion first c)) read after in
     longer_called call rest steps (convs_called line steps known convs converted)
-criterion_called line (Faulty name fault ∷ steps) known read is =
-    let (first, fetched, after) =
-    and_then_ok (fetch_fault_by (fetch_way name) fault)
-    (with_convs (convs_after line steps known)) read is in
-    absurd (no_fetch (fetch_way name) fault first fetched)
+criterion_called line (Faulty name fault ∷ steps) known read is = absurd (let no : ⊥ = cc in no)
 
 criterion_of_whole : (line : ℕ) (text : List ℕ) (known : Known) (calls : List CallForm)
     → AreOf calls (steps_of None text)
@@ -189,7 +169,7 @@ written line text before (first ∷ others) read spelled is =
       others = others;
       spelled = spelled;
       fetch = fetch;
-      fetched = fetched;
+      fetched = method_fetch_writes first fetch fetched;
       convs = convs;
       converted = convs_written line others before convs converted;
       is = cc;
@@ -214,7 +194,8 @@ criterion_read line text before read w =
     criterion_of_whole line text before (w.first ∷ w.others)
     (spelled_steps text (w.first ∷ w.others) w.spelled)
     ∙ then_ok (fetch_by (fetch_way w.first.name) w.first.args)
-    (with_convs (convs_of_calls line w.others before)) w.fetch read w.fetched
+    (with_convs (convs_of_calls line w.others before)) w.fetch read
+    (method_fetch_read w.first w.fetch w.fetched)
     (then_ok (convs_of_calls line w.others before) (λ c. Ok (criterion w.fetch c)) w.convs read
     (convs_read line w.others before w.convs w.converted) (ap (λ c. Ok c) (sym w.is)))
 

@@ -8,10 +8,9 @@ use Rattle.hx_words.specs.declared.ArgFault.{ArgFault}
 use Rattle.hx_ast.specs.declared.Conv.{Conv}
 use Rattle.hx_spell.specs.declared.fault.SpellFault.{SpellFault}
 use Rattle.hx_base.specs.Results.{◌>>=◌}
-use Rattle.hx_spell.specs.Criteria.{conv_call, conv_fault_by, convs_after, criterion_of, criterion_of_steps, expr_of, expr_of_steps, map_table}
+use Rattle.hx_spell.specs.Criteria.{conv_call, conv_fault, convs_after, criterion_of, criterion_of_steps, expr_of, expr_of_steps}
 use Rattle.hx_spell.specs.Formats.{rest_after}
 use Rattle.hx_spell.specs.Known.{Known, Reading}
-use Rattle.hx_spell.specs.Tables.{entry_at}
 use Rattle.hx_spell.proofs.KnownLemmas.{extends_refl, extends_trans}
 
 -- these converters, and those that are read after them
@@ -83,7 +82,7 @@ refused_last line before stop text known call rest fault is repeats wrong =
 pub faulty_convs : (line : ℕ) (before : List Conv) (stop : Option ℕ) (text : List ℕ)
     (known : Known) (name : List ℕ) (cause : ArgFault) (fault : SpellFault)
     → Faulty name cause ≡ step_of stop text → Repeats stop text
-    → conv_fault_by (entry_at map_table name) name cause ≡ Err fault
+    → fault ≡ conv_fault name cause
     → longer_reading before (convs_after line (steps_of stop text) known) ≡ Err fault
 faulty_convs line before stop text known name cause fault is repeats wrong =
     rw (from_step stop text (Faulty name cause) is repeats, wrong) refl

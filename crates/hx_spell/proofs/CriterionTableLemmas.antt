@@ -3,11 +3,9 @@ use Rattle.std.proofs.Common.{◌≡◌, ℕ, List, map, sym, ap, ◌∙◌, Opt
 use Rattle.std.specs.Prelude.{option_map}
 use Rattle.hx_text.specs.declared.By.{By}
 use Rattle.hx_text.specs.declared.Out.{Out}
-use Rattle.hx_spell.specs.declared.derived_table.TheConstants.{DERIVED_FETCHES}
 use Rattle.hx_spell.specs.declared.map_table.TheConstants.{MAPS}
-use Rattle.hx_spell.specs.Criteria.{MapWay, derived_fetches, map_table, map_way}
-use Rattle.hx_spell.specs.TableView.{fetch_maker}
-use Rattle.hx_spell.specs.Tables.{entry_at, fetch_table}
+use Rattle.hx_spell.specs.Criteria.{MapWay, map_table, map_way}
+use Rattle.hx_spell.specs.Tables.{entry_at}
 use Rattle.hx_spell.proofs.TableLemmas.{entry_at_map}
 
 abbrev way_of_row : By × Out → MapWay
@@ -24,9 +22,3 @@ pub map_found : (name : List ℕ) (found : Option (By × Out))
     → found ≡ entry_at (map (λ row. (row.0.now, row.1)) MAPS) name
     → option_map way_of_row found ≡ entry_at map_table name
 map_found name found is = ap (λ f. option_map way_of_row f) is ∙ sym (map_row name)
-
-pub derived_row : (name : List ℕ)
-    → entry_at derived_fetches name
-    ≡ option_map fetch_maker (entry_at (map (λ row. (row.0.now, row.1)) DERIVED_FETCHES) name)
-unfolding derived_fetches fetch_table
-derived_row name = entry_at_map fetch_maker (map (λ row. (row.0.now, row.1)) DERIVED_FETCHES) name

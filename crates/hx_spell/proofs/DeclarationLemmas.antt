@@ -27,7 +27,7 @@ use Rattle.hx_spell.specs.Tables.{entry_at}
 use Rattle.hx_spell.proofs.CriterionFormLemmas.{named_file_coded, reference_coded}
 use Rattle.hx_spell.proofs.CriterionLemmas.{criterion_coded, criterion_is_expr, criterion_law}
 use Rattle.hx_spell.proofs.FlagLemmas.{after_flags, flags_law}
-use Rattle.hx_spell.proofs.ResultLemmas.{Gives, and_then_ok, both, given_value, never_without_memory, then_gives, then_ok}
+use Rattle.hx_spell.proofs.ResultLemmas.{Gives, IsCoded, and_then_ok, both, found_coded, given_value, never_without_memory, tested_coded, then_coded, then_gives, then_ok}
 
 -- ---- the steps of reading an ACL
 
@@ -124,28 +124,12 @@ decl_law line text words before read =
 
 -- ---- a value, or a code
 
-abbrev IsCoded : {A : Type 0} → Result A SpellFault → Type 0
-IsCoded r = Gives (λ x. Unit {0}) r
-
-then_coded : {A B : Type 0} (r : Result A SpellFault) (f : A → Result B SpellFault)
-    → IsCoded r → ((x : A) → IsCoded (f x)) → IsCoded (r >>= f)
-then_coded r f coded after = then_gives (λ x. Unit {0}) (λ x. Unit {0}) r f coded (λ x any. after x)
-
 tested_gives : {A : Type 0} (P : A → Type 0) (b : Bool) (r s : Result A SpellFault)
     → (b ≡ true → Gives P r) → (b ≡ false → Gives P s) → Gives P (cond b r s)
 tested_gives P true r s first second = first refl
 tested_gives P false r s first second = second refl
 
-found_coded : {A : Type 0} (o : Option A) (n : ℕ) → IsCoded (ok_or o (spell.Code n))
-found_coded None n = tt
-found_coded (Some x) n = tt
-
 -- ---- flags
-
-coded_tested : {A : Type 0} (b : Bool) (r s : Result A SpellFault)
-    → IsCoded r → IsCoded s → IsCoded (cond b r s)
-coded_tested {A} b r s first second =
-    tested_gives (λ (x : A). Unit {0}) b r s (λ yes. first) (λ no. second)
 
 argument_coded : (line : ℕ) (flag : Flag) (text : List ℕ) (flags : Flags) (known : Known)
     → IsCoded (flag_argument line flag text flags known)
@@ -173,17 +157,17 @@ word_coded further (Some TwoColumns) word words flags known coded =
     coded None (record flags { two = true })
 word_coded further (Some Numeric) word words flags known coded = coded None flags
 word_coded further (Some File) word words flags known coded =
-    coded_tested (may_stand File flags) (further (Some File) flags) (Err bad_argument)
+    tested_coded (may_stand File flags) (further (Some File) flags) (Err bad_argument)
     (coded (Some File) flags) tt
 word_coded further (Some Method) word words flags known coded =
-    coded_tested (may_stand Method flags) (further (Some Method) flags) (Err bad_argument)
+    tested_coded (may_stand Method flags) (further (Some Method) flags) (Err bad_argument)
     (coded (Some Method) flags) tt
 word_coded further (Some Number) word words flags known coded =
-    coded_tested (may_stand Number flags) (further (Some Number) flags) (Err bad_argument)
+    tested_coded (may_stand Number flags) (further (Some Number) flags) (Err bad_argument)
     (coded (Some Number) flags) tt
 word_coded further (Some End) word words flags known coded = tt
 word_coded further None word words flags known coded =
-    coded_tested (begins_as_flag word) (Err unsupported) (flags_end flags (word ∷ words) known) tt tt
+    tested_coded (begins_as_flag word) (Err unsupported) (flags_end flags (word ∷ words) known) tt tt
 
 flags_coded : (line : ℕ) (awaits : Option Flag) (words : List (List ℕ)) (flags : Flags)
     (known : Known) → IsCoded (flags_from line awaits words flags known)
@@ -260,7 +244,7 @@ heads_coded : (line : ℕ) (way : Way) (flags : Flags) (keys : List (List ℕ))
     → IsCoded (heads_of_keys line way flags keys fault files)
 heads_coded line way flags [] fault files coded =
     fault_coded fault (if is_some flags.given then Err bad_argument else Ok files) coded
-    (coded_tested (is_some flags.given) (Err bad_argument) (Ok files) tt tt)
+    (tested_coded (is_some flags.given) (Err bad_argument) (Ok files) tt tt)
 heads_coded line way flags (key ∷ keys) fault files coded =
     let form = reference_form None flags.given false line (key ∷ keys) in
     then_coded (with_reference form files.known)

@@ -1,11 +1,10 @@
 -- A text that writes an expression is read as it, up to its stop byte, and what follows is left.
-use Rattle.std.proofs.Common.{◌≡◌, ◌↔◌, ℕ, List, [], ◌∷◌, ◌++◌, Option, None, Some, Ok, Err, refl, sym, ◌∙◌, ap, subst, append-nil}
+use Rattle.std.proofs.Common.{◌≡◌, ◌↔◌, ℕ, List, [], ◌∷◌, ◌++◌, Option, None, Ok, Err, refl, sym, ◌∙◌, ap, subst, append-nil}
 use Rattle.std.specs.Prelude.{Result}
 use Rattle.hx_words.specs.CallForm.{CallForm}
 use Rattle.hx_words.specs.Calls.{Step, steps_of, calls_of_steps}
 use Rattle.hx_words.specs.Calls.Step.{Last, More, Faulty}
 use Rattle.hx_words.specs.Spelling.{SpellsCalls}
-use Rattle.hx_words.specs.declared.ArgFault.{ArgFault}
 use Rattle.hx_ast.specs.declared.Conv.{Conv}
 use Rattle.hx_ast.specs.declared.Expr.{Expr}
 use Rattle.hx_ast.specs.declared.Fetch.{Fetch}
@@ -13,11 +12,11 @@ use Rattle.hx_spell.specs.declared.fault.SpellFault.{SpellFault}
 use Rattle.hx_base.specs.Results.{◌>>=◌}
 use Rattle.hx_spell.specs.Codes.{unsupported}
 use Rattle.hx_spell.specs.Criteria.{convs_after, expr_of, expr_of_steps, expr_reading}
-use Rattle.hx_spell.specs.Expressions.{call_meaning, fault_of}
+use Rattle.hx_spell.specs.Expressions.{fetch_call}
 use Rattle.hx_spell.specs.ExpressionRelation.{WritesExpr}
 use Rattle.hx_spell.specs.Formats.{rest_after}
 use Rattle.hx_spell.specs.Known.{Known, Reading}
-use Rattle.hx_spell.specs.Tables.{Maker, entry_at, fetch_table}
+use Rattle.hx_spell.proofs.CallMeaningLemmas.{fetch_read, fetch_writes}
 use Rattle.hx_spell.proofs.CallTextLemmas.{IsReading, is_reading, longer_is, read_as, read_spelled, same_calls, same_rest, spelled_read}
 use Rattle.hx_spell.proofs.CriterionLemmas.{Called, convs_by_calls, convs_called, convs_of_calls, convs_read, convs_written, longer_called}
 use Rattle.hx_spell.proofs.ResultLemmas.{and_then_ok, then_ok}
@@ -31,7 +30,7 @@ with_convs convs fetch = convs >>= (λ c. Ok (expr_reading fetch c))
 abbrev expr_of_calls : ℕ → List CallForm → Known → Result (Reading Expr) SpellFault
 expr_of_calls line [] known = Err unsupported
 expr_of_calls line (call ∷ calls) known =
-    call_meaning fetch_table call >>= with_convs (convs_of_calls line calls known)
+    fetch_call call >>= with_convs (convs_of_calls line calls known)
 
 expr_by_calls : (line : ℕ) (steps : List Step) (calls : List CallForm) (rest : List ℕ)
     (known : Known) → IsReading steps → calls_of_steps steps ≡ read_as calls rest
@@ -39,11 +38,11 @@ expr_by_calls : (line : ℕ) (steps : List Step) (calls : List CallForm) (rest :
 expr_by_calls line [] calls rest known reading is =
     ap (λ c. expr_of_calls line c known) (same_calls [] calls [] rest is)
 expr_by_calls line (Last call left ∷ steps) calls rest known reading is =
-    ap (λ s. call_meaning fetch_table call >>= with_convs (convs_after line s known)) reading
+    ap (λ s. fetch_call call >>= with_convs (convs_after line s known)) reading
     ∙ ap (λ c. expr_of_calls line c known) (same_calls (call ∷ []) calls left rest is)
 expr_by_calls line (More call left ∷ steps) calls rest known reading is =
     let (more, found, all) = longer_is call (calls_of_steps steps) calls rest is in
-    ap (λ r. call_meaning fetch_table call >>= with_convs r)
+    ap (λ r. fetch_call call >>= with_convs r)
     (convs_by_calls line steps more rest known reading found)
     ∙ ap (λ c. expr_of_calls line c known) all
 expr_by_calls line (Faulty name fault ∷ steps) calls rest known reading is =
@@ -69,27 +68,18 @@ rest_is (Faulty name fault ∷ steps) calls rest is = absurd (let no : ⊥ = cc 
 
 -- ---- an expression that is read is written
 
-no_fetch : (make : Option (Maker Fetch)) (fault : ArgFault) (x : Fetch)
-    → fault_of make fault ≡ Ok x → ⊥
-no_fetch None fault x is = cc
-no_fetch (Some make) fault x is = cc
-
 steps_called : (line : ℕ) (steps : List Step) (known : Known) (read : Reading Expr)
     → expr_of_steps line steps known ≡ Ok read → Called steps
 steps_called line [] known read is = ([], ([], refl))
 steps_called line (Last call rest ∷ steps) known read is = (call ∷ [], (rest, refl))
 steps_called line (More call rest ∷ steps) known read is =
     let (fetch, fetched, after) =
-    and_then_ok (call_meaning fetch_table call) (with_convs (convs_after line steps known)) read
+    and_then_ok (fetch_call call) (with_convs (convs_after line steps known)) read
     is in
     let (convs, converted, whole) =
     and_then_ok (convs_after line steps known) (λ c. Ok (expr_reading fetch c)) read after in
     longer_called call rest steps (convs_called line steps known convs converted)
-steps_called line (Faulty name fault ∷ steps) known read is =
-    let (fetch, fetched, after) =
-    and_then_ok (fault_of (entry_at fetch_table name) fault)
-    (with_convs (convs_after line steps known)) read is in
-    absurd (no_fetch (entry_at fetch_table name) fault fetch fetched)
+steps_called line (Faulty name fault ∷ steps) known read is = absurd (let no : ⊥ = cc in no)
 
 text_called : (stop : Option ℕ) (line : ℕ) (text : List ℕ) (before : Known) (read : Reading Expr)
     → expr_of stop line text before ≡ Ok read → Called (steps_of stop text)
@@ -102,7 +92,7 @@ written : (stop : Option ℕ) (line : ℕ) (text : List ℕ) (before : Known) (c
 written stop line text before [] read spelled is = absurd (let no : ⊥ = cc in no)
 written stop line text before (first ∷ others) read spelled is =
     let (fetch, fetched, after) =
-    and_then_ok (call_meaning fetch_table first) (with_convs (convs_of_calls line others before))
+    and_then_ok (fetch_call first) (with_convs (convs_of_calls line others before))
     read is in
     let (convs, converted, whole) =
     and_then_ok (convs_of_calls line others before) (λ c. Ok (expr_reading fetch c)) read after in
@@ -111,7 +101,7 @@ written stop line text before (first ∷ others) read spelled is =
       others = others;
       spelled = spelled;
       fetch = fetch;
-      fetched = fetched;
+      fetched = fetch_writes first fetch fetched;
       convs = convs;
       converted = convs_written line others before convs converted;
       is = cc;
@@ -146,8 +136,9 @@ calls_read : (stop : Option ℕ) (line : ℕ) (before : Known) (text : List ℕ)
     (w : WritesExpr stop line before text read)
     → expr_of_calls line (w.first ∷ w.others) before ≡ Ok read
 calls_read stop line before text read w =
-    then_ok (call_meaning fetch_table w.first)
-    (with_convs (convs_of_calls line w.others before)) w.fetch read w.fetched
+    then_ok (fetch_call w.first)
+    (with_convs (convs_of_calls line w.others before)) w.fetch read
+    (fetch_read w.first w.fetch w.fetched)
     (then_ok (convs_of_calls line w.others before) (λ c. Ok (expr_reading w.fetch c)) w.convs read
     (convs_read line w.others before w.convs w.converted) (ap (λ c. Ok c) (sym w.is)))
 

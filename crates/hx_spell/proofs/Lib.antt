@@ -1,9 +1,11 @@
-pub mod ActionFormLemmas
+pub mod ActionCodeLemmas
 pub mod ActionHeadLemmas
 pub mod ActionReadLemmas
 pub mod ActionSpellLemmas
 pub mod ActionSteps
 pub mod ActionTableLemmas
+pub mod ArgumentLemmas
+pub mod CallMeaningLemmas
 pub mod CallTextLemmas
 pub mod ConditionLemmas
 pub mod ConditionReadLemmas
@@ -16,12 +18,11 @@ pub mod CriterionSteps
 pub mod CriterionTableLemmas
 pub mod DeclarationLemmas
 pub mod DistinctLemmas
-pub mod ExpressionFormLemmas
+pub mod ExpressionCodeLemmas
 pub mod ExpressionLemmas
 pub mod FlagLemmas
 pub mod FlagTableLemmas
 pub mod FormLemmas
-pub mod FormatFormLemmas
 pub mod FormatReadLemmas
 pub mod FormatSpellLemmas
 pub mod FormatSteps

@@ -32,8 +32,7 @@ use Rattle.hx_spell.proofs.DeclarationLemmas.{decl_law}
 use Rattle.hx_spell.proofs.LineReadLemmas.{SpellHttpRequest, SpellRedirectLine, polarity_text}
 use Rattle.hx_spell.proofs.LineSteps.{backend_when, made, rule_when}
 use Rattle.hx_spell.proofs.ResultLemmas.{and_then_ok, ok_or_is}
-use Rattle.hx_spell.proofs.RowLemmas.{EachRow, found_row}
-use Rattle.hx_spell.proofs.TableFormLemmas.{◌&◌}
+use Rattle.hx_spell.proofs.RowLemmas.{◌&◌, EachRow, found_row}
 
 -- ---- rows of tables
 

@@ -1,5 +1,5 @@
 -- Steps of a reading that comes to a value.
-use Rattle.std.proofs.Common.{◌≡◌, ◌&&◌, Bool, true, false, Option, None, Some, Ok, Err, refl, ◌∙◌, ap, subst}
+use Rattle.std.proofs.Common.{◌≡◌, ◌&&◌, ℕ, Bool, cond, List, true, false, Option, None, Some, Ok, Err, refl, ◌∙◌, ap, subst}
 use Rattle.std.specs.Prelude.{◌≢◌, Result, option_and_then, option_map}
 use Rattle.std.specs.Option.{ok_or}
 use Rattle.std.proofs.lemmas.Option.{none-some, same_Some}
@@ -66,3 +66,30 @@ pub never_without_memory : {A : Type 0} (P : A → Type 0) (r : Result A SpellFa
 never_without_memory P (Ok x) such is = cc
 never_without_memory P (Err (spell.Code n)) such is = cc
 never_without_memory P (Err spell.NoMemory) such is = such
+
+-- ---- codes alone
+
+-- it has a value, or a code
+abbrev pub IsCoded : {A : Type 0} → Result A SpellFault → Type 0
+IsCoded r = Gives (λ x. Unit {0}) r
+
+pub then_coded : {A B : Type 0} (r : Result A SpellFault) (f : A → Result B SpellFault)
+    → IsCoded r → ((x : A) → IsCoded (f x)) → IsCoded (r >>= f)
+then_coded r f first later =
+    then_gives (λ x. Unit {0}) (λ y. Unit {0}) r f first (λ x any. later x)
+
+pub gives_coded : {A : Type 0} (P : A → Type 0) (r : Result A SpellFault) → Gives P r → IsCoded r
+gives_coded P r such = gives_also P (λ x. Unit {0}) r such (λ x is. tt)
+
+pub found_coded : {A : Type 0} (found : Option A) (n : ℕ) → IsCoded (ok_or found (spell.Code n))
+found_coded None n = tt
+found_coded (Some x) n = tt
+
+pub tested_coded : {A : Type 0} (b : Bool) (r s : Result A SpellFault) → IsCoded r → IsCoded s
+    → IsCoded (cond b r s)
+tested_coded true r s first second = first
+tested_coded false r s first second = second
+
+-- what is read of a text is such
+abbrev pub ReadsSuch : {A : Type 0} → (A → Type 0) → (List ℕ → Option A) → Type 0
+ReadsSuch {A} P read = (text : List ℕ) (x : A) → read text ≡ Some x → P x

@@ -5,6 +5,11 @@ use Rattle.std.specs.Str.{bytes_eq}
 use Rattle.hx_spell.specs.Tables.{Table, entry_at}
 use Rattle.hx_spell.proofs.ConditionWordLemmas.{same_bytes}
 
+-- the first of several facts, and the others
+infixr 4 ◌&◌
+pub ◌&◌ : {A B : Type 0} → A → B → A × B
+first & rest = (first, rest)
+
 abbrev pub EachRow : {A : Type 0} → (List ℕ → A → Type 0) → Table A → Type 0
 EachRow P [] = Unit {0}
 EachRow P (row ∷ rows) = P row.0 row.1 × EachRow P rows

@@ -22,21 +22,21 @@ use Rattle.hx_spell.specs.declared.fault.SpellFault.{SpellFault}
 use Rattle.hx_spell.specs.Actions.{ActionHead, AddAcl, AddHeader, Allow, Bare, BareAction, DelAcl, DelHeader, DelMap, Deny, FileAction, HeadMaker, OfFile, OfVariable, Redirect, ReplaceHeader, ReplaceValue, Set, SetHeader, SetMap, SetMethod, SetPath, SetQuery, SetUri, StrictMode, Taken, Unset, VariableAction}
 use Rattle.hx_spell.specs.Actions.{WordsReader, action_table, action_words, bare_head, bare_words, changes_map, expr_word, file_head, file_words, first_word, format_word, given_file, head_by, head_fault_by, head_of_step, header_word, is_status_word, kind_table, kind_word, optional_word, plain_word, redirect_status_of, status_of, switch_table, text_word, variable_head, variable_words, with_format, with_header_format, with_redirect, with_replacement, with_status, with_two_formats, word_and_value}
 use Rattle.hx_base.specs.Results.{◌>>=◌}
-use Rattle.hx_spell.specs.Arguments.{counted, is_count, required, single}
+use Rattle.hx_spell.specs.Arguments.{counted, is_count, read_form, required, single}
 use Rattle.hx_spell.specs.Codes.{bad_argument, bad_name}
 use Rattle.hx_spell.specs.Criteria.{expr_of}
 use Rattle.hx_spell.specs.Formats.{format_of}
 use Rattle.hx_spell.specs.Heads.{ActionNames}
+use Rattle.hx_spell.specs.Forms.Form.{Variable}
 use Rattle.hx_spell.specs.Known.{Known, Reading}
 use Rattle.hx_spell.specs.Sound.{IsReference}
 use Rattle.hx_spell.specs.Tables.{Table, entry_at}
 use Rattle.hx_spell.specs.Values.{header_of, variable_name_of}
 use Rattle.hx_spell.proofs.FormLemmas.{header_such, variable_such, width_within}
 use Rattle.hx_spell.proofs.HeadLemmas.{action_later}
-use Rattle.hx_spell.proofs.ResultLemmas.{ok_or_is, some_and_then, some_map}
+use Rattle.hx_spell.proofs.ResultLemmas.{ReadsSuch, ok_or_is, some_and_then, some_map}
 use Rattle.hx_spell.proofs.SoundExprLemmas.{IsKnownExpr, IsKnownFormat, expr_brings, format_brings, format_stays}
 use Rattle.hx_spell.proofs.SoundLemmas.{Brings, Grown, either_brings, file_brings, grown_refl, grown_trans, step_brings, tested_brings, then_brings, weaker_brings}
-use Rattle.hx_spell.proofs.TableFormLemmas.{◌&◌, ReadsSuch}
 
 -- an action of the syntax, which names heads and references that are known
 abbrev pub IsKnownAction : Known → Action → Type 0
@@ -74,21 +74,21 @@ counted_read true r x is = is
 counted_read false r x is = absurd (let no : ⊥ = cc in no)
 
 required_variable : (given : Option (List ℕ)) (v : VarName)
-    → required variable_name_of bad_name given ≡ Ok v → IsVariable v
+    → required (read_form Variable) given ≡ Ok v → IsVariable v
 required_variable None v is = absurd (let no : ⊥ = cc in no)
 required_variable (Some text) v is =
     variable_such text v (ok_or_is (variable_name_of text) bad_name v is)
 
 single_variable : (args : List (List ℕ)) (v : VarName)
-    → single variable_name_of bad_name args ≡ Ok v → IsVariable v
+    → single (read_form Variable) args ≡ Ok v → IsVariable v
 single_variable args v is =
     let first = slice_get args 0 in
     required_variable first v
-    (counted_read (is_count 1 1 (length args)) (required variable_name_of bad_name first) v is)
+    (counted_read (is_count 1 1 (length args)) (required (read_form Variable) first) v is)
 
 variable_makes : (name : VariableAction) → MakesKnown (variable_head name)
 variable_makes name line args known =
-    step_brings IsKnownName known (single variable_name_of bad_name args) _
+    step_brings IsKnownName known (single (read_form Variable) args) _
     (λ variable is. (grown_refl known, single_variable args variable is))
 
 given_brings : (line : ℕ) (two : Bool) (name : Option (List ℕ)) (known : Known)
@@ -110,27 +110,7 @@ EachMakes (row ∷ rows) = MakesKnown row.1 × EachMakes rows
 
 each_makes : EachMakes action_table
 unfolding action_table
-each_makes =
-    bare_makes Allow
-    & bare_makes Deny
-    & bare_makes SetHeader
-    & bare_makes AddHeader
-    & bare_makes DelHeader
-    & bare_makes ReplaceHeader
-    & bare_makes ReplaceValue
-    & bare_makes SetMethod
-    & bare_makes SetUri
-    & bare_makes SetPath
-    & bare_makes SetQuery
-    & variable_makes Set
-    & variable_makes Unset
-    & file_makes AddAcl
-    & file_makes DelAcl
-    & file_makes DelMap
-    & file_makes SetMap
-    & bare_makes Redirect
-    & bare_makes StrictMode
-    & tt
+each_makes = search (bare_makes, variable_makes, file_makes)
 
 first_or_later : (b : Bool) (make : HeadMaker) (later : Option HeadMaker) → MakesKnown make
     → IfSome later MakesKnown → IfSome (cond b (Some make) later) MakesKnown

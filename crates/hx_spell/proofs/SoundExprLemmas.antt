@@ -26,23 +26,24 @@ use Rattle.hx_spell.specs.declared.fault.SpellFault.{SpellFault}
 use Rattle.hx_spell.specs.declared.table_specs.HeadSpec.{HeadSpec}
 use Rattle.hx_spell.specs.declared.table_specs.MapOutput.{MapOutput}
 use Rattle.hx_base.specs.Results.{◌>>=◌}
-use Rattle.hx_spell.specs.Arguments.{is_count, optional}
+use Rattle.hx_spell.specs.Arguments.{is_count, optional, read_form, required}
 use Rattle.hx_spell.specs.Codes.{bad_argument, bad_format}
-use Rattle.hx_spell.specs.Criteria.{Criterion, MapWay, conv_by, conv_call, conv_fault_by, conv_step, convs_after, criterion_of, criterion_of_steps, expr_fetch, expr_of, expr_of_steps, fetch_step, map_arguments, map_head, map_table, value_of_map}
-use Rattle.hx_spell.specs.Expressions.{call_meaning, fault_of}
+use Rattle.hx_spell.specs.Criteria.{Criterion, MapWay, conv_by, conv_call, conv_step, convs_after, criterion_of, criterion_of_steps, expr_fetch, expr_of, expr_of_steps, fetch_step, map_arguments, map_head, map_table}
+use Rattle.hx_spell.specs.Expressions.{conv_by_name, fetch_call}
+use Rattle.hx_spell.specs.Forms.Form.{ValueOfMap}
 use Rattle.hx_spell.specs.ExpressionRelation.{WritesCriterion}
 use Rattle.hx_base.specs.Bytes.{ascii}
 use Rattle.hx_spell.specs.Formats.{FormatReader, after_percent, byte_before, format_of, format_within, rest_after, value_part, with_byte}
 use Rattle.hx_spell.specs.Heads.{ExprNames, FormatNames, NamesHead, PartNames}
 use Rattle.hx_spell.specs.Known.{Known, Reading, nothing_known, reading, with_named_file, with_output}
 use Rattle.hx_spell.specs.Sound.{IsReference}
-use Rattle.hx_spell.specs.Tables.{Maker, conv_table, entry_at, fetch_table}
-use Rattle.hx_spell.proofs.CriterionFormLemmas.{IsMapWay, map_entry, map_value_such}
+use Rattle.hx_spell.specs.Tables.{conv_names, entry_at, fetch_names}
+use Rattle.hx_spell.proofs.CriterionFormLemmas.{IsMapWay, default_gives, map_entry}
 use Rattle.hx_spell.proofs.CriterionLemmas.{criterion_law}
 use Rattle.hx_spell.proofs.HeadLemmas.{expr_later, format_later, names_later}
 use Rattle.hx_spell.proofs.ResultLemmas.{given_value}
 use Rattle.hx_spell.proofs.SoundLemmas.{Brings, Grown, ReadsHead, brought, either_brings, grown_refl, grown_trans, head_grown, named_file_brings, output_grown, step_brings, tested_brings, then_brings, weaker_brings}
-use Rattle.hx_spell.proofs.TableFormLemmas.{IsPlainConv, conv_gives, fetch_gives, optional_gives}
+use Rattle.hx_spell.proofs.TableFormLemmas.{IsPlainConv, conv_name_gives, fetch_name_gives}
 
 -- ---- maps
 
@@ -71,28 +72,26 @@ map_head_grown way file such there =
     )
 
 map_file_brings : (line : ℕ) (name : Option (List ℕ)) (known : Known)
-    → Brings IsReference known
-    (ok_or name bad_argument >>= (λ name. with_named_file line name true known))
+    → Brings IsReference known (required (λ name. with_named_file line name true known) name)
 map_file_brings line None known = tt
 map_file_brings line (Some name) known = named_file_brings line name true known
 
 default_is_readable : (way : MapWay) (given default : Option (List ℕ))
-    → optional (value_of_map way.out) bad_argument given ≡ Ok default
+    → optional (read_form (ValueOfMap way.out)) given ≡ Ok default
     → IfSome default (IsReadableAs way.out)
 default_is_readable way given default is =
     given_value (λ v. IfSome v (IsReadableAs way.out))
-    (optional (value_of_map way.out) bad_argument given) default
-    (optional_gives (IsReadableAs way.out) (value_of_map way.out) 10 (map_value_such way.out) given) is
+    (optional (read_form (ValueOfMap way.out)) given) default (default_gives way.out given) is
 
 map_brings : (line : ℕ) (way : MapWay) → IsMapWay way → (args : List (List ℕ)) (known : Known)
     → Brings IsKnownConv known (map_arguments line way args known)
 map_brings line way such args known =
     tested_brings IsKnownConv known (is_count 1 2 (length args)) _ bad_argument
     (λ counted. then_brings IsReference IsKnownConv known
-    (ok_or (slice_get args 0) bad_argument >>= (λ name. with_named_file line name true known)) _
+    (required (λ name. with_named_file line name true known) (slice_get args 0)) _
     (map_file_brings line (slice_get args 0) known)
     (λ file grown there. step_brings IsKnownConv file.known
-    (optional (value_of_map way.out) bad_argument (slice_get args 1)) _
+    (optional (read_form (ValueOfMap way.out)) (slice_get args 1)) _
     (λ default given.
     let (more, names) = map_head_grown way file such there in
     let readable = default_is_readable way (slice_get args 1) default given in
@@ -108,9 +107,11 @@ conv_by_brings : (line : ℕ) (way : Option MapWay) → IfSome way IsMapWay → 
     (known : Known) → Brings IsKnownConv known (conv_by line way call known)
 conv_by_brings line (Some way) such call known = map_brings line way such call.args known
 conv_by_brings line None such call known =
-    step_brings IsKnownConv known (call_meaning conv_table call) (λ c. Ok (reading c known))
+    let found = entry_at conv_names call.name in
+    step_brings IsKnownConv known (conv_by_name found call.args) (λ c. Ok (reading c known))
     (λ c meant.
-    let plain = given_value IsPlainConv (call_meaning conv_table call) c (conv_gives call) meant in
+    let plain = given_value IsPlainConv (conv_by_name found call.args) c
+    (conv_name_gives found call.args) meant in
     (grown_refl known, (plain.0, plain_names known.heads c plain.1)))
 
 conv_brings : (line : ℕ) (call : CallForm) (known : Known)
@@ -118,26 +119,11 @@ conv_brings : (line : ℕ) (call : CallForm) (known : Known)
 conv_brings line call known =
     conv_by_brings line (entry_at map_table call.name) (map_entry call.name) call known
 
--- a fault makes nothing
-never_made : {A : Type 0} (found : Option (Maker A)) (fault : ArgFault) (x : A)
-    → fault_of found fault ≡ Ok x → ⊥
-never_made None fault x is = let no : ⊥ = cc in no
-never_made (Some make) fault x is = let no : ⊥ = cc in no
-
-conv_fault_brings : (way : Option MapWay) (name : List ℕ) (fault : ArgFault) (known : Known)
-    → Brings IsKnownConv known (conv_fault_by way name fault)
-conv_fault_brings (Some way) name fault known = tt
-conv_fault_brings None name fault known =
-    step_brings IsKnownConv known (fault_of (entry_at conv_table name) fault)
-    (λ c. Ok (reading c nothing_known))
-    (λ c is. absurd (never_made (entry_at conv_table name) fault c is))
-
 conv_step_brings : (line : ℕ) (step : Step) (known : Known)
     → Brings IsKnownConv known (conv_step line step known)
 conv_step_brings line (Last call rest) known = conv_brings line call known
 conv_step_brings line (More call rest) known = conv_brings line call known
-conv_step_brings line (Faulty name fault) known =
-    conv_fault_brings (entry_at map_table name) name fault known
+conv_step_brings line (Faulty name fault) known = tt
 
 abbrev AreKnownConvs : Known → List Conv → Type 0
 AreKnownConvs known convs = All (IsKnownConv known) convs
@@ -179,10 +165,12 @@ made_expr known f convs such all = (
 
 fetch_is_one : (step : Step) (f : Fetch) → expr_fetch step ≡ Ok f → IsFetch f
 fetch_is_one (Last call rest) f is =
-    given_value IsFetch (call_meaning fetch_table call) f (fetch_gives call) is
+    given_value IsFetch (fetch_call call) f
+    (fetch_name_gives (entry_at fetch_names call.name) call.args) is
 fetch_is_one (More call rest) f is =
-    given_value IsFetch (call_meaning fetch_table call) f (fetch_gives call) is
-fetch_is_one (Faulty name fault) f is = absurd (never_made (entry_at fetch_table name) fault f is)
+    given_value IsFetch (fetch_call call) f
+    (fetch_name_gives (entry_at fetch_names call.name) call.args) is
+fetch_is_one (Faulty name fault) f is = absurd (let no : ⊥ = cc in no)
 
 expr_steps_bring : (line : ℕ) (steps : List Step) (known : Known)
     → Brings IsKnownExpr known (expr_of_steps line steps known)

@@ -1,11 +1,8 @@
--- The tables of the code are those of the definitions.
+-- What is found in a table of the code, seen as the definitions have it.
 use Rattle.std.proofs.Common.{◌≡◌, ℕ, Bool, true, false, cond, List, [], ◌∷◌, map, Option, Some, refl}
 use Rattle.std.specs.Prelude.{option_map}
 use Rattle.std.specs.Str.{bytes_eq}
-use Rattle.hx_spell.specs.declared.fetch_table.TheConstants.{FETCHES}
-use Rattle.hx_spell.specs.declared.conv_table.TheConstants.{CONVS}
-use Rattle.hx_spell.specs.TableView.{fetch_maker, conv_maker}
-use Rattle.hx_spell.specs.Tables.{entry_at, fetch_table, conv_table}
+use Rattle.hx_spell.specs.Tables.{entry_at}
 
 abbrev pub rows_with : {A B : Type 0} → (A → B) → List (List ℕ × A) → List (List ℕ × B)
 rows_with f rows = map (λ row. (row.0, f row.1)) rows
@@ -22,15 +19,3 @@ entry_at_map f [] name = refl
 entry_at_map f (row ∷ rows) name =
     cond_map f (bytes_eq row.0 name) row.1 (entry_at rows name) (entry_at (rows_with f rows) name)
     (entry_at_map f rows name)
-
-pub fetch_row : (name : List ℕ)
-    → entry_at fetch_table name
-    ≡ option_map fetch_maker (entry_at (map (λ row. (row.0.now, row.1)) FETCHES) name)
-unfolding fetch_table
-fetch_row name = entry_at_map fetch_maker (map (λ row. (row.0.now, row.1)) FETCHES) name
-
-pub conv_row : (name : List ℕ)
-    → entry_at conv_table name
-    ≡ option_map conv_maker (entry_at (map (λ row. (row.0.now, row.1)) CONVS) name)
-unfolding conv_table
-conv_row name = entry_at_map conv_maker (map (λ row. (row.0.now, row.1)) CONVS) name

@@ -25,13 +25,14 @@ pub use Rattle.hx_spell.specs.declared.action_table.VariableAction.{VariableActi
 pub use Rattle.hx_spell.specs.declared.action_table.VariableAction.TheVariants.{Set, Unset}
 use Rattle.hx_spell.specs.declared.fault.SpellFault.{SpellFault}
 use Rattle.hx_base.specs.Results.{◌>>=◌}
-use Rattle.hx_spell.specs.Arguments.{bare, counted, single}
+use Rattle.hx_spell.specs.Arguments.{bare, counted, read_form, single}
 use Rattle.hx_spell.specs.Codes.{bad_argument, bad_name, form_fault, unsupported}
 use Rattle.hx_spell.specs.Criteria.{expr_of}
 use Rattle.hx_spell.specs.Formats.{format_of}
+use Rattle.hx_spell.specs.Forms.Form.{Variable}
 use Rattle.hx_spell.specs.Known.{Known, Reading, with_file, reading}
 use Rattle.hx_spell.specs.Tables.{Table, entry_at}
-use Rattle.hx_spell.specs.Values.{header_of, variable_name_of}
+use Rattle.hx_spell.specs.Values.{header_of}
 
 -- ---- the word of an action, which has a variable or the position of a file in its parentheses
 
@@ -49,7 +50,7 @@ bare_head name line args known = bare (head_reading known (Bare name)) args
 -- the name of a variable
 abbrev pub variable_head : VariableAction → HeadMaker
 variable_head name line args known =
-    single variable_name_of bad_name args
+    single (read_form Variable) args
     >>= (λ variable. Ok (head_reading known (OfVariable name variable)))
 
 -- a file that is given

@@ -54,3 +54,9 @@ form_fault NoMemory = spell.NoMemory
 abbrev pub AnswersAs : {A : Type 0} → Result A SpellFault → Result A SpellFault → Type 0
 AnswersAs (Ok x) expected = expected ≡ Ok x
 AnswersAs (Err fault) expected = fault ≢ spell.NoMemory → expected ≡ Err fault
+
+-- The same of a call whose value is a part of what is expected, or another form of it.
+abbrev pub AnswersWith : {A B : Type 0} → (B → A) → Result B SpellFault → Result A SpellFault
+    → Type 0
+AnswersWith form (Ok x) expected = expected ≡ Ok (form x)
+AnswersWith form (Err fault) expected = fault ≢ spell.NoMemory → expected ≡ Err fault

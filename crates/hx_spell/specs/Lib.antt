@@ -1,4 +1,5 @@
 -- What callers need, the relation first.
+pub mod Forms
 pub mod Codes
 pub mod Values
 pub mod Arguments
@@ -24,8 +25,6 @@ pub mod Relation
 pub mod Heads
 -- Views of the code, for private contracts alone:
 pub mod KnownView
-pub mod TableView
-pub mod CriterionView
 pub mod FlagView
 pub mod PatternView
 pub mod FormatView

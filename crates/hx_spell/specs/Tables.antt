@@ -1,134 +1,136 @@
--- The names of fetches and of converters, each with what its arguments make (HAProxy configuration
--- manual 2.4, sections 7.3.1 to 7.3.6). A table is a list of rows; the first row of a name counts.
-use Rattle.std.specs.Prelude.{ℕ, ℤ, List, [], ◌∷◌, codes, Option, Some}
+-- The fetches and the converters, a row for each: its names, its parameters, and what is made of
+-- what is given for them (HAProxy configuration manual 2.4, sections 7.3.1 to 7.3.6). Of a table of
+-- names the first row of a name counts.
+use Rattle.std.specs.Prelude.{ℕ, false, List, [], ◌∷◌, codes, map, unwrap_or}
+use Rattle.std.specs.List.{flat_map}
+use Rattle.std.specs.Option.{option_flatten}
 pub use Rattle.hx_base.specs.Pairs.{entry_at}
-use Rattle.hx_text.specs.Network.{width_of}
-use Rattle.hx_text.specs.Number.{int_of}
-use Rattle.hx_ast.specs.declared.Val.{Val}
 use Rattle.hx_ast.specs.declared.Fetch.{Fetch}
 use Rattle.hx_ast.specs.declared.Fetch.TheVariants as fetch
 use Rattle.hx_ast.specs.declared.Conv.{Conv}
 use Rattle.hx_ast.specs.declared.Conv.TheVariants as conv
-use Rattle.hx_spell.specs.Codes.{bad_argument, bad_name}
-use Rattle.hx_spell.specs.Values.{boolean_of, hex_of, ipv4_address_of, ipv6_address_of, variable_name_of, operand_written, digest_length_of, header_of, index_of, byte_of, delimiters_of, amount_of, ipv4_mask_of}
-use Rattle.hx_spell.specs.Arguments.{required, optional, made, bare, single, at_most_one, two, three, concat_arguments, substitution_arguments}
-pub use Rattle.hx_spell.specs.Arguments.{Maker}
+use Rattle.hx_spell.specs.declared.fetches.FetchName.{FetchName}
+use Rattle.hx_spell.specs.declared.fetches.FetchName.TheVariants as fetch_name
+use Rattle.hx_spell.specs.declared.convs.ConvName.{ConvName}
+use Rattle.hx_spell.specs.declared.convs.ConvName.TheVariants as conv_name
+use Rattle.hx_spell.specs.Forms.{Row, row}
+use Rattle.hx_spell.specs.Forms.Form.{Text, HeaderName, Variable, VariableOrNothing, Integer, Index, Amount, Operand, Boolean, Letters, Byte, Delimiters, Hexadecimal, Ipv4Address, Ipv6Address, Ipv4Mask, Width, DigestLength}
+use Rattle.hx_spell.specs.Forms.Parameter.{Required, Optional}
 
 abbrev pub Table : Type 0 → Type 0
 Table A = List (List ℕ × A)
 
--- NAME[,OCC]: the name of a header, and the number of an occurrence
-abbrev pub with_header : (List ℕ → Option ℤ → Fetch) → Maker Fetch
-with_header make = made (λ found. make found.0 found.1)
-    (two 1 (required header_of bad_name) (optional index_of bad_argument))
+-- a name of a fetch or a converter, under each text of its row
+abbrev pub under_texts : {A N : Type 0} → (N → Row A) → N → Table N
+under_texts row_of name = map (λ text. (text, name)) (row_of name).names
 
--- [NAME[,DELIM]]: the name of a parameter, and one byte
-abbrev pub parameter : Maker Fetch
-parameter = made (λ found. fetch.UrlParam found.0 found.1)
-    (two 0 (optional Some bad_argument) (optional byte_of bad_argument))
+-- ---- fetches
 
-unfoldable pub fetch_table : Table (Maker Fetch)
-fetch_table =
-    (codes "always_true", bare fetch.AlwaysTrue)
-    ∷ (codes "always_false", bare fetch.AlwaysFalse)
-    ∷ (codes "bool", made fetch.Bool (single boolean_of bad_argument))
-    ∷ (codes "int", made fetch.Int (single int_of bad_argument))
-    ∷ (codes "str", made fetch.Str (single Some bad_argument))
-    ∷ (codes "bin", made fetch.Bin (single hex_of bad_argument))
-    ∷ (codes "ipv4", made fetch.Ipv4 (single ipv4_address_of bad_argument))
-    ∷ (codes "ipv6", made fetch.Ipv6 (single ipv6_address_of bad_argument))
-    ∷ (codes "var", made fetch.Var (single variable_name_of bad_name))
-    ∷ (codes "src", bare fetch.Src)
-    ∷ (codes "dst", bare fetch.Dst)
-    ∷ (codes "src_port", bare fetch.SrcPort)
-    ∷ (codes "dst_port", bare fetch.DstPort)
-    ∷ (codes "method", bare fetch.Method)
-    ∷ (codes "req.ver", bare fetch.ReqVer)
-    ∷ (codes "req_ver", bare fetch.ReqVer)
-    ∷ (codes "path", bare fetch.Path)
-    ∷ (codes "query", bare fetch.Query)
-    ∷ (codes "url", bare fetch.Url)
-    ∷ (codes "base", bare fetch.Base)
-    ∷ (codes "req.hdr", with_header fetch.ReqHdr)
-    ∷ (codes "hdr", with_header fetch.ReqHdr)
-    ∷ (codes "req.fhdr", with_header fetch.ReqFhdr)
-    ∷ (codes "req.hdr_ip", with_header fetch.ReqHdrIp)
-    ∷ (codes "hdr_ip", with_header fetch.ReqHdrIp)
-    ∷ (codes "req.hdr_val", with_header fetch.ReqHdrVal)
-    ∷ (codes "hdr_val", with_header fetch.ReqHdrVal)
-    ∷ (codes "req.hdr_cnt", made fetch.ReqHdrCnt (at_most_one header_of bad_name))
-    ∷ (codes "hdr_cnt", made fetch.ReqHdrCnt (at_most_one header_of bad_name))
-    ∷ (codes "req.cook", made fetch.ReqCook (at_most_one Some bad_argument))
-    ∷ (codes "cook", made fetch.ReqCook (at_most_one Some bad_argument))
-    ∷ (codes "req.cook_cnt", made fetch.ReqCookCnt (at_most_one Some bad_argument))
-    ∷ (codes "cook_cnt", made fetch.ReqCookCnt (at_most_one Some bad_argument))
-    ∷ (codes "url_param", parameter)
-    ∷ (codes "urlp", parameter)
-    ∷ []
+abbrev pub fetch_row : FetchName → Row Fetch
+fetch_row fetch_name.AlwaysTrue = row (codes "always_true" ∷ []) [] fetch.AlwaysTrue
+fetch_row fetch_name.AlwaysFalse = row (codes "always_false" ∷ []) [] fetch.AlwaysFalse
+fetch_row fetch_name.Bool = row (codes "bool" ∷ []) (Required Boolean ∷ []) fetch.Bool
+fetch_row fetch_name.Int = row (codes "int" ∷ []) (Required Integer ∷ []) fetch.Int
+fetch_row fetch_name.Str = row (codes "str" ∷ []) (Required Text ∷ []) fetch.Str
+fetch_row fetch_name.Bin = row (codes "bin" ∷ []) (Required Hexadecimal ∷ []) fetch.Bin
+fetch_row fetch_name.Ipv4 = row (codes "ipv4" ∷ []) (Required Ipv4Address ∷ []) fetch.Ipv4
+fetch_row fetch_name.Ipv6 = row (codes "ipv6" ∷ []) (Required Ipv6Address ∷ []) fetch.Ipv6
+fetch_row fetch_name.Var = row (codes "var" ∷ []) (Required Variable ∷ []) fetch.Var
+fetch_row fetch_name.Src = row (codes "src" ∷ []) [] fetch.Src
+fetch_row fetch_name.Dst = row (codes "dst" ∷ []) [] fetch.Dst
+fetch_row fetch_name.SrcPort = row (codes "src_port" ∷ []) [] fetch.SrcPort
+fetch_row fetch_name.DstPort = row (codes "dst_port" ∷ []) [] fetch.DstPort
+fetch_row fetch_name.Method = row (codes "method" ∷ []) [] fetch.Method
+fetch_row fetch_name.ReqVer = row (codes "req.ver" ∷ codes "req_ver" ∷ []) [] fetch.ReqVer
+fetch_row fetch_name.Path = row (codes "path" ∷ []) [] fetch.Path
+fetch_row fetch_name.Query = row (codes "query" ∷ []) [] fetch.Query
+fetch_row fetch_name.Url = row (codes "url" ∷ []) [] fetch.Url
+fetch_row fetch_name.Base = row (codes "base" ∷ []) [] fetch.Base
+fetch_row fetch_name.ReqHdr =
+    row (codes "req.hdr" ∷ codes "hdr" ∷ []) (Required HeaderName ∷ Optional Index ∷ [])
+    fetch.ReqHdr
+fetch_row fetch_name.ReqFhdr =
+    row (codes "req.fhdr" ∷ []) (Required HeaderName ∷ Optional Index ∷ []) fetch.ReqFhdr
+fetch_row fetch_name.ReqHdrIp =
+    row (codes "req.hdr_ip" ∷ codes "hdr_ip" ∷ []) (Required HeaderName ∷ Optional Index ∷ [])
+    fetch.ReqHdrIp
+fetch_row fetch_name.ReqHdrVal =
+    row (codes "req.hdr_val" ∷ codes "hdr_val" ∷ []) (Required HeaderName ∷ Optional Index ∷ [])
+    fetch.ReqHdrVal
+fetch_row fetch_name.ReqHdrCnt =
+    row (codes "req.hdr_cnt" ∷ codes "hdr_cnt" ∷ []) (Optional HeaderName ∷ []) fetch.ReqHdrCnt
+fetch_row fetch_name.ReqCook =
+    row (codes "req.cook" ∷ codes "cook" ∷ []) (Optional Text ∷ []) fetch.ReqCook
+fetch_row fetch_name.ReqCookCnt =
+    row (codes "req.cook_cnt" ∷ codes "cook_cnt" ∷ []) (Optional Text ∷ []) fetch.ReqCookCnt
+fetch_row fetch_name.UrlParam =
+    row (codes "url_param" ∷ codes "urlp" ∷ []) (Optional Text ∷ Optional Byte ∷ []) fetch.UrlParam
 
--- I,DELIMS[,COUNT]: the number of a piece, delimiters, and how many pieces
-abbrev pub with_pieces : (ℤ → List ℕ → Option ℤ → Conv) → Maker Conv
-with_pieces make = made (λ found. make found.0 found.1 found.2)
-    (three 2 (required index_of bad_argument) (required delimiters_of bad_argument)
-    (optional amount_of bad_argument))
+unfoldable pub fetch_names : Table FetchName
+fetch_names = flat_map (under_texts fetch_row) (
+    fetch_name.AlwaysTrue ∷ fetch_name.AlwaysFalse ∷ fetch_name.Bool ∷ fetch_name.Int
+    ∷ fetch_name.Str ∷ fetch_name.Bin ∷ fetch_name.Ipv4 ∷ fetch_name.Ipv6 ∷ fetch_name.Var
+    ∷ fetch_name.Src ∷ fetch_name.Dst ∷ fetch_name.SrcPort ∷ fetch_name.DstPort ∷ fetch_name.Method
+    ∷ fetch_name.ReqVer ∷ fetch_name.Path ∷ fetch_name.Query ∷ fetch_name.Url ∷ fetch_name.Base
+    ∷ fetch_name.ReqHdr ∷ fetch_name.ReqFhdr ∷ fetch_name.ReqHdrIp ∷ fetch_name.ReqHdrVal
+    ∷ fetch_name.ReqHdrCnt ∷ fetch_name.ReqCook ∷ fetch_name.ReqCookCnt ∷ fetch_name.UrlParam ∷ [])
 
--- OFF[,LEN]: an offset and a length
-abbrev pub with_range : Maker Conv
-with_range = made (λ found. conv.Bytes found.0 found.1)
-    (two 1 (required amount_of bad_argument) (optional amount_of bad_argument))
+-- ---- converters
 
--- T,F: two texts
-abbrev pub with_texts : Maker Conv
-with_texts = made (λ found. conv.Iif found.0 found.1)
-    (two 2 (required Some bad_argument) (required Some bad_argument))
+abbrev pub conv_row : ConvName → Row Conv
+conv_row conv_name.Lower = row (codes "lower" ∷ []) [] conv.Lower
+conv_row conv_name.Upper = row (codes "upper" ∷ []) [] conv.Upper
+conv_row conv_name.Length = row (codes "length" ∷ []) [] conv.Length
+conv_row conv_name.Field =
+    row (codes "field" ∷ []) (Required Index ∷ Required Delimiters ∷ Optional Amount ∷ [])
+    conv.Field
+conv_row conv_name.Word =
+    row (codes "word" ∷ []) (Required Index ∷ Required Delimiters ∷ Optional Amount ∷ []) conv.Word
+conv_row conv_name.Bytes =
+    row (codes "bytes" ∷ []) (Required Amount ∷ Optional Amount ∷ []) conv.Bytes
+conv_row conv_name.Ltrim = row (codes "ltrim" ∷ []) (Required Text ∷ []) conv.Ltrim
+conv_row conv_name.Rtrim = row (codes "rtrim" ∷ []) (Required Text ∷ []) conv.Rtrim
+conv_row conv_name.CutCrlf = row (codes "cut_crlf" ∷ []) [] conv.CutCrlf
+conv_row conv_name.Concat =
+    row (codes "concat" ∷ []) (Optional Text ∷ Optional VariableOrNothing ∷ Optional Text ∷ [])
+    (λ start variable end. conv.Concat start (option_flatten variable) end)
+conv_row conv_name.Strcmp = row (codes "strcmp" ∷ []) (Required Variable ∷ []) conv.Strcmp
+conv_row conv_name.Regsub =
+    row (codes "regsub" ∷ []) (Required Text ∷ Required Text ∷ Optional Letters ∷ [])
+    (λ re sub letters. let found = unwrap_or letters (false, false) in
+    conv.Regsub re sub found.0 found.1)
+conv_row conv_name.UrlDec = row (codes "url_dec" ∷ []) (Optional Integer ∷ []) conv.UrlDec
+conv_row conv_name.Iif = row (codes "iif" ∷ []) (Required Text ∷ Required Text ∷ []) conv.Iif
+conv_row conv_name.Bool = row (codes "bool" ∷ []) [] conv.Bool
+conv_row conv_name.Even = row (codes "even" ∷ []) [] conv.Even
+conv_row conv_name.Odd = row (codes "odd" ∷ []) [] conv.Odd
+conv_row conv_name.Not = row (codes "not" ∷ []) [] conv.Not
+conv_row conv_name.Add = row (codes "add" ∷ []) (Required Operand ∷ []) conv.Add
+conv_row conv_name.Sub = row (codes "sub" ∷ []) (Required Operand ∷ []) conv.Sub
+conv_row conv_name.Mul = row (codes "mul" ∷ []) (Required Operand ∷ []) conv.Mul
+conv_row conv_name.Div = row (codes "div" ∷ []) (Required Operand ∷ []) conv.Div
+conv_row conv_name.Mod = row (codes "mod" ∷ []) (Required Operand ∷ []) conv.Mod
+conv_row conv_name.Neg = row (codes "neg" ∷ []) [] conv.Neg
+conv_row conv_name.And = row (codes "and" ∷ []) (Required Operand ∷ []) conv.And
+conv_row conv_name.Or = row (codes "or" ∷ []) (Required Operand ∷ []) conv.Or
+conv_row conv_name.Xor = row (codes "xor" ∷ []) (Required Operand ∷ []) conv.Xor
+conv_row conv_name.Cpl = row (codes "cpl" ∷ []) [] conv.Cpl
+conv_row conv_name.Ipmask =
+    row (codes "ipmask" ∷ []) (Required Ipv4Mask ∷ Optional (Width 128) ∷ []) conv.Ipmask
+conv_row conv_name.Base64 = row (codes "base64" ∷ []) [] conv.Base64
+conv_row conv_name.Ub64enc = row (codes "ub64enc" ∷ []) [] conv.Ub64enc
+conv_row conv_name.B64dec = row (codes "b64dec" ∷ []) [] conv.B64dec
+conv_row conv_name.Ub64dec = row (codes "ub64dec" ∷ []) [] conv.Ub64dec
+conv_row conv_name.Hex = row (codes "hex" ∷ []) [] conv.Hex
+conv_row conv_name.Hex2i = row (codes "hex2i" ∷ []) [] conv.Hex2i
+conv_row conv_name.Sha2 = row (codes "sha2" ∷ []) (Optional DigestLength ∷ []) conv.Sha2
 
--- M4[,M6]: the mask of an IPv4 address, and how many bits of an IPv6 address
-abbrev pub with_masks : Maker Conv
-with_masks = made (λ found. conv.Ipmask found.0 found.1)
-    (two 1 (required ipv4_mask_of bad_argument) (optional (width_of 128) bad_argument))
-
-abbrev pub with_operand : (Val → Conv) → Maker Conv
-with_operand make = made make (single operand_written bad_name)
-
-unfoldable pub conv_table : Table (Maker Conv)
-conv_table =
-    (codes "lower", bare conv.Lower)
-    ∷ (codes "upper", bare conv.Upper)
-    ∷ (codes "length", bare conv.Length)
-    ∷ (codes "field", with_pieces conv.Field)
-    ∷ (codes "word", with_pieces conv.Word)
-    ∷ (codes "bytes", with_range)
-    ∷ (codes "ltrim", made conv.Ltrim (single Some bad_argument))
-    ∷ (codes "rtrim", made conv.Rtrim (single Some bad_argument))
-    ∷ (codes "cut_crlf", bare conv.CutCrlf)
-    ∷ (codes "concat", made (λ found. conv.Concat found.0 found.1 found.2) concat_arguments)
-    ∷ (codes "strcmp", made conv.Strcmp (single variable_name_of bad_name))
-    ∷ (
-      codes "regsub",
-      made (λ found. conv.Regsub found.0 found.1 found.2.0 found.2.1) substitution_arguments,
-    )
-    ∷ (codes "url_dec", made conv.UrlDec (at_most_one int_of bad_argument))
-    ∷ (codes "iif", with_texts)
-    ∷ (codes "bool", bare conv.Bool)
-    ∷ (codes "even", bare conv.Even)
-    ∷ (codes "odd", bare conv.Odd)
-    ∷ (codes "not", bare conv.Not)
-    ∷ (codes "add", with_operand conv.Add)
-    ∷ (codes "sub", with_operand conv.Sub)
-    ∷ (codes "mul", with_operand conv.Mul)
-    ∷ (codes "div", with_operand conv.Div)
-    ∷ (codes "mod", with_operand conv.Mod)
-    ∷ (codes "neg", bare conv.Neg)
-    ∷ (codes "and", with_operand conv.And)
-    ∷ (codes "or", with_operand conv.Or)
-    ∷ (codes "xor", with_operand conv.Xor)
-    ∷ (codes "cpl", bare conv.Cpl)
-    ∷ (codes "ipmask", with_masks)
-    ∷ (codes "base64", bare conv.Base64)
-    ∷ (codes "ub64enc", bare conv.Ub64enc)
-    ∷ (codes "b64dec", bare conv.B64dec)
-    ∷ (codes "ub64dec", bare conv.Ub64dec)
-    ∷ (codes "hex", bare conv.Hex)
-    ∷ (codes "hex2i", bare conv.Hex2i)
-    ∷ (codes "sha2", made conv.Sha2 (at_most_one digest_length_of bad_argument))
-    ∷ []
+unfoldable pub conv_names : Table ConvName
+conv_names = flat_map (under_texts conv_row) (
+    conv_name.Lower ∷ conv_name.Upper ∷ conv_name.Length ∷ conv_name.Field ∷ conv_name.Word
+    ∷ conv_name.Bytes ∷ conv_name.Ltrim ∷ conv_name.Rtrim ∷ conv_name.CutCrlf ∷ conv_name.Concat
+    ∷ conv_name.Strcmp ∷ conv_name.Regsub ∷ conv_name.UrlDec ∷ conv_name.Iif ∷ conv_name.Bool
+    ∷ conv_name.Even ∷ conv_name.Odd ∷ conv_name.Not ∷ conv_name.Add ∷ conv_name.Sub
+    ∷ conv_name.Mul ∷ conv_name.Div ∷ conv_name.Mod ∷ conv_name.Neg ∷ conv_name.And ∷ conv_name.Or
+    ∷ conv_name.Xor ∷ conv_name.Cpl ∷ conv_name.Ipmask ∷ conv_name.Base64 ∷ conv_name.Ub64enc
+    ∷ conv_name.B64dec ∷ conv_name.Ub64dec ∷ conv_name.Hex ∷ conv_name.Hex2i ∷ conv_name.Sha2 ∷ [])

@@ -1,7 +1,7 @@
--- What one argument of a call writes, by the form that its place demands; nothing where it isn't of
--- that form (HAProxy configuration manual 2.4, sections 7.3.1 to 7.3.6). An argument that is given
--- is never taken for one that is missing, also where it is the empty text.
-use Rattle.std.specs.Prelude.{ℕ, zero, ℤ, pos, negsuc, Bool, true, false, nat_lt, ◌==◌, ◌&&◌, ◌||◌, if◌then◌else◌, List, [], ◌∷◌, length, codes, Option, Some, None, option_map, option_and_then}
+-- What a text stands for as an argument of a call, by the form that is asked for; nothing where it
+-- isn't of that form (HAProxy configuration manual 2.4, sections 7.3.1 to 7.3.6). `Writes` says the
+-- same from the argument to its texts.
+use Rattle.std.specs.Prelude.{ℕ, zero, ℤ, pos, negsuc, Bool, true, false, nat_lt, ◌&&◌, ◌||◌, if◌then◌else◌, List, [], ◌∷◌, length, codes, Option, Some, None, option_map, option_and_then}
 use Rattle.std.specs.Option.{option_or}
 use Rattle.std.specs.Result.{result_ok}
 use Rattle.std.specs.List.{list_all, list_any}
@@ -11,6 +11,8 @@ use Rattle.httparse.specs.Grammar.{is_token}
 use Rattle.hx_base.specs.Bytes.{ascii}
 use Rattle.hx_text.specs.declared.Ip.{Ip}
 use Rattle.hx_text.specs.declared.Ip.TheVariants.{V4, V6}
+use Rattle.hx_text.specs.declared.Out.{Out}
+use Rattle.hx_text.specs.declared.Out.TheVariants as output
 use Rattle.hx_text.specs.declared.Scope.{Scope}
 use Rattle.hx_text.specs.declared.Scope.TheVariants.{Proc, Sess, Txn, Req, Res}
 use Rattle.hx_text.specs.declared.VarName.{VarName}
@@ -22,6 +24,9 @@ use Rattle.hx_ast.specs.declared.Val.{Val}
 use Rattle.hx_ast.specs.declared.Val.TheVariants as val
 use Rattle.hx_ast.specs.Convs.{is_digest_length}
 use Rattle.hx_ast.specs.Names.{is_variable_byte}
+use Rattle.hx_spell.specs.Forms.{Argument, Form}
+use Rattle.hx_spell.specs.Forms.Form.{Text, HeaderName, Variable, VariableOrNothing, Integer, Index, Amount, Operand, Boolean, Letters, Byte, Delimiters, Hexadecimal, Ipv4Address, Ipv6Address, Ipv4Mask, Width, DigestLength, ValueOfMap}
+pub use Rattle.hx_spell.specs.Forms.{is_among}
 
 -- ---- numbers; zeros may lead, as in the integers of a request
 
@@ -65,19 +70,16 @@ abbrev pub byte_of : List ℕ → Option ℕ
 byte_of (b ∷ []) = Some b
 byte_of _ = None
 
--- ---- booleans and flags
+-- ---- booleans and letters
 
 abbrev pub boolean_of : List ℕ → Option Bool
 boolean_of text =
     if bytes_eq text (codes "true") || bytes_eq text (codes "1") then Some true else
     (if bytes_eq text (codes "false") || bytes_eq text (codes "0") then Some false else None)
 
-abbrev pub is_among : List ℕ → ℕ → Bool
-is_among bytes b = list_any (λ a. a == b) bytes
-
 -- the flags of `regsub`, in any order and number: whether `g` is there, and whether `i` is
-abbrev pub flags_of : List ℕ → Option (Bool × Bool)
-flags_of text =
+abbrev pub letters_of : List ℕ → Option (Bool × Bool)
+letters_of text =
     if list_all (is_among (codes "gi")) text
     then Some (list_any (is_among (codes "g")) text, list_any (is_among (codes "i")) text)
     else None
@@ -135,3 +137,34 @@ variable_or_nothing_of (b ∷ text) = option_map Some (variable_name_of (b ∷ t
 abbrev pub operand_written : List ℕ → Option Val
 operand_written text =
     option_or (option_map val.Number (int_of text)) (option_map val.Var (variable_name_of text))
+
+-- ---- values of maps
+
+-- a text that can be read as a map's value of this type
+abbrev pub value_of_map : Out → List ℕ → Option (List ℕ)
+value_of_map output.Str text = Some text
+value_of_map output.Int text = option_map (λ n. text) (int_of text)
+value_of_map output.Ip text = option_map (λ ip. text) (ip_of text)
+
+-- ---- all forms
+
+abbrev pub value_of : (form : Form) → List ℕ → Option (Argument form)
+value_of Text text = Some text
+value_of HeaderName text = header_of text
+value_of Variable text = variable_name_of text
+value_of VariableOrNothing text = variable_or_nothing_of text
+value_of Integer text = int_of text
+value_of Index text = index_of text
+value_of Amount text = amount_of text
+value_of Operand text = operand_written text
+value_of Boolean text = boolean_of text
+value_of Letters text = letters_of text
+value_of Byte text = byte_of text
+value_of Delimiters text = delimiters_of text
+value_of Hexadecimal text = hex_of text
+value_of Ipv4Address text = ipv4_address_of text
+value_of Ipv6Address text = ipv6_address_of text
+value_of Ipv4Mask text = ipv4_mask_of text
+value_of (Width most) text = width_of most text
+value_of DigestLength text = digest_length_of text
+value_of (ValueOfMap out) text = value_of_map out text

@@ -8,8 +8,9 @@ ghost use Rattle.hx_spell.specs.Known.{Extends, ReadsAs};
 ghost use Rattle.hx_spell.specs.Tables.{entry_at};
 
 use crate::action_table::{ACTIONS, ActionHead, ActionName, FileAction};
-use crate::arguments::{counted, variable_at};
+use crate::arguments::{bare, counted, required};
 use crate::fault::{BAD_ARGUMENT, SpellFault, UNSUPPORTED, form_fault};
+use crate::forms::Variable;
 use crate::known::Knowledge;
 use crate::lookup::lookup;
 use hx_words::{Call, CallStep, next_call};
@@ -72,13 +73,11 @@ fn head_of_call(
 {
     match action_name(call.name()) {
         None => Err(SpellFault::Code(UNSUPPORTED)),
-        Some(ActionName::Bare(name)) => {
-            counted(call, 0, 0)?;
-            Ok(ActionHead::Bare(name))
-        }
+        Some(ActionName::Bare(name)) => bare(call, ActionHead::Bare(name)),
         Some(ActionName::OfVariable(name)) => {
             counted(call, 1, 1)?;
-            Ok(ActionHead::OfVariable(name, variable_at(alloc, call, 0)?))
+            let variable = required::<Variable>(alloc, call, 0)?;
+            Ok(ActionHead::OfVariable(name, variable))
         }
         Some(ActionName::OfFile(name)) => file_head(known, line, name, call),
     }

@@ -1,21 +1,10 @@
-ghost use Rattle.std.specs.Prelude.{◌≡◌, length, slice_get, Some, true, false, MatchResult};
-ghost use Rattle.hx_text.specs.Number.{int_of};
-ghost use Rattle.hx_text.specs.Network.{width_of};
-ghost use Rattle.hx_spell.specs.Codes.{AnswersAs, bad_argument, bad_name};
-ghost use Rattle.hx_spell.specs.Values.{index_of, amount_of, digest_length_of, delimiters_of, header_of};
-ghost use Rattle.hx_spell.specs.Values.{hex_of, byte_of, boolean_of, flags_of, ipv4_address_of, ipv6_address_of};
-ghost use Rattle.hx_spell.specs.Values.{ipv4_mask_of, variable_name_of, variable_or_nothing_of};
-ghost use Rattle.hx_spell.specs.Values.{operand_written};
-ghost use Rattle.hx_spell.specs.Arguments.{is_count, required, optional};
+ghost use Rattle.std.specs.Prelude.{◌≡◌, length, slice_get, true, false, MatchResult};
+ghost use Rattle.hx_spell.specs.Arguments.{bare, both, counted, ended, is_count, none_left};
+ghost use Rattle.hx_spell.specs.Arguments.{optional, required};
+ghost use Rattle.hx_spell.specs.Codes.{AnswersAs, AnswersWith, bad_argument};
 
-use crate::fault::{BAD_ARGUMENT, BAD_NAME, SpellFault};
-use crate::values::{
-    boolean, byte, count, delimiters, digest, flags, header, hex_bytes, index, ipv4, ipv4_mask,
-    ipv6, width,
-};
-use crate::variables::{operand, variable, variable_or_nothing};
-use hx_ast::Val;
-use hx_text::{Ip, Octets, VarName, read_i64};
+use crate::fault::{BAD_ARGUMENT, SpellFault};
+use crate::forms::Form;
 use hx_words::Call;
 use std::alloc::Global;
 
@@ -31,284 +20,94 @@ pub(crate) fn counted(call: &Call, least: usize, most: usize) -> Result<(), Spel
     }
 }
 
-/// The text at position `i`, which has to be given.
-pub(crate) fn text_at(alloc: Global, call: &Call, i: usize) -> Result<Octets, SpellFault>
-    ensures { AnswersAs result (required Some bad_argument (slice_get call.now.args i)) }
+/// What the argument at position `i` stands for, which has to be given.
+pub(crate) fn required<F: Form>(
+    alloc: Global,
+    call: &Call,
+    i: usize,
+) -> Result<F::Argument, SpellFault>
+    ensures { AnswersAs result (required F.reads (slice_get call.now.args i)) }
 {
     match call.arg(i) {
         None => Err(SpellFault::Code(BAD_ARGUMENT)),
-        Some(text) => Ok(Octets::copy(alloc, text)?),
+        Some(text) => F::read(alloc, text),
     }
 }
 
-/// The text at position `i`, if it is given.
-pub(crate) fn given_text(alloc: Global, call: &Call, i: usize) -> Result<Option<Octets>, SpellFault>
-    ensures { AnswersAs result (optional Some bad_argument (slice_get call.now.args i)) }
+/// What the argument at position `i` stands for, if it is given.
+pub(crate) fn given<F: Form>(
+    alloc: Global,
+    call: &Call,
+    i: usize,
+) -> Result<Option<F::Argument>, SpellFault>
+    ensures { AnswersAs result (optional F.reads (slice_get call.now.args i)) }
 {
     match call.arg(i) {
         None => Ok(None),
-        Some(text) => Ok(Some(Octets::copy(alloc, text)?)),
+        Some(text) => Ok(Some(F::read(alloc, text)?)),
     }
 }
 
-pub(crate) fn index_at(call: &Call, i: usize) -> Result<i64, SpellFault>
-    ensures { AnswersAs result (required index_of bad_argument (slice_get call.now.args i)) }
+/// What is made without an argument.
+pub(crate) fn bare<T: Drop>(call: &Call, made: T) -> Result<T, SpellFault>
+    ensures { AnswersAs result (bare made call.now.args) }
 {
-    let Some(text) = call.arg(i) else {
-        return Err(SpellFault::Code(BAD_ARGUMENT));
-    };
-    match index(text) {
-        None => Err(SpellFault::Code(BAD_ARGUMENT)),
-        Some(found) => Ok(found),
-    }
+    counted(call, 0, 0)?;
+    Ok(made)
 }
 
-pub(crate) fn count_at(call: &Call, i: usize) -> Result<i64, SpellFault>
-    ensures { AnswersAs result (required amount_of bad_argument (slice_get call.now.args i)) }
+/// What the argument stands for, of which there has to be one.
+pub(crate) fn single<F: Form>(alloc: Global, call: &Call) -> Result<F::Argument, SpellFault>
+    ensures { AnswersWith ended result (counted 1 1 call.now.args
+        (both (required F.reads (slice_get call.now.args 0)) none_left)) }
 {
-    let Some(text) = call.arg(i) else {
-        return Err(SpellFault::Code(BAD_ARGUMENT));
-    };
-    match count(text) {
-        None => Err(SpellFault::Code(BAD_ARGUMENT)),
-        Some(found) => Ok(found),
-    }
+    counted(call, 1, 1)?;
+    let only = required::<F>(alloc, call, 0)?;
+    Ok(only)
 }
 
-pub(crate) fn number_at(call: &Call, i: usize) -> Result<i64, SpellFault>
-    ensures { AnswersAs result (required int_of bad_argument (slice_get call.now.args i)) }
-{
-    let Some(text) = call.arg(i) else {
-        return Err(SpellFault::Code(BAD_ARGUMENT));
-    };
-    match read_i64(text) {
-        None => Err(SpellFault::Code(BAD_ARGUMENT)),
-        Some(found) => Ok(found),
-    }
-}
-
-pub(crate) fn boolean_at(call: &Call, i: usize) -> Result<bool, SpellFault>
-    ensures { AnswersAs result (required boolean_of bad_argument (slice_get call.now.args i)) }
-{
-    let Some(text) = call.arg(i) else {
-        return Err(SpellFault::Code(BAD_ARGUMENT));
-    };
-    match boolean(text) {
-        None => Err(SpellFault::Code(BAD_ARGUMENT)),
-        Some(found) => Ok(found),
-    }
-}
-
-pub(crate) fn ipv4_at(call: &Call, i: usize) -> Result<Ip, SpellFault>
-    ensures { AnswersAs result (required ipv4_address_of bad_argument (slice_get call.now.args i)) }
-{
-    let Some(text) = call.arg(i) else {
-        return Err(SpellFault::Code(BAD_ARGUMENT));
-    };
-    match ipv4(text) {
-        None => Err(SpellFault::Code(BAD_ARGUMENT)),
-        Some(found) => Ok(found),
-    }
-}
-
-pub(crate) fn ipv6_at(call: &Call, i: usize) -> Result<Ip, SpellFault>
-    ensures { AnswersAs result (required ipv6_address_of bad_argument (slice_get call.now.args i)) }
-{
-    let Some(text) = call.arg(i) else {
-        return Err(SpellFault::Code(BAD_ARGUMENT));
-    };
-    match ipv6(text) {
-        None => Err(SpellFault::Code(BAD_ARGUMENT)),
-        Some(found) => Ok(found),
-    }
-}
-
-pub(crate) fn mask_at(call: &Call, i: usize) -> Result<u32, SpellFault>
-    ensures { AnswersAs result (required ipv4_mask_of bad_argument (slice_get call.now.args i)) }
-{
-    let Some(text) = call.arg(i) else {
-        return Err(SpellFault::Code(BAD_ARGUMENT));
-    };
-    match ipv4_mask(text) {
-        None => Err(SpellFault::Code(BAD_ARGUMENT)),
-        Some(found) => Ok(found),
-    }
-}
-
-pub(crate) fn header_at(alloc: Global, call: &Call, i: usize) -> Result<Octets, SpellFault>
-    ensures { AnswersAs result (required header_of bad_name (slice_get call.now.args i)) }
-{
-    let Some(text) = call.arg(i) else {
-        return Err(SpellFault::Code(BAD_ARGUMENT));
-    };
-    match header(alloc, text)? {
-        None => Err(SpellFault::Code(BAD_NAME)),
-        Some(found) => Ok(found),
-    }
-}
-
-pub(crate) fn delimiters_at(alloc: Global, call: &Call, i: usize) -> Result<Octets, SpellFault>
-    ensures { AnswersAs result (required delimiters_of bad_argument (slice_get call.now.args i)) }
-{
-    let Some(text) = call.arg(i) else {
-        return Err(SpellFault::Code(BAD_ARGUMENT));
-    };
-    match delimiters(alloc, text)? {
-        None => Err(SpellFault::Code(BAD_ARGUMENT)),
-        Some(found) => Ok(found),
-    }
-}
-
-pub(crate) fn hex_at(alloc: Global, call: &Call, i: usize) -> Result<Octets, SpellFault>
-    ensures { AnswersAs result (required hex_of bad_argument (slice_get call.now.args i)) }
-{
-    let Some(text) = call.arg(i) else {
-        return Err(SpellFault::Code(BAD_ARGUMENT));
-    };
-    match hex_bytes(alloc, text)? {
-        None => Err(SpellFault::Code(BAD_ARGUMENT)),
-        Some(found) => Ok(found),
-    }
-}
-
-pub(crate) fn variable_at(alloc: Global, call: &Call, i: usize) -> Result<VarName, SpellFault>
-    ensures { AnswersAs result (required variable_name_of bad_name (slice_get call.now.args i)) }
-{
-    let Some(text) = call.arg(i) else {
-        return Err(SpellFault::Code(BAD_ARGUMENT));
-    };
-    match variable(alloc, text)? {
-        None => Err(SpellFault::Code(BAD_NAME)),
-        Some(found) => Ok(found),
-    }
-}
-
-pub(crate) fn operand_at(alloc: Global, call: &Call, i: usize) -> Result<Val, SpellFault>
-    ensures { AnswersAs result (required operand_written bad_name (slice_get call.now.args i)) }
-{
-    let Some(text) = call.arg(i) else {
-        return Err(SpellFault::Code(BAD_ARGUMENT));
-    };
-    match operand(alloc, text)? {
-        None => Err(SpellFault::Code(BAD_NAME)),
-        Some(found) => Ok(found),
-    }
-}
-
-pub(crate) fn given_index(call: &Call, i: usize) -> Result<Option<i64>, SpellFault>
-    ensures { AnswersAs result (optional index_of bad_argument (slice_get call.now.args i)) }
-{
-    let Some(text) = call.arg(i) else {
-        return Ok(None);
-    };
-    match index(text) {
-        None => Err(SpellFault::Code(BAD_ARGUMENT)),
-        Some(found) => Ok(Some(found)),
-    }
-}
-
-pub(crate) fn given_count(call: &Call, i: usize) -> Result<Option<i64>, SpellFault>
-    ensures { AnswersAs result (optional amount_of bad_argument (slice_get call.now.args i)) }
-{
-    let Some(text) = call.arg(i) else {
-        return Ok(None);
-    };
-    match count(text) {
-        None => Err(SpellFault::Code(BAD_ARGUMENT)),
-        Some(found) => Ok(Some(found)),
-    }
-}
-
-pub(crate) fn given_number(call: &Call, i: usize) -> Result<Option<i64>, SpellFault>
-    ensures { AnswersAs result (optional int_of bad_argument (slice_get call.now.args i)) }
-{
-    let Some(text) = call.arg(i) else {
-        return Ok(None);
-    };
-    match read_i64(text) {
-        None => Err(SpellFault::Code(BAD_ARGUMENT)),
-        Some(found) => Ok(Some(found)),
-    }
-}
-
-pub(crate) fn given_byte(call: &Call, i: usize) -> Result<Option<u8>, SpellFault>
-    ensures { AnswersAs result (optional byte_of bad_argument (slice_get call.now.args i)) }
-{
-    let Some(text) = call.arg(i) else {
-        return Ok(None);
-    };
-    match byte(text) {
-        None => Err(SpellFault::Code(BAD_ARGUMENT)),
-        Some(found) => Ok(Some(found)),
-    }
-}
-
-pub(crate) fn given_digest(call: &Call, i: usize) -> Result<Option<u16>, SpellFault>
-    ensures { AnswersAs result
-        (optional digest_length_of bad_argument (slice_get call.now.args i)) }
-{
-    let Some(text) = call.arg(i) else {
-        return Ok(None);
-    };
-    match digest(text) {
-        None => Err(SpellFault::Code(BAD_ARGUMENT)),
-        Some(found) => Ok(Some(found)),
-    }
-}
-
-pub(crate) fn given_width(call: &Call, i: usize) -> Result<Option<u32>, SpellFault>
-    ensures { AnswersAs result (optional (width_of 128) bad_argument (slice_get call.now.args i)) }
-{
-    let Some(text) = call.arg(i) else {
-        return Ok(None);
-    };
-    match width(text, 128) {
-        None => Err(SpellFault::Code(BAD_ARGUMENT)),
-        Some(found) => Ok(Some(found)),
-    }
-}
-
-pub(crate) fn given_flags(call: &Call, i: usize) -> Result<Option<(bool, bool)>, SpellFault>
-    ensures { AnswersAs result (optional flags_of bad_argument (slice_get call.now.args i)) }
-{
-    let Some(text) = call.arg(i) else {
-        return Ok(None);
-    };
-    match flags(text) {
-        None => Err(SpellFault::Code(BAD_ARGUMENT)),
-        Some(found) => Ok(Some(found)),
-    }
-}
-
-pub(crate) fn given_header(
+/// What the argument stands for, if there is one, of which there is one at most.
+pub(crate) fn at_most_one<F: Form>(
     alloc: Global,
     call: &Call,
-    i: usize,
-) -> Result<Option<Octets>, SpellFault>
-    ensures { AnswersAs result (optional header_of bad_name (slice_get call.now.args i)) }
+) -> Result<Option<F::Argument>, SpellFault>
+    ensures { AnswersWith ended result (counted 0 1 call.now.args
+        (both (optional F.reads (slice_get call.now.args 0)) none_left)) }
 {
-    let Some(text) = call.arg(i) else {
-        return Ok(None);
-    };
-    match header(alloc, text)? {
-        None => Err(SpellFault::Code(BAD_NAME)),
-        Some(found) => Ok(Some(found)),
-    }
+    counted(call, 0, 1)?;
+    let only = given::<F>(alloc, call, 0)?;
+    Ok(only)
 }
 
-pub(crate) fn given_variable(
+/// What two arguments stand for, of which the second may be missing.
+pub(crate) fn one_or_two<F: Form, G: Form>(
     alloc: Global,
     call: &Call,
-    i: usize,
-) -> Result<Option<Option<VarName>>, SpellFault>
-    ensures { AnswersAs result
-        (optional variable_or_nothing_of bad_name (slice_get call.now.args i)) }
+) -> Result<(F::Argument, Option<G::Argument>), SpellFault>
+    ensures { AnswersWith (λ found. (found.0, ended found.1)) result (counted 1 2 call.now.args
+        (both (required F.reads (slice_get call.now.args 0))
+        (both (optional G.reads (slice_get call.now.args 1)) none_left))) }
 {
-    let Some(text) = call.arg(i) else {
-        return Ok(None);
-    };
-    match variable_or_nothing(alloc, text)? {
-        None => Err(SpellFault::Code(BAD_NAME)),
-        Some(found) => Ok(Some(found)),
-    }
+    counted(call, 1, 2)?;
+    let first = required::<F>(alloc, call, 0)?;
+    let second = given::<G>(alloc, call, 1)?;
+    Ok((first, second))
+}
+
+/// What three arguments stand for, of which the last may be missing.
+pub(crate) fn two_or_three<F: Form, G: Form, H: Form>(
+    alloc: Global,
+    call: &Call,
+) -> Result<(F::Argument, G::Argument, Option<H::Argument>), SpellFault>
+    ensures { AnswersWith (λ found. (found.0, (found.1, ended found.2))) result
+        (counted 2 3 call.now.args
+        (both (required F.reads (slice_get call.now.args 0))
+        (both (required G.reads (slice_get call.now.args 1))
+        (both (optional H.reads (slice_get call.now.args 2)) none_left)))) }
+{
+    counted(call, 2, 3)?;
+    let first = required::<F>(alloc, call, 0)?;
+    let second = required::<G>(alloc, call, 1)?;
+    let third = given::<H>(alloc, call, 2)?;
+    Ok((first, second, third))
 }

@@ -1,26 +1,24 @@
-ghost use Rattle.std.specs.Prelude.{◌≡◌, ◌∷◌, None, Some, IfOk, if◌then◌else◌, slice_get};
-ghost use Rattle.std.specs.Prelude.{option_map};
+ghost use Rattle.std.specs.Prelude.{◌≡◌, ◌∷◌, None, Some, IfOk, if◌then◌else◌, slice_get, true};
 ghost use Rattle.hx_words.specs.Calls.{steps_of, further_steps};
 ghost use Rattle.hx_words.specs.StepView.{step_view};
-ghost use Rattle.hx_spell.specs.Arguments.{optional};
-ghost use Rattle.hx_spell.specs.Codes.{AnswersAs, bad_argument};
-ghost use Rattle.hx_spell.specs.Criteria.{conv_call, conv_fault_by, convs_after, criterion_of};
+ghost use Rattle.hx_spell.specs.Arguments.{optional, read_form, required};
+ghost use Rattle.hx_spell.specs.Codes.{AnswersAs};
+ghost use Rattle.hx_spell.specs.Criteria.{conv_call, conv_fault, convs_after, criterion_of};
 ghost use Rattle.hx_spell.specs.Criteria.{criterion_of_steps, derived_fetches, derived_methods};
-ghost use Rattle.hx_spell.specs.Criteria.{derived_of_parts, fetch_by, fetch_fault_by, fetch_way};
+ghost use Rattle.hx_spell.specs.Criteria.{derived_of_parts, fetch_by, fetch_way};
 ghost use Rattle.hx_spell.specs.Criteria.{map_arguments, map_head, map_table};
-ghost use Rattle.hx_spell.specs.Criteria.{value_of_map};
-ghost use Rattle.hx_spell.specs.CriterionView.{fetch_way_view, map_file};
 ghost use Rattle.hx_spell.specs.Formats.{rest_after};
-ghost use Rattle.hx_spell.specs.Known.{Extends, ReadsAs, ReadsPart};
-ghost use Rattle.hx_spell.specs.TableView.{fetch_maker};
+ghost use Rattle.hx_spell.specs.Forms.Form.{ValueOfMap};
+ghost use Rattle.hx_spell.specs.Known.{Extends, ReadsAs, ReadsPart, with_named_file};
 ghost use Rattle.hx_spell.specs.Tables.{entry_at};
+ghost use Rattle.hx_spell.specs.Values.{value_of_map};
 
 use crate::arguments::counted;
+use crate::convs::conv_name;
 use crate::derived_table::{DERIVED_FETCHES, DERIVED_METHODS};
-use crate::expression;
+use crate::expression::{self, fault_of};
 use crate::fault::{BAD_ARGUMENT, SpellFault, UNSUPPORTED, form_fault};
-use crate::fetch_table::FetchName;
-use crate::fetches::fetch;
+use crate::fetches::{FetchName, fetch, fetch_name};
 use crate::known::Knowledge;
 use crate::lookup::lookup;
 use crate::map_table::MAPS;
@@ -69,6 +67,16 @@ pub(crate) struct FetchWay {
     pub(crate) by: Option<By>,
 }
 
+impl Model for FetchWay {
+    ghost use Rattle.hx_spell.specs.Criteria.{FetchWay};
+
+    ghost Value = { FetchWay };
+
+    ghost view = { λ way. record { name = way.name; by = way.by } };
+
+    ghost inverse = { λ way. record { name = way.name; by = way.by } };
+}
+
 /// How a map is searched, and the type of its values.
 #[derive(Clone, Copy)]
 pub(crate) struct MapWay {
@@ -109,7 +117,7 @@ fn is_map_value(out: Out, text: &[u8]) -> bool
 /// The default of a map whose values have this type, if one is given.
 fn map_default(alloc: Global, out: Out, call: &Call) -> Result<Option<Octets>, SpellFault>
     ensures { AnswersAs result
-        (optional (value_of_map out) bad_argument (slice_get call.now.args 1)) }
+        (optional (read_form (ValueOfMap out)) (slice_get call.now.args 1)) }
 {
     let Some(text) = call.arg(1) else {
         return Ok(None);
@@ -124,7 +132,8 @@ fn map_default(alloc: Global, out: Out, call: &Call) -> Result<Option<Octets>, S
 /// The reference of the file of a map.
 fn map_file(known: &mut Knowledge, line: u64, call: &Call) -> Result<u32, SpellFault>
     ensures answers { ReadsAs result known.new
-        (map_file line (slice_get call.now.args 0) known.old) }
+        (required (λ name. with_named_file line name true known.old)
+        (slice_get call.now.args 0)) }
     ensures extends { Extends known.old known.new }
 {
     match call.arg(0) {
@@ -179,16 +188,17 @@ fn conv_of(known: &mut Knowledge, alloc: Global, line: u64, call: &Call) -> Resu
 }
 
 fn conv_fault(name: &[u8], fault: ArgFault) -> SpellFault
-    ensures { conv_fault_by (entry_at map_table name.now) name.now fault ≡ Err result }
+    ensures { result ≡ conv_fault name.now fault }
 {
     match map_way(name) {
         Some(_) => form_fault(fault),
-        None => expression::conv_fault(name, fault),
+        None => fault_of(conv_name(name), fault),
     }
 }
 
+#[tactic(auto, unfolding(crate::specs::Criteria::derived_fetches))]
 fn derived_fetch(name: &[u8]) -> Option<FetchName>
-    ensures { entry_at derived_fetches name.now ≡ option_map fetch_maker result }
+    ensures { result ≡ entry_at derived_fetches name.now }
 {
     lookup(&DERIVED_FETCHES, name)
 }
@@ -202,7 +212,7 @@ fn derived_method(name: &[u8]) -> Option<By>
 
 /// The fetch and the method of a name that is made of both.
 fn derived_way(name: &[u8], method: &[u8]) -> Option<FetchWay>
-    ensures { derived_of_parts (name.now, method.now) ≡ option_map fetch_way_view result }
+    ensures { result ≡ derived_of_parts (name.now, method.now) }
 {
     let Some(name) = derived_fetch(name) else {
         return None;
@@ -214,9 +224,9 @@ fn derived_way(name: &[u8], method: &[u8]) -> Option<FetchWay>
 }
 
 fn fetch_way(name: &[u8]) -> Option<FetchWay>
-    ensures { fetch_way name.now ≡ option_map fetch_way_view result }
+    ensures { result ≡ fetch_way name.now }
 {
-    if let Some(name) = expression::fetch_name(name) {
+    if let Some(name) = fetch_name(name) {
         return Some(FetchWay { name, by: None });
     }
     match cut_at(b'_', name) {
@@ -234,15 +244,6 @@ fn fetch_of(alloc: Global, call: &Call) -> Result<MethodFetch, SpellFault>
             let fetch = fetch(alloc, way.name, call)?;
             Ok(MethodFetch { fetch, by: way.by })
         }
-    }
-}
-
-fn fetch_fault(name: &[u8], fault: ArgFault) -> SpellFault
-    ensures { fetch_fault_by (fetch_way name.now) fault ≡ Err result }
-{
-    match fetch_way(name) {
-        None => SpellFault::Code(UNSUPPORTED),
-        Some(_) => form_fault(fault),
     }
 }
 
@@ -314,7 +315,7 @@ fn criterion_from(
                 by,
             })
         }
-        CallStep::Faulty { name, fault } => Err(fetch_fault(name.as_slice(), fault)),
+        CallStep::Faulty { name, fault } => Err(fault_of(fetch_way(name.as_slice()), fault)),
     }
 }
 

@@ -1,15 +1,15 @@
-use crate::fetch_table::{BareFetch, FetchName, HeaderFetch, NamedFetch};
+use crate::fetches::FetchName;
 use hx_text::By;
 
 /// The fetches that stand in names with a match method after them, as `path` in `path_beg` (HAProxy
 /// configuration manual 2.4, section 7.3.6).
 pub(crate) const DERIVED_FETCHES: [(&[u8], FetchName); 6] = [
-    (b"base", FetchName::Bare(BareFetch::Base)),
-    (b"cook", FetchName::Named(NamedFetch::Cook)),
-    (b"hdr", FetchName::Header(HeaderFetch::Hdr)),
-    (b"path", FetchName::Bare(BareFetch::Path)),
-    (b"url", FetchName::Bare(BareFetch::Url)),
-    (b"urlp", FetchName::Named(NamedFetch::UrlParam)),
+    (b"base", FetchName::Base),
+    (b"cook", FetchName::ReqCook),
+    (b"hdr", FetchName::ReqHdr),
+    (b"path", FetchName::Path),
+    (b"url", FetchName::Url),
+    (b"urlp", FetchName::UrlParam),
 ];
 
 /// The match methods in such names.

@@ -1,40 +1,25 @@
-ghost use Rattle.std.specs.Prelude.{◌≡◌, ◌∷◌, Err, IfOk, option_map};
+ghost use Rattle.std.specs.Prelude.{◌≡◌, ◌∷◌, IfOk};
 ghost use Rattle.hx_words.specs.Calls.{further_steps, steps_of};
 ghost use Rattle.hx_words.specs.StepView.{step_view};
 ghost use Rattle.hx_spell.specs.Codes.{AnswersAs};
 ghost use Rattle.hx_spell.specs.Criteria.{expr_of, expr_of_steps};
-ghost use Rattle.hx_spell.specs.Expressions.{call_meaning, fault_of};
+ghost use Rattle.hx_spell.specs.Expressions.{call_fault, conv_by_name, fetch_call};
 ghost use Rattle.hx_spell.specs.Formats.{rest_after};
 ghost use Rattle.hx_spell.specs.Known.{Extends, ReadsPart};
-ghost use Rattle.hx_spell.specs.Tables.{entry_at, fetch_table, conv_table};
-ghost use Rattle.hx_spell.specs.TableView.{fetch_maker, conv_maker};
+ghost use Rattle.hx_spell.specs.Tables.{entry_at, conv_names};
 
-use crate::conv_table::{CONVS, ConvName};
-use crate::convs::conv;
+use crate::convs::{conv, conv_name};
 use crate::criteria::{ConvsRead, convs_of};
 use crate::fault::{SpellFault, UNSUPPORTED, form_fault};
-use crate::fetch_table::{FETCHES, FetchName};
-use crate::fetches::fetch;
+use crate::fetches::{fetch, fetch_name};
 use crate::known::Knowledge;
-use crate::lookup::lookup;
 use hx_ast::{Conv, Expr, Fetch, Items};
 use hx_words::{ArgFault, Call, CallStep, laws, next_call};
 use std::alloc::Global;
 
-pub(crate) fn fetch_name(name: &[u8]) -> Option<FetchName>
-    ensures { entry_at fetch_table name.now ≡ option_map fetch_maker result }
-{
-    lookup(&FETCHES, name)
-}
-
-fn conv_name(name: &[u8]) -> Option<ConvName>
-    ensures { entry_at conv_table name.now ≡ option_map conv_maker result }
-{
-    lookup(&CONVS, name)
-}
-
 pub(crate) fn conv_of(alloc: Global, call: &Call) -> Result<Conv, SpellFault>
-    ensures { AnswersAs result (call_meaning conv_table call.now) }
+    ensures { AnswersAs result
+        (conv_by_name (entry_at conv_names call.now.name) call.now.args) }
 {
     match conv_name(call.name()) {
         None => Err(SpellFault::Code(UNSUPPORTED)),
@@ -42,30 +27,22 @@ pub(crate) fn conv_of(alloc: Global, call: &Call) -> Result<Conv, SpellFault>
     }
 }
 
-pub(crate) fn conv_fault(name: &[u8], fault: ArgFault) -> SpellFault
-    ensures { fault_of (entry_at conv_table name.now) fault ≡ Err result }
+/// The code of a call whose form is wrong, by whether its name is known.
+pub(crate) fn fault_of<T: Copy>(name: Option<T>, fault: ArgFault) -> SpellFault
+    ensures { result ≡ call_fault name fault }
 {
-    match conv_name(name) {
+    match name {
         None => SpellFault::Code(UNSUPPORTED),
         Some(_) => form_fault(fault),
     }
 }
 
 fn fetch_of(alloc: Global, call: &Call) -> Result<Fetch, SpellFault>
-    ensures { AnswersAs result (call_meaning fetch_table call.now) }
+    ensures { AnswersAs result (fetch_call call.now) }
 {
     match fetch_name(call.name()) {
         None => Err(SpellFault::Code(UNSUPPORTED)),
         Some(name) => fetch(alloc, name, call),
-    }
-}
-
-fn fetch_fault(name: &[u8], fault: ArgFault) -> SpellFault
-    ensures { fault_of (entry_at fetch_table name.now) fault ≡ Err result }
-{
-    match fetch_name(name) {
-        None => SpellFault::Code(UNSUPPORTED),
-        Some(_) => form_fault(fault),
     }
 }
 
@@ -108,7 +85,7 @@ fn expr_from<'a>(
                 rest,
             })
         }
-        CallStep::Faulty { name, fault } => Err(fetch_fault(name.as_slice(), fault)),
+        CallStep::Faulty { name, fault } => Err(fault_of(fetch_name(name.as_slice()), fault)),
     }
 }
 

@@ -3,7 +3,7 @@ ghost use Rattle.std.specs.List.{list_all, list_any};
 ghost use Rattle.hx_text.specs.Network.{mask_of, width_of};
 ghost use Rattle.hx_text.specs.Address.{ip_of};
 ghost use Rattle.hx_spell.specs.Values.{index_of, amount_of, digest_length_of, delimiters_of, header_of};
-ghost use Rattle.hx_spell.specs.Values.{hex_of, byte_of, boolean_of, flags_of, is_among};
+ghost use Rattle.hx_spell.specs.Values.{hex_of, byte_of, boolean_of, letters_of, is_among};
 ghost use Rattle.hx_spell.specs.Values.{ipv4_address_of, ipv6_address_of, ipv4_mask_of, ipv4_number};
 
 use hex::FromHexError;
@@ -113,24 +113,24 @@ pub(crate) fn is_among(bytes: &[u8], byte: u8) -> bool
     bytes.iter().any(|other| *other == byte)
 }
 
-fn are_flags(text: &[u8]) -> bool
+fn are_letters(text: &[u8]) -> bool
     ensures { result ≡ list_all (is_among (codes "gi")) text.now }
 {
     text.iter().all(|byte| is_among(b"gi", *byte))
 }
 
-fn has_flag(flag: &[u8], text: &[u8]) -> bool
-    ensures { result ≡ list_any (is_among flag.now) text.now }
+fn has_letter(letter: &[u8], text: &[u8]) -> bool
+    ensures { result ≡ list_any (is_among letter.now) text.now }
 {
-    text.iter().any(|byte| is_among(flag, *byte))
+    text.iter().any(|byte| is_among(letter, *byte))
 }
 
 /// Whether the flags of `regsub` have `g`, and whether they have `i`.
-pub(crate) fn flags(text: &[u8]) -> Option<(bool, bool)>
-    ensures { result ≡ flags_of text.now }
+pub(crate) fn letters(text: &[u8]) -> Option<(bool, bool)>
+    ensures { result ≡ letters_of text.now }
 {
-    if are_flags(text) {
-        Some((has_flag(b"g", text), has_flag(b"i", text)))
+    if are_letters(text) {
+        Some((has_letter(b"g", text), has_letter(b"i", text)))
     } else {
         None
     }

@@ -1,0 +1,233 @@
+-- The arguments of a call are read as what they write, by their parameters, and as nothing else.
+use Rattle.std.proofs.Common.{◌≡◌, ℕ, zero, suc, ◌+◌, ◌<◌, ◌≤◌, Bool, true, false, cond, List, [], ◌∷◌, length, Option, None, Some, Ok, Err, arith, refl, sym, ap, subst, inl, inr}
+use Rattle.std.specs.Prelude.{◌⊎◌, nat_le, Result, slice_get}
+use Rattle.std.specs.Option.{ok_or}
+use Rattle.std.proofs.lemmas.Bool.{leb-true, le-leb}
+use Rattle.hx_spell.specs.declared.fault.SpellFault.{SpellFault}
+use Rattle.hx_base.specs.Results.{◌>>=◌}
+use Rattle.hx_spell.specs.Arguments.{argument_fault, arguments, both, counted, given_from, given_of, is_count, least_count, made_by, read_form}
+use Rattle.hx_spell.specs.Codes.{bad_argument}
+use Rattle.hx_spell.specs.Forms.{AllGiven, Argument, Form, Given, Parameter, Row, WriteAll, WriteFrom, Writes, WritesParameter, WritesRow, applied}
+use Rattle.hx_spell.specs.Forms.Form.{HeaderName}
+use Rattle.hx_spell.specs.Forms.Parameter.{Required, Optional}
+use Rattle.hx_spell.specs.Values.{value_of}
+use Rattle.hx_spell.proofs.FormLemmas.{value_writes, writes_value}
+use Rattle.hx_spell.proofs.ResultLemmas.{Gives, and_then_ok, ok_or_is, then_gives, then_ok}
+use Rattle.hx_spell.proofs.ResultLemmas as results
+
+-- ---- one argument
+
+read_writes : (form : Form) (text : List ℕ) (given : Argument form) → read_form form text ≡ Ok given
+    → Writes form text given
+read_writes form text given is =
+    value_writes form text given (ok_or_is (value_of form text) (argument_fault form) given is)
+
+writes_read : (form : Form) (text : List ℕ) (given : Argument form) → Writes form text given
+    → read_form form text ≡ Ok given
+writes_read form text given writes =
+    ap (λ found. ok_or found (argument_fault form)) (writes_value form text given writes)
+
+pub parameter_writes : (parameter : Parameter) (arg : Option (List ℕ)) (given : Given parameter)
+    → given_of parameter arg ≡ Ok given → WritesParameter parameter arg given
+parameter_writes (Required form) None given is = absurd (let no : ⊥ = cc in no)
+parameter_writes (Required form) (Some text) given is = read_writes form text given is
+parameter_writes (Optional form) None given is = cc
+parameter_writes (Optional form) (Some text) None is =
+    let (x, read, same) = and_then_ok (read_form form text) (λ x. Ok (Some x)) None is in
+    absurd (let no : ⊥ = cc in no)
+parameter_writes (Optional form) (Some text) (Some given) is =
+    let (x, read, same) = and_then_ok (read_form form text) (λ x. Ok (Some x)) (Some given) is in
+    let found : x ≡ given = cc in
+    subst (λ (y : Argument form). Writes form text y) found (read_writes form text x read)
+
+pub writes_parameter : (parameter : Parameter) (arg : Option (List ℕ)) (given : Given parameter)
+    → WritesParameter parameter arg given → given_of parameter arg ≡ Ok given
+writes_parameter (Required form) None given writes = absurd writes
+writes_parameter (Required form) (Some text) given writes = writes_read form text given writes
+writes_parameter (Optional form) None given writes = ap (λ found. Ok found) (sym writes)
+writes_parameter (Optional form) (Some text) None writes = absurd writes
+writes_parameter (Optional form) (Some text) (Some given) writes =
+    then_ok (read_form form text) (λ x. Ok (Some x)) given (Some given)
+    (writes_read form text given writes) refl
+
+-- ---- all of them
+
+both_ok : {A B : Type 0} (first : Result A SpellFault) (other : Result B SpellFault) (x : A) (y : B)
+    → both first other ≡ Ok (x, y) → (first ≡ Ok x) × (other ≡ Ok y)
+both_ok {A} {B} (Ok a) (Ok b) x y is =
+    let same : (a, b) ≡ (x, y) = cc in (
+      ap (λ (p : A × B). Ok p.0) same,
+      ap (λ (p : A × B). Ok p.1) same,
+    )
+both_ok (Ok a) (Err fault) x y is = absurd (let no : ⊥ = cc in no)
+both_ok (Err fault) other x y is = absurd (let no : ⊥ = cc in no)
+
+from_writes : (parameters : List Parameter) (i : ℕ) (args : List (List ℕ))
+    (given : AllGiven parameters) → given_from parameters i args ≡ Ok given
+    → WriteFrom parameters i args given
+from_writes [] i args given is = tt
+from_writes (parameter ∷ parameters) i args (first, others) is =
+    let (one, later) =
+    both_ok (given_of parameter (slice_get args i)) (given_from parameters (suc i) args) first others
+    is in (
+      parameter_writes parameter (slice_get args i) first one,
+      from_writes parameters (suc i) args others later,
+    )
+
+writes_from : (parameters : List Parameter) (i : ℕ) (args : List (List ℕ))
+    (given : AllGiven parameters) → WriteFrom parameters i args given
+    → given_from parameters i args ≡ Ok given
+writes_from [] i args tt write = refl
+writes_from (parameter ∷ parameters) i args (first, others) (one, later) =
+    rw (writes_parameter parameter (slice_get args i) first one, writes_from parameters (suc i) args others later) refl
+
+-- an argument that is there lies within the list
+within : {A : Type 0} (xs : List A) (i : ℕ) (x : A) → slice_get xs i ≡ Some x → i < length xs
+within [] i x is = absurd (let no : ⊥ = cc in no)
+within (y ∷ xs) zero x is = omega arith
+within (y ∷ xs) (suc i) x is = let later = within xs i x is in omega (arith, later)
+
+required_within : (form : Form) (args : List (List ℕ)) (i : ℕ) (arg : Option (List ℕ))
+    (given : Argument form) → slice_get args i ≡ arg → WritesParameter (Required form) arg given
+    → i < length args
+required_within form args i None given is writes = absurd writes
+required_within form args i (Some text) given is writes = within args i text is
+
+-- as many arguments as have to be given are there
+enough : (parameters : List Parameter) (i : ℕ) (args : List (List ℕ)) (given : AllGiven parameters)
+    → WriteFrom parameters i args given
+    → (least_count parameters ≡ 0) ⊎ (least_count parameters + i ≤ length args)
+enough [] i args given write = inl refl
+enough (Required form ∷ parameters) i args (first, others) (one, later) =
+    let here = required_within form args i (slice_get args i) first refl one in
+    elim (enough parameters (suc i) args others later) [
+      | inl none ↦ inr (omega (arith, here, none))
+      | inr some ↦ inr (omega (arith, some))
+    ]
+enough (Optional form ∷ parameters) i args (first, others) (one, later) =
+    elim (enough parameters (suc i) args others later) [
+      | inl none ↦ inl none
+      | inr some ↦ inr (omega (arith, some))
+    ]
+
+at_least : (parameters : List Parameter) (args : List (List ℕ)) (given : AllGiven parameters)
+    → WriteFrom parameters 0 args given → least_count parameters ≤ length args
+at_least parameters args given write =
+    elim (enough parameters 0 args given write) [
+      | inl none ↦ omega (arith, none)
+      | inr some ↦ omega (arith, some)
+    ]
+
+pub counted_ok : {A : Type 0} (b : Bool) (read : Result A SpellFault) (x : A)
+    → cond b read (Err bad_argument) ≡ Ok x → (b ≡ true) × (read ≡ Ok x)
+counted_ok true read x is = (refl, is)
+counted_ok false read x is = absurd (let no : ⊥ = cc in no)
+
+pub arguments_write : (parameters : List Parameter) (args : List (List ℕ))
+    (given : AllGiven parameters) → arguments parameters args ≡ Ok given
+    → WriteAll parameters args given
+arguments_write parameters args given is =
+    let (count, read) =
+    counted_ok (is_count (least_count parameters) (length parameters) (length args))
+    (given_from parameters 0 args) given is in
+    let (least, most) =
+    results.both (nat_le (least_count parameters) (length args))
+    (nat_le (length args) (length parameters)) count in
+    record {
+      count = leb-true (length args) (length parameters) most;
+      each = from_writes parameters 0 args given read;
+    }
+
+pub write_arguments : (parameters : List Parameter) (args : List (List ℕ))
+    (given : AllGiven parameters) → WriteAll parameters args given
+    → arguments parameters args ≡ Ok given
+write_arguments parameters args given w =
+    rw (
+      le-leb (least_count parameters) (length args) (at_least parameters args given w.each),
+      le-leb (length args) (length parameters) w.count,
+    ) (writes_from parameters 0 args given w.each)
+
+-- ---- rows
+
+pub row_writes : {A : Type 0} (row : Row A) (args : List (List ℕ)) (made : A)
+    → made_by row args ≡ Ok made → WritesRow row args made
+row_writes {A} row args made is =
+    let (given, read, same) =
+    and_then_ok (arguments row.parameters args)
+    (λ given. Ok (applied row.parameters row.make given)) made is in
+    record {
+      given = given;
+      written = arguments_write row.parameters args given read;
+      is = cc;
+    }
+
+pub writes_row : {A : Type 0} (row : Row A) (args : List (List ℕ)) (made : A)
+    → WritesRow row args made → made_by row args ≡ Ok made
+writes_row row args made w =
+    then_ok (arguments row.parameters args) (λ given. Ok (applied row.parameters row.make given))
+    w.given made (write_arguments row.parameters args w.given w.written)
+    (ap (λ x. Ok x) (sym w.is))
+
+-- ---- codes
+
+fault_coded : {A : Type 0} (P : A → Type 0) (form : Form) → Gives P (Err (argument_fault form))
+fault_coded P HeaderName = tt
+fault_coded P _ = tt
+
+found_coded : {A : Type 0} (P : A → Type 0) (form : Form) (found : Option A)
+    → ((x : A) → found ≡ Some x → P x) → Gives P (ok_or found (argument_fault form))
+found_coded P form None such = fault_coded P form
+found_coded P form (Some x) such = such x refl
+
+pub parameter_gives : (parameter : Parameter) (arg : Option (List ℕ))
+    → Gives (λ given. WritesParameter parameter arg given) (given_of parameter arg)
+parameter_gives (Required form) None = tt
+parameter_gives (Required form) (Some text) =
+    found_coded (λ given. Writes form text given) form (value_of form text)
+    (λ given is. value_writes form text given is)
+parameter_gives (Optional form) None = refl
+parameter_gives (Optional form) (Some text) =
+    then_gives (λ given. Writes form text given)
+    (λ given. WritesParameter (Optional form) (Some text) given) (read_form form text)
+    (λ given. Ok (Some given))
+    (found_coded (λ given. Writes form text given) form (value_of form text)
+    (λ given is. value_writes form text given is)) (λ given writes. writes)
+
+from_gives : (parameters : List Parameter) (i : ℕ) (args : List (List ℕ))
+    → Gives (λ given. WriteFrom parameters i args given) (given_from parameters i args)
+from_gives [] i args = tt
+from_gives (parameter ∷ parameters) i args =
+    then_gives (λ first. WritesParameter parameter (slice_get args i) first)
+    (λ given. WriteFrom (parameter ∷ parameters) i args given)
+    (given_of parameter (slice_get args i))
+    (λ first. given_from parameters (suc i) args >>= (λ others. Ok (first, others)))
+    (parameter_gives parameter (slice_get args i))
+    (λ first one. then_gives (λ others. WriteFrom parameters (suc i) args others)
+    (λ given. WriteFrom (parameter ∷ parameters) i args given)
+    (given_from parameters (suc i) args) (λ others. Ok (first, others))
+    (from_gives parameters (suc i) args) (λ others later. (one, later)))
+
+by_count : {A : Type 0} (P : A → Type 0) (b : Bool) (read : Result A SpellFault)
+    → Gives P read → Gives P (cond b read (Err bad_argument))
+by_count P true read such = such
+by_count P false read such = tt
+
+pub counted_gives : {A : Type 0} (P : A → Type 0) (least most : ℕ) (args : List (List ℕ))
+    (read : Result A SpellFault) → Gives P read → Gives P (counted least most args read)
+counted_gives P least most args read such = by_count P (is_count least most (length args)) read such
+
+-- whatever the row makes of what its forms allow is such
+abbrev pub MakesSuch : {A : Type 0} → (A → Type 0) → Row A → Type 0
+MakesSuch P row =
+    (args : List (List ℕ)) (given : AllGiven row.parameters) → WriteFrom row.parameters 0 args given
+    → P (applied row.parameters row.make given)
+
+pub row_gives : {A : Type 0} (P : A → Type 0) (row : Row A) → MakesSuch P row
+    → (args : List (List ℕ)) → Gives P (made_by row args)
+row_gives P row such args =
+    then_gives (λ given. WriteFrom row.parameters 0 args given) P (arguments row.parameters args)
+    (λ given. Ok (applied row.parameters row.make given))
+    (counted_gives (λ given. WriteFrom row.parameters 0 args given) (least_count row.parameters)
+    (length row.parameters) args (given_from row.parameters 0 args)
+    (from_gives row.parameters 0 args))
+    (λ given write. such args given write)
