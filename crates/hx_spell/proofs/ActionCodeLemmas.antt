@@ -27,16 +27,12 @@ use Rattle.hx_spell.specs.Known.{Known, Reading}
 use Rattle.hx_spell.specs.Tables.{entry_at}
 use Rattle.hx_spell.specs.Values.{header_of, variable_name_of}
 use Rattle.hx_spell.proofs.ActionSteps.{drop_query}
-use Rattle.hx_spell.proofs.ArgumentLemmas.{counted_gives}
+use Rattle.hx_spell.proofs.ArgumentLemmas.{counted_coded}
 use Rattle.hx_spell.proofs.CriterionFormLemmas.{EachEntry, entry_such, fault_gives, file_coded}
 use Rattle.hx_spell.proofs.ExpressionCodeLemmas.{expr_coded, format_coded}
 use Rattle.hx_spell.proofs.ResultLemmas.{IsCoded, found_coded, tested_coded, then_coded}
 
 -- ---- the word of an action
-
-counted_coded : {A : Type 0} (least most : ℕ) (args : List (List ℕ)) (read : Result A SpellFault)
-    → IsCoded read → IsCoded (counted least most args read)
-counted_coded least most args read is = counted_gives (λ x. Unit {0}) least most args read is
 
 abbrev MakesCoded : HeadMaker → Type 0
 MakesCoded make = (line : ℕ) (args : List (List ℕ)) (known : Known) → IsCoded (make line args known)

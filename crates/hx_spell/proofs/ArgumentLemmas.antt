@@ -4,7 +4,6 @@ use Rattle.std.specs.Prelude.{◌⊎◌, nat_le, Result, slice_get}
 use Rattle.std.specs.Option.{ok_or}
 use Rattle.std.proofs.lemmas.Bool.{leb-true, le-leb}
 use Rattle.hx_spell.specs.declared.fault.SpellFault.{SpellFault}
-use Rattle.hx_base.specs.Results.{◌>>=◌}
 use Rattle.hx_spell.specs.Arguments.{argument_fault, arguments, both, counted, given_from, given_of, is_count, least_count, made_by, read_form}
 use Rattle.hx_spell.specs.Codes.{bad_argument}
 use Rattle.hx_spell.specs.Forms.{AllGiven, Argument, Form, Given, Parameter, Row, WriteAll, WriteFrom, Writes, WritesParameter, WritesRow, applied}
@@ -12,7 +11,7 @@ use Rattle.hx_spell.specs.Forms.Form.{HeaderName}
 use Rattle.hx_spell.specs.Forms.Parameter.{Required, Optional}
 use Rattle.hx_spell.specs.Values.{value_of}
 use Rattle.hx_spell.proofs.FormLemmas.{value_writes, writes_value}
-use Rattle.hx_spell.proofs.ResultLemmas.{Gives, and_then_ok, ok_or_is, then_gives, then_ok}
+use Rattle.hx_spell.proofs.ResultLemmas.{IsCoded, and_then_ok, ok_or_is, tested_coded, then_coded, then_ok}
 use Rattle.hx_spell.proofs.ResultLemmas as results
 
 -- ---- one argument
@@ -170,64 +169,39 @@ writes_row row args made w =
 
 -- ---- codes
 
-fault_coded : {A : Type 0} (P : A → Type 0) (form : Form) → Gives P (Err (argument_fault form))
-fault_coded P HeaderName = tt
-fault_coded P _ = tt
+fault_coded : (A : Type 0) (form : Form) → IsCoded {A = A} (Err (argument_fault form))
+fault_coded A HeaderName = tt
+fault_coded A _ = tt
 
-found_coded : {A : Type 0} (P : A → Type 0) (form : Form) (found : Option A)
-    → ((x : A) → found ≡ Some x → P x) → Gives P (ok_or found (argument_fault form))
-found_coded P form None such = fault_coded P form
-found_coded P form (Some x) such = such x refl
+value_coded : {A : Type 0} (form : Form) (found : Option A)
+    → IsCoded (ok_or found (argument_fault form))
+value_coded {A} form None = fault_coded A form
+value_coded form (Some x) = tt
 
-pub parameter_gives : (parameter : Parameter) (arg : Option (List ℕ))
-    → Gives (λ given. WritesParameter parameter arg given) (given_of parameter arg)
-parameter_gives (Required form) None = tt
-parameter_gives (Required form) (Some text) =
-    found_coded (λ given. Writes form text given) form (value_of form text)
-    (λ given is. value_writes form text given is)
-parameter_gives (Optional form) None = refl
-parameter_gives (Optional form) (Some text) =
-    then_gives (λ given. Writes form text given)
-    (λ given. WritesParameter (Optional form) (Some text) given) (read_form form text)
-    (λ given. Ok (Some given))
-    (found_coded (λ given. Writes form text given) form (value_of form text)
-    (λ given is. value_writes form text given is)) (λ given writes. writes)
+pub parameter_coded : (parameter : Parameter) (arg : Option (List ℕ))
+    → IsCoded (given_of parameter arg)
+parameter_coded (Required form) None = tt
+parameter_coded (Required form) (Some text) = value_coded form (value_of form text)
+parameter_coded (Optional form) None = tt
+parameter_coded (Optional form) (Some text) =
+    then_coded (read_form form text) _ (value_coded form (value_of form text)) (λ given. tt)
 
-from_gives : (parameters : List Parameter) (i : ℕ) (args : List (List ℕ))
-    → Gives (λ given. WriteFrom parameters i args given) (given_from parameters i args)
-from_gives [] i args = tt
-from_gives (parameter ∷ parameters) i args =
-    then_gives (λ first. WritesParameter parameter (slice_get args i) first)
-    (λ given. WriteFrom (parameter ∷ parameters) i args given)
-    (given_of parameter (slice_get args i))
-    (λ first. given_from parameters (suc i) args >>= (λ others. Ok (first, others)))
-    (parameter_gives parameter (slice_get args i))
-    (λ first one. then_gives (λ others. WriteFrom parameters (suc i) args others)
-    (λ given. WriteFrom (parameter ∷ parameters) i args given)
-    (given_from parameters (suc i) args) (λ others. Ok (first, others))
-    (from_gives parameters (suc i) args) (λ others later. (one, later)))
+from_coded : (parameters : List Parameter) (i : ℕ) (args : List (List ℕ))
+    → IsCoded (given_from parameters i args)
+from_coded [] i args = tt
+from_coded (parameter ∷ parameters) i args =
+    then_coded (given_of parameter (slice_get args i)) _
+    (parameter_coded parameter (slice_get args i))
+    (λ first. then_coded (given_from parameters (suc i) args) _ (from_coded parameters (suc i) args)
+    (λ others. tt))
 
-by_count : {A : Type 0} (P : A → Type 0) (b : Bool) (read : Result A SpellFault)
-    → Gives P read → Gives P (cond b read (Err bad_argument))
-by_count P true read such = such
-by_count P false read such = tt
+pub counted_coded : {A : Type 0} (least most : ℕ) (args : List (List ℕ))
+    (read : Result A SpellFault) → IsCoded read → IsCoded (counted least most args read)
+counted_coded least most args read is =
+    tested_coded (is_count least most (length args)) read (Err bad_argument) is tt
 
-pub counted_gives : {A : Type 0} (P : A → Type 0) (least most : ℕ) (args : List (List ℕ))
-    (read : Result A SpellFault) → Gives P read → Gives P (counted least most args read)
-counted_gives P least most args read such = by_count P (is_count least most (length args)) read such
-
--- whatever the row makes of what its forms allow is such
-abbrev pub MakesSuch : {A : Type 0} → (A → Type 0) → Row A → Type 0
-MakesSuch P row =
-    (args : List (List ℕ)) (given : AllGiven row.parameters) → WriteFrom row.parameters 0 args given
-    → P (applied row.parameters row.make given)
-
-pub row_gives : {A : Type 0} (P : A → Type 0) (row : Row A) → MakesSuch P row
-    → (args : List (List ℕ)) → Gives P (made_by row args)
-row_gives P row such args =
-    then_gives (λ given. WriteFrom row.parameters 0 args given) P (arguments row.parameters args)
-    (λ given. Ok (applied row.parameters row.make given))
-    (counted_gives (λ given. WriteFrom row.parameters 0 args given) (least_count row.parameters)
-    (length row.parameters) args (given_from row.parameters 0 args)
-    (from_gives row.parameters 0 args))
-    (λ given write. such args given write)
+pub row_coded : {A : Type 0} (row : Row A) (args : List (List ℕ)) → IsCoded (made_by row args)
+row_coded row args =
+    then_coded (arguments row.parameters args) _
+    (counted_coded (least_count row.parameters) (length row.parameters) args
+    (given_from row.parameters 0 args) (from_coded row.parameters 0 args)) (λ given. tt)

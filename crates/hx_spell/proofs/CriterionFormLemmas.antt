@@ -1,14 +1,10 @@
--- What is read of a criterion is such as the syntax allows, or is refused by a code.
-use Rattle.std.proofs.Common.{◌≡◌, ◌≢◌, ℕ, Bool, true, false, cond, List, [], ◌∷◌, length, Option, None, Some, Ok, Err, refl, ap}
-use Rattle.std.specs.Prelude.{Result, IfSome, nat_lt, option_map, option_and_then, slice_get}
+-- What is no criterion is refused by a code, and what is one is such as the syntax allows.
+use Rattle.std.proofs.Common.{◌≡◌, ◌≢◌, ℕ, Bool, true, false, cond, List, [], ◌∷◌, length, Option, None, Some, Ok, Err, refl, sym, ap, subst}
+use Rattle.std.specs.Prelude.{Result, IfSome, nat_lt, slice_get}
 use Rattle.std.specs.List.{AllByRecursion, list_all}
-use Rattle.std.specs.Option.{option_map_or, option_or}
+use Rattle.std.specs.Option.{option_map_or}
 use Rattle.std.specs.Str.{bytes_eq}
 use Rattle.std.proofs.lemmas.List.Elements.{All-from_recursion}
-use Rattle.hx_base.specs.Bytes.{ascii}
-use Rattle.hx_text.specs.Cut.{cut_of}
-use Rattle.hx_text.specs.declared.By.{By}
-use Rattle.hx_text.specs.declared.Out.{Out}
 use Rattle.hx_words.specs.CallForm.{CallForm}
 use Rattle.hx_words.specs.Calls.{Step, calls_of_steps, longer_calls}
 use Rattle.hx_words.specs.Calls.Step.{Last, More, Faulty}
@@ -16,26 +12,23 @@ use Rattle.hx_words.specs.declared.ArgFault.{ArgFault}
 use Rattle.hx_words.specs.declared.ArgFault.TheVariants as arg
 use Rattle.hx_ast.specs.declared.Conv.{Conv}
 use Rattle.hx_spell.specs.declared.convs.ConvName.{ConvName}
-use Rattle.hx_spell.specs.declared.fetches.FetchName.{FetchName}
-use Rattle.hx_ast.specs.Acls.{takes_patterns}
-use Rattle.hx_ast.specs.Convs.{IsConv, IsExpr, IsReadableAs, is_map_method}
+use Rattle.hx_ast.specs.Convs.{IsConv, IsExpr, is_map_method}
 use Rattle.hx_ast.specs.Fetches.{IsFetch}
 use Rattle.hx_spell.specs.declared.fault.SpellFault.{SpellFault}
-use Rattle.hx_base.specs.Results.{◌>>=◌}
-use Rattle.hx_spell.specs.Arguments.{given_of, optional, read_form, required}
+use Rattle.hx_spell.specs.Arguments.{optional, read_form, required}
 use Rattle.hx_spell.specs.Codes.{form_fault}
-use Rattle.hx_spell.specs.Criteria.{Criterion, FetchWay, MapWay, MethodFetch, conv_by, conv_call, conv_fault, convs_after, criterion, criterion_of_steps, derived_fetches, derived_methods, derived_of_parts, fetch_by, fetch_way, map_arguments, map_table, way_with}
+use Rattle.hx_spell.specs.Criteria.{Criterion, FetchWay, MapWay, MethodFetch, conv_by, conv_call, convs_after, criterion_of_steps, fetch_by, fetch_way, map_arguments, map_table}
+use Rattle.hx_spell.specs.ExpressionRelation.{WriteConvs, WritesConvBy, WritesCriterion}
 use Rattle.hx_spell.specs.Expressions.{call_fault, conv_by_name, fetch_made}
-use Rattle.hx_spell.specs.Forms.{WritesParameter}
 use Rattle.hx_spell.specs.Forms.Form.{ValueOfMap}
 use Rattle.hx_spell.specs.Forms.Parameter.{Optional}
 use Rattle.hx_spell.specs.Known.{Known, Reading, ReferenceForm, has_columns, most_references, reference_form, with_file, with_named_file, with_reference, reading}
-use Rattle.hx_spell.specs.Tables.{Table, conv_names, entry_at, fetch_names}
-use Rattle.hx_spell.proofs.ArgumentLemmas.{counted_gives, parameter_gives}
+use Rattle.hx_spell.specs.Tables.{Table, conv_names, entry_at}
+use Rattle.hx_spell.proofs.ArgumentLemmas.{counted_coded, parameter_coded}
 use Rattle.hx_spell.proofs.CallTextLemmas.{IsReading}
 use Rattle.hx_spell.proofs.KnownLemmas.{file_or_new}
-use Rattle.hx_spell.proofs.ResultLemmas.{Gives, IsCoded, both, gives_also, tested_coded, then_coded, then_gives}
-use Rattle.hx_spell.proofs.TableFormLemmas.{IsPlainConv, conv_name_gives, fetch_gives, parameter_allowed}
+use Rattle.hx_spell.proofs.ResultLemmas.{Gives, IsCoded, both, tested_coded, then_coded}
+use Rattle.hx_spell.proofs.TableFormLemmas.{conv_name_coded, conv_written, fetch_coded, fetch_written, parameter_allowed}
 
 -- ---- references
 
@@ -99,51 +92,28 @@ each_map = each_passes (λ (way : MapWay). is_map_method way.by) map_table refl
 pub map_entry : (name : List ℕ) → IfSome (entry_at map_table name) IsMapWay
 map_entry name = entry_such IsMapWay map_table each_map name
 
--- a default can be read as a value
-pub default_gives : (out : Out) (arg : Option (List ℕ))
-    → Gives (λ text. IfSome text (IsReadableAs out)) (optional (read_form (ValueOfMap out)) arg)
-default_gives out arg =
-    gives_also (λ text. WritesParameter (Optional (ValueOfMap out)) arg text)
-    (λ text. IfSome text (IsReadableAs out)) (given_of (Optional (ValueOfMap out)) arg)
-    (parameter_gives (Optional (ValueOfMap out)) arg)
-    (λ text writes. parameter_allowed (Optional (ValueOfMap out)) arg text writes)
-
--- the converter that is read is such
-abbrev pub ReadsConv : Reading Conv → Type 0
-ReadsConv read = IsConv read.value
-
 map_file_coded : (line : ℕ) (name : Option (List ℕ)) (known : Known)
     → IsCoded (required (λ name. with_named_file line name true known) name)
 map_file_coded line None known = tt
 map_file_coded line (Some name) known = named_file_coded line name true known
 
-map_gives : (line : ℕ) (way : MapWay) → IsMapWay way → (args : List (List ℕ)) (known : Known)
-    → Gives ReadsConv (map_arguments line way args known)
-map_gives line way such args known =
-    counted_gives ReadsConv 1 2 args _
-    (then_gives (λ file. Unit {0}) ReadsConv
-    (required (λ name. with_named_file line name true known) (slice_get args 0)) _
+map_coded : (line : ℕ) (way : MapWay) (args : List (List ℕ)) (known : Known)
+    → IsCoded (map_arguments line way args known)
+map_coded line way args known =
+    counted_coded 1 2 args _
+    (then_coded (required (λ name. with_named_file line name true known) (slice_get args 0)) _
     (map_file_coded line (slice_get args 0) known)
-    (λ file any. then_gives (λ v. IfSome v (IsReadableAs way.out)) ReadsConv
-    (optional (read_form (ValueOfMap way.out)) (slice_get args 1)) _
-    (default_gives way.out (slice_get args 1))
-    (λ default readable. record { method = such; default = readable })))
+    (λ file. then_coded (optional (read_form (ValueOfMap way.out)) (slice_get args 1)) _
+    (parameter_coded (Optional (ValueOfMap way.out)) (slice_get args 1)) (λ default. tt)))
 
 -- ---- converters
 
-conv_by_gives : (line : ℕ) (way : Option MapWay) → IfSome way IsMapWay → (call : CallForm)
-    (known : Known) → Gives ReadsConv (conv_by line way call known)
-conv_by_gives line (Some way) such call known = map_gives line way such call.args known
-conv_by_gives line None such call known =
-    then_gives IsPlainConv ReadsConv (conv_by_name (entry_at conv_names call.name) call.args)
-    (λ c. Ok (reading c known)) (conv_name_gives (entry_at conv_names call.name) call.args)
-    (λ c plain. plain.0)
-
-conv_call_gives : (line : ℕ) (call : CallForm) (known : Known)
-    → Gives ReadsConv (conv_call line call known)
-conv_call_gives line call known =
-    conv_by_gives line (entry_at map_table call.name)
-    (map_entry call.name) call known
+conv_by_coded : (line : ℕ) (way : Option MapWay) (call : CallForm) (known : Known)
+    → IsCoded (conv_by line way call known)
+conv_by_coded line (Some way) call known = map_coded line way call.args known
+conv_by_coded line None call known =
+    then_coded (conv_by_name (entry_at conv_names call.name) call.args) _
+    (conv_name_coded (entry_at conv_names call.name) call.args) (λ c. tt)
 
 pub fault_gives : {A : Type 0} (P : A → Type 0) (fault : ArgFault) → fault ≢ arg.NoMemory
     → Gives P (Err (form_fault fault))
@@ -158,130 +128,113 @@ pub call_fault_gives : {A N : Type 0} (P : A → Type 0) (name : Option N) (faul
 call_fault_gives P None fault never = tt
 call_fault_gives P (Some name) fault never = fault_gives P fault never
 
-by_way_gives : {A : Type 0} (P : A → Type 0) (way : Option MapWay) (name : Option ConvName)
-    (fault : ArgFault) → fault ≢ arg.NoMemory
-    → Gives P (Err (option_map_or (λ w. form_fault fault) way (call_fault name fault)))
-by_way_gives P (Some way) name fault never = fault_gives P fault never
-by_way_gives P None name fault never = call_fault_gives P name fault never
-
-conv_fault_gives : {A : Type 0} (P : A → Type 0) (name : List ℕ) (fault : ArgFault)
-    → fault ≢ arg.NoMemory → Gives P (Err (conv_fault name fault))
-conv_fault_gives P name fault never =
-    by_way_gives P (entry_at map_table name) (entry_at conv_names name) fault never
-
-abbrev pub ReadsConvs : Reading (List Conv) → Type 0
-ReadsConvs read = AllByRecursion IsConv read.value
+by_way_coded : (way : Option MapWay) (name : Option ConvName) (fault : ArgFault)
+    → fault ≢ arg.NoMemory → IsCoded {A = Reading (List Conv)}
+    (Err (option_map_or (λ w. form_fault fault) way (call_fault name fault)))
+by_way_coded (Some way) name fault never =
+    fault_gives (λ (convs : Reading (List Conv)). Unit {0}) fault never
+by_way_coded None name fault never =
+    call_fault_gives (λ (convs : Reading (List Conv)). Unit {0}) name fault never
 
 abbrev pub with_first : Reading Conv → Reading (List Conv) → Result (Reading (List Conv)) SpellFault
 with_first first others =
     Ok (record { value = first.value ∷ others.value; known = others.known })
 
-pub none_gives : (line : ℕ) (steps : List Step) (known : Known) → steps ≡ []
-    → Gives ReadsConvs (convs_after line steps known)
-none_gives line [] known is = tt
-none_gives line (step ∷ steps) known is = absurd (let never : ⊥ = cc in never)
+none_coded : (line : ℕ) (steps : List Step) (known : Known) → steps ≡ []
+    → IsCoded (convs_after line steps known)
+none_coded line [] known is = tt
+none_coded line (step ∷ steps) known is = absurd (let never : ⊥ = cc in never)
 
-first_gives : (line : ℕ) (steps : List Step) (read : Result (Reading Conv) SpellFault)
-    → Gives ReadsConv read → ((known : Known) → Gives ReadsConvs (convs_after line steps known))
-    → Gives ReadsConvs
-    (read >>= (λ first. convs_after line steps first.known >>= (λ others. with_first first others)))
-first_gives line steps read such later =
-    then_gives ReadsConv ReadsConvs read _ such
-    (λ first fits. then_gives ReadsConvs ReadsConvs (convs_after line steps first.known)
-    (with_first first) (later first.known) (λ others all. (fits, all)))
+first_coded : (line : ℕ) (call : CallForm) (steps : List Step) (known : Known)
+    → ((known : Known) → IsCoded (convs_after line steps known))
+    → IsCoded (convs_after line (Last call [] ∷ steps) known)
+first_coded line call steps known later =
+    then_coded (conv_call line call known) _
+    (conv_by_coded line (entry_at map_table call.name) call known)
+    (λ first. then_coded (convs_after line steps first.known) _ (later first.known) (λ others. tt))
 
-pub convs_give : (line : ℕ) (steps : List Step) (known : Known) → IsReading steps
-    → calls_of_steps steps ≢ Err arg.NoMemory → Gives ReadsConvs (convs_after line steps known)
-convs_give line [] known reading never = tt
-convs_give line (Last call rest ∷ steps) known reading never =
-    first_gives line steps (conv_call line call known) (conv_call_gives line call known)
-    (λ k. none_gives line steps k reading)
-convs_give line (More call rest ∷ steps) known reading never =
-    first_gives line steps (conv_call line call known) (conv_call_gives line call known)
-    (λ k. convs_give line steps k reading (λ is. never (ap (λ r. longer_calls call r) is)))
-convs_give line (Faulty name fault ∷ steps) known reading never =
-    conv_fault_gives ReadsConvs name fault (λ is. never (ap (λ f. Err f) is))
+convs_coded : (line : ℕ) (steps : List Step) (known : Known) → IsReading steps
+    → calls_of_steps steps ≢ Err arg.NoMemory → IsCoded (convs_after line steps known)
+convs_coded line [] known reading never = tt
+convs_coded line (Last call rest ∷ steps) known reading never =
+    first_coded line call steps known (λ k. none_coded line steps k reading)
+convs_coded line (More call rest ∷ steps) known reading never =
+    first_coded line call steps known
+    (λ k. convs_coded line steps k reading (λ is. never (ap (λ r. longer_calls call r) is)))
+convs_coded line (Faulty name fault ∷ steps) known reading never =
+    by_way_coded (entry_at map_table name) (entry_at conv_names name) fault
+    (λ is. never (ap (λ f. Err f) is))
 
--- ---- fetches
+-- the converters that follow a call
+pub later_coded : (line : ℕ) (call : CallForm) (rest : List ℕ) (steps : List Step) (known : Known)
+    → IsReading (More call rest ∷ steps)
+    → calls_of_steps (More call rest ∷ steps) ≢ Err arg.NoMemory
+    → IsCoded (convs_after line steps known)
+later_coded line call rest steps known reading never =
+    convs_coded line steps known reading (λ is. never (ap (λ r. longer_calls call r) is))
 
-abbrev pub TakesPatterns : By → Type 0
-TakesPatterns by = takes_patterns by ≡ true
-
-abbrev IsMethodFetch : MethodFetch → Type 0
-IsMethodFetch found = IsFetch found.fetch × IfSome found.by TakesPatterns
-
-each_method : EachEntry TakesPatterns derived_methods
-unfolding derived_methods
-each_method = each_passes takes_patterns derived_methods refl
-
--- the method in a name takes patterns
-abbrev HasPatternMethod : FetchWay → Type 0
-HasPatternMethod way = IfSome way.by TakesPatterns
-
-both_such : (name : Option FetchName) (by : Option By) → IfSome by TakesPatterns
-    → IfSome (option_and_then (λ name. option_map (λ by. way_with (Some by) name) by) name)
-    HasPatternMethod
-both_such None by takes = tt
-both_such (Some name) None takes = tt
-both_such (Some name) (Some by) takes = takes
-
-parts_such : (parts : Option (List ℕ × List ℕ))
-    → IfSome (option_and_then derived_of_parts parts) HasPatternMethod
-parts_such None = tt
-parts_such (Some parts) =
-    both_such (entry_at derived_fetches parts.0) (entry_at derived_methods parts.1)
-    (entry_such TakesPatterns derived_methods each_method parts.1)
-
-way_by : (name : List ℕ) (found : Option FetchName)
-    → IfSome (option_or (option_map (way_with None) found)
-    (option_and_then derived_of_parts (cut_of (ascii "_") name))) HasPatternMethod
-way_by name None = parts_such (cut_of (ascii "_") name)
-way_by name (Some found) = tt
-
-way_such : (name : List ℕ) → IfSome (fetch_way name) HasPatternMethod
-way_such name = way_by name (entry_at fetch_names name)
-
-fetch_by_gives : (way : Option FetchWay) → IfSome way HasPatternMethod → (args : List (List ℕ))
-    → Gives IsMethodFetch (fetch_by way args)
-fetch_by_gives None such args = tt
-fetch_by_gives (Some way) such args =
-    then_gives IsFetch IsMethodFetch (fetch_made way.name args) _ (fetch_gives way.name args)
-    (λ f fits. (fits, such))
-
-named_gives : (call : CallForm) → Gives IsMethodFetch (fetch_by (fetch_way call.name) call.args)
-named_gives call = fetch_by_gives (fetch_way call.name) (way_such call.name) call.args
+pub last_coded : (line : ℕ) (call : CallForm) (rest : List ℕ) (steps : List Step) (known : Known)
+    → IsReading (Last call rest ∷ steps) → IsCoded (convs_after line steps known)
+last_coded line call rest steps known reading = none_coded line steps known reading
 
 -- ---- criteria
 
--- the criterion that is read is such: its expression is one, and its method takes patterns
-abbrev pub ReadsCriterion : Reading Criterion → Type 0
-ReadsCriterion read = IsExpr read.value.expr × IfSome read.value.by TakesPatterns
+fetch_by_coded : (way : Option FetchWay) (args : List (List ℕ)) → IsCoded (fetch_by way args)
+fetch_by_coded None args = tt
+fetch_by_coded (Some way) args =
+    then_coded (fetch_made way.name args) _ (fetch_coded way.name args) (λ f. tt)
 
-criterion_such : (found : MethodFetch) (convs : Reading (List Conv)) → IsMethodFetch found
-    → ReadsConvs convs → ReadsCriterion (criterion found convs)
-criterion_such found convs such all = (
-  record { fetch = such.0; convs = All-from_recursion IsConv convs.value all },
-  such.1,
-)
+with_convs_coded : (line : ℕ) (steps : List Step) (known : Known) (call : CallForm)
+    → IsCoded (convs_after line steps known)
+    → IsCoded (criterion_of_steps line (Last call [] ∷ steps) known)
+with_convs_coded line steps known call later =
+    then_coded (fetch_by (fetch_way call.name) call.args) _
+    (fetch_by_coded (fetch_way call.name) call.args)
+    (λ first. then_coded (convs_after line steps known) _ later (λ convs. tt))
 
-with_convs_give : (line : ℕ) (steps : List Step) (known : Known) (call : CallForm)
-    → Gives ReadsConvs (convs_after line steps known)
-    → Gives ReadsCriterion (fetch_by (fetch_way call.name) call.args >>= (λ first.
-    convs_after line steps known >>= (λ convs. Ok (criterion first convs))))
-with_convs_give line steps known call later =
-    then_gives IsMethodFetch ReadsCriterion (fetch_by (fetch_way call.name) call.args) _
-    (named_gives call)
-    (λ first such. then_gives ReadsConvs ReadsCriterion (convs_after line steps known) _ later
-    (λ convs all. criterion_such first convs such all))
+pub steps_coded : (line : ℕ) (steps : List Step) (known : Known) → IsReading steps
+    → calls_of_steps steps ≢ Err arg.NoMemory → IsCoded (criterion_of_steps line steps known)
+steps_coded line [] known reading never = tt
+steps_coded line (Last call rest ∷ steps) known reading never =
+    with_convs_coded line steps known call (last_coded line call rest steps known reading)
+steps_coded line (More call rest ∷ steps) known reading never =
+    with_convs_coded line steps known call (later_coded line call rest steps known reading never)
+steps_coded line (Faulty name fault ∷ steps) known reading never =
+    call_fault_gives (λ (read : Reading Criterion). Unit {0}) (fetch_way name) fault
+    (λ is. never (ap (λ f. Err f) is))
 
-pub steps_give : (line : ℕ) (steps : List Step) (known : Known) → IsReading steps
-    → calls_of_steps steps ≢ Err arg.NoMemory
-    → Gives ReadsCriterion (criterion_of_steps line steps known)
-steps_give line [] known reading never = tt
-steps_give line (Last call rest ∷ steps) known reading never =
-    with_convs_give line steps known call (none_gives line steps known reading)
-steps_give line (More call rest ∷ steps) known reading never =
-    with_convs_give line steps known call
-    (convs_give line steps known reading (λ is. never (ap (λ r. longer_calls call r) is)))
-steps_give line (Faulty name fault ∷ steps) known reading never =
-    call_fault_gives ReadsCriterion (fetch_way name) fault (λ is. never (ap (λ f. Err f) is))
+-- ---- what is written
+
+conv_by_such : (line : ℕ) (way : Option MapWay) → IfSome way IsMapWay → (before : Known)
+    (call : CallForm) (read : Reading Conv) → WritesConvBy line way before call read
+    → IsConv read.value
+conv_by_such line (Some way) such before call read w =
+    subst (λ (r : Reading Conv). IsConv r.value) (sym w.is) (record {
+      method = such;
+      default = parameter_allowed (Optional (ValueOfMap way.out)) (slice_get w.others 0) w.default
+          w.written.each.0;
+    })
+conv_by_such line None such before call read w =
+    subst (λ (r : Reading Conv). IsConv r.value) (sym w.is)
+    (conv_written w.name call.args w.conv w.written).0
+
+convs_such : (line : ℕ) (before : Known) (calls : List CallForm) (convs : Reading (List Conv))
+    → WriteConvs line before calls convs → AllByRecursion IsConv convs.value
+convs_such line before [] convs is =
+    subst (λ (c : Reading (List Conv)). AllByRecursion IsConv c.value) (sym is) tt
+convs_such line before (call ∷ calls) convs (first, others, is, writes, write) =
+    subst (λ (c : Reading (List Conv)). AllByRecursion IsConv c.value) (sym is) (
+      conv_by_such line (entry_at map_table call.name) (map_entry call.name) before call first writes,
+      convs_such line first.known calls others write,
+    )
+
+-- the expression of a criterion is one
+pub criterion_is_expr : (line : ℕ) (text : List ℕ) (before : Known) (read : Reading Criterion)
+    → WritesCriterion line before text read → IsExpr read.value.expr
+criterion_is_expr line text before read w =
+    subst (λ (r : Reading Criterion). IsExpr r.value.expr) (sym w.is) (record {
+      fetch = subst (λ (f : MethodFetch). IsFetch f.fetch) (sym w.fetched.is)
+          (fetch_written w.fetched.way.name w.first.args w.fetched.fetch w.fetched.written);
+      convs = All-from_recursion IsConv w.convs.value
+          (convs_such line before w.others w.convs w.converted);
+    })

@@ -1,16 +1,13 @@
 -- A text that writes a criterion is read as it, so it writes one at most; another is refused by a
 -- code.
-use Rattle.std.proofs.Common.{◌≡◌, ◌≢◌, ◌↔◌, ℕ, true, List, [], ◌∷◌, None, Ok, Err, refl, sym, ◌∙◌, ap}
-use Rattle.std.specs.Prelude.{Result, IfSome}
+use Rattle.std.proofs.Common.{◌≡◌, ◌↔◌, ℕ, List, [], ◌∷◌, None, Ok, Err, refl, sym, ◌∙◌, ap}
+use Rattle.std.specs.Prelude.{Result}
 use Rattle.hx_words.specs.CallForm.{CallForm}
 use Rattle.hx_words.specs.Calls.{Step, steps_of, calls_of_steps, longer_calls}
 use Rattle.hx_words.specs.Calls.Step.{Last, More, Faulty}
 use Rattle.hx_words.specs.Spelling.{SpellsCalls}
 use Rattle.hx_ast.specs.declared.Conv.{Conv}
-use Rattle.hx_ast.specs.Acls.{takes_patterns}
-use Rattle.hx_ast.specs.Convs.{IsExpr}
 use Rattle.hx_spell.specs.declared.fault.SpellFault.{SpellFault}
-use Rattle.hx_spell.specs.declared.fault.SpellFault.TheVariants as spell
 use Rattle.hx_base.specs.Results.{◌>>=◌}
 use Rattle.hx_spell.specs.Codes.{unsupported}
 use Rattle.hx_spell.specs.Criteria.{Criterion, MethodFetch, conv_call, convs_after, criterion, criterion_of, criterion_of_steps, fetch_by, fetch_way}
@@ -18,8 +15,8 @@ use Rattle.hx_spell.specs.Known.{Known, Reading}
 use Rattle.hx_spell.specs.ExpressionRelation.{WriteConvs, WritesCriterion}
 use Rattle.hx_spell.proofs.CallMeaningLemmas.{conv_read, conv_writes, method_fetch_read, method_fetch_writes}
 use Rattle.hx_spell.proofs.CallTextLemmas.{AreOf, IsReading, is_reading, longer_is, read_as, same_calls, spelled_steps, steps_never_lack, steps_spelled}
-use Rattle.hx_spell.proofs.CriterionFormLemmas.{ReadsCriterion, steps_give, with_first}
-use Rattle.hx_spell.proofs.ResultLemmas.{Gives, and_then_ok, given_value, never_without_memory, then_ok}
+use Rattle.hx_spell.proofs.CriterionFormLemmas.{steps_coded, with_first}
+use Rattle.hx_spell.proofs.ResultLemmas.{IsCoded, and_then_ok, then_ok}
 
 then_same : {A B : Type 0} (r : Result A SpellFault) (f g : A → Result B SpellFault)
     → ((x : A) → f x ≡ g x) → (r >>= f) ≡ (r >>= g)
@@ -205,34 +202,9 @@ pub criterion_law : (line : ℕ) (text : List ℕ) (before : Known) (read : Read
 criterion_law line text before read =
     (criterion_writes line text before read, criterion_read line text before read)
 
-criterion_gives : (line : ℕ) (text : List ℕ) (before : Known)
-    → Gives ReadsCriterion (criterion_of line text before)
-unfolding criterion_of
-criterion_gives line text before =
-    steps_give line (steps_of None text) before (is_reading None text) (steps_never_lack None text)
-
 -- a text that is refused is refused by a code
 pub criterion_coded : (line : ℕ) (text : List ℕ) (before : Known)
-    → criterion_of line text before ≢ Err spell.NoMemory
+    → IsCoded (criterion_of line text before)
+unfolding criterion_of
 criterion_coded line text before =
-    never_without_memory ReadsCriterion (criterion_of line text before)
-    (criterion_gives line text before)
-
-criterion_such : (line : ℕ) (text : List ℕ) (before : Known) (read : Reading Criterion)
-    → WritesCriterion line before text read → ReadsCriterion read
-criterion_such line text before read writes =
-    given_value ReadsCriterion (criterion_of line text before) read
-    (criterion_gives line text before) (criterion_read line text before read writes)
-
--- the expression of a criterion is one
-pub criterion_is_expr : (line : ℕ) (text : List ℕ) (before : Known) (read : Reading Criterion)
-    → WritesCriterion line before text read → IsExpr read.value.expr
-criterion_is_expr line text before read writes =
-    (criterion_such line text before read writes).0
-
--- the method in the name of a fetch takes patterns
-pub criterion_takes_patterns : (line : ℕ) (text : List ℕ) (before : Known)
-    (read : Reading Criterion) → WritesCriterion line before text read
-    → IfSome read.value.by (λ by. takes_patterns by ≡ true)
-criterion_takes_patterns line text before read writes =
-    (criterion_such line text before read writes).1
+    steps_coded line (steps_of None text) before (is_reading None text) (steps_never_lack None text)

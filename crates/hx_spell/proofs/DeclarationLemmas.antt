@@ -24,8 +24,8 @@ use Rattle.hx_spell.specs.Known.{Known, Reading, reading, reference_form, with_n
 use Rattle.hx_spell.specs.Patterns.{Keys, Operator, compares_numbers, key_or_fault, keys_of, number_keys, operator_table}
 use Rattle.hx_spell.specs.AclRelation.{SpellDecl}
 use Rattle.hx_spell.specs.Tables.{entry_at}
-use Rattle.hx_spell.proofs.CriterionFormLemmas.{named_file_coded, reference_coded}
-use Rattle.hx_spell.proofs.CriterionLemmas.{criterion_coded, criterion_is_expr, criterion_law}
+use Rattle.hx_spell.proofs.CriterionFormLemmas.{criterion_is_expr, named_file_coded, reference_coded}
+use Rattle.hx_spell.proofs.CriterionLemmas.{criterion_coded, criterion_law}
 use Rattle.hx_spell.proofs.FlagLemmas.{after_flags, flags_law}
 use Rattle.hx_spell.proofs.ResultLemmas.{Gives, IsCoded, and_then_ok, both, found_coded, given_value, never_without_memory, tested_coded, then_coded, then_gives, then_ok}
 
@@ -312,11 +312,11 @@ by_gives line expr after known way such =
 abbrev HasExpr : Reading Criterion → Type 0
 HasExpr criterion = IsExpr criterion.value.expr
 
-criterion_by : (r : Result (Reading Criterion) SpellFault) → r ≢ Err spell.NoMemory
+criterion_by : (r : Result (Reading Criterion) SpellFault) → IsCoded r
     → ((c : Reading Criterion) → r ≡ Ok c → HasExpr c) → Gives HasExpr r
-criterion_by (Ok criterion) never such = such criterion refl
-criterion_by (Err (spell.Code n)) never such = tt
-criterion_by (Err spell.NoMemory) never such = never refl
+criterion_by (Ok criterion) coded such = such criterion refl
+criterion_by (Err (spell.Code n)) coded such = tt
+criterion_by (Err spell.NoMemory) coded such = coded
 
 criterion_gives : (line : ℕ) (text : List ℕ) (before : Known)
     → Gives HasExpr (criterion_of line text before)

@@ -2,10 +2,9 @@
 use Rattle.std.proofs.Common.{◌≢◌, ℕ, zero, suc, ◌==◌, List, [], ◌∷◌, length, Option, Some, Err, ap}
 use Rattle.hx_base.specs.Bytes.{ascii}
 use Rattle.hx_words.specs.CallForm.{CallForm}
-use Rattle.hx_words.specs.Calls.{Step, steps_of, calls_of_steps, longer_calls}
+use Rattle.hx_words.specs.Calls.{Step, steps_of, calls_of_steps}
 use Rattle.hx_words.specs.Calls.Step.{Last, More, Faulty}
 use Rattle.hx_words.specs.declared.ArgFault.TheVariants as arg
-use Rattle.hx_ast.specs.Fetches.{IsFetch}
 use Rattle.hx_ast.specs.declared.Expr.{Expr}
 use Rattle.hx_spell.specs.Criteria.{convs_after, expr_of, expr_of_steps}
 use Rattle.hx_spell.specs.Expressions.{fetch_call}
@@ -13,30 +12,27 @@ use Rattle.hx_spell.specs.Formats.{FormatReader, after_percent, format_of, forma
 use Rattle.hx_spell.specs.Known.{Known, Reading}
 use Rattle.hx_spell.specs.Tables.{entry_at, fetch_names}
 use Rattle.hx_spell.proofs.CallTextLemmas.{IsReading, is_reading, steps_never_lack}
-use Rattle.hx_spell.proofs.CriterionFormLemmas.{ReadsConvs, call_fault_gives, convs_give, none_gives}
-use Rattle.hx_spell.proofs.ResultLemmas.{Gives, IsCoded, gives_coded, tested_coded, then_coded}
-use Rattle.hx_spell.proofs.TableFormLemmas.{fetch_name_gives}
+use Rattle.hx_spell.proofs.CriterionFormLemmas.{call_fault_gives, last_coded, later_coded}
+use Rattle.hx_spell.proofs.ResultLemmas.{IsCoded, tested_coded, then_coded}
+use Rattle.hx_spell.proofs.TableFormLemmas.{fetch_name_coded}
 
 -- ---- expressions
 
 with_convs_coded : (line : ℕ) (steps : List Step) (known : Known) (call : CallForm)
-    → Gives ReadsConvs (convs_after line steps known)
+    → IsCoded (convs_after line steps known)
     → IsCoded (expr_of_steps line (Last call [] ∷ steps) known)
 with_convs_coded line steps known call later =
     then_coded (fetch_call call) _
-    (gives_coded IsFetch (fetch_call call)
-    (fetch_name_gives (entry_at fetch_names call.name) call.args))
-    (λ fetch. then_coded (convs_after line steps known) _
-    (gives_coded ReadsConvs (convs_after line steps known) later) (λ convs. tt))
+    (fetch_name_coded (entry_at fetch_names call.name) call.args)
+    (λ fetch. then_coded (convs_after line steps known) _ later (λ convs. tt))
 
 steps_coded : (line : ℕ) (steps : List Step) (known : Known) → IsReading steps
     → calls_of_steps steps ≢ Err arg.NoMemory → IsCoded (expr_of_steps line steps known)
 steps_coded line [] known reading never = tt
 steps_coded line (Last call rest ∷ steps) known reading never =
-    with_convs_coded line steps known call (none_gives line steps known reading)
+    with_convs_coded line steps known call (last_coded line call rest steps known reading)
 steps_coded line (More call rest ∷ steps) known reading never =
-    with_convs_coded line steps known call
-    (convs_give line steps known reading (λ is. never (ap (λ r. longer_calls call r) is)))
+    with_convs_coded line steps known call (later_coded line call rest steps known reading never)
 steps_coded line (Faulty name fault ∷ steps) known reading never =
     call_fault_gives (λ (read : Reading Expr). Unit {0}) (entry_at fetch_names name) fault
     (λ is. never (ap (λ f. Err f) is))

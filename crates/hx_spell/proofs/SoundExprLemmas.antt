@@ -3,14 +3,12 @@
 use Rattle.std.proofs.Common.{◌≡◌, ℕ, true, false, zero, suc, List, [], ◌∷◌, ◌==◌, length, Option, None, Some, Ok, arith, refl}
 use Rattle.std.specs.Prelude.{IfSome, Result, slice_get}
 use Rattle.std.specs.List.{All}
-use Rattle.std.specs.Option.{ok_or}
 use Rattle.std.proofs.lemmas.List.Elements.{All-cons, All-nil, All-tail, All-weaker}
 use Rattle.hx_text.specs.declared.By.{By}
 use Rattle.hx_text.specs.declared.By.TheVariants as method
 use Rattle.hx_words.specs.CallForm.{CallForm}
 use Rattle.hx_words.specs.Calls.{Step, steps_of}
 use Rattle.hx_words.specs.Calls.Step.{Last, More, Faulty}
-use Rattle.hx_words.specs.declared.ArgFault.{ArgFault}
 use Rattle.hx_ast.specs.declared.Conv.{Conv}
 use Rattle.hx_ast.specs.declared.Conv.TheVariants as conv
 use Rattle.hx_ast.specs.declared.Expr.{Expr}
@@ -29,21 +27,22 @@ use Rattle.hx_base.specs.Results.{◌>>=◌}
 use Rattle.hx_spell.specs.Arguments.{is_count, optional, read_form, required}
 use Rattle.hx_spell.specs.Codes.{bad_argument, bad_format}
 use Rattle.hx_spell.specs.Criteria.{Criterion, MapWay, conv_by, conv_call, conv_step, convs_after, criterion_of, criterion_of_steps, expr_fetch, expr_of, expr_of_steps, fetch_step, map_arguments, map_head, map_table}
-use Rattle.hx_spell.specs.Expressions.{conv_by_name, fetch_call}
+use Rattle.hx_spell.specs.Expressions.{conv_by_name}
 use Rattle.hx_spell.specs.Forms.Form.{ValueOfMap}
+use Rattle.hx_spell.specs.Forms.Parameter.{Optional}
 use Rattle.hx_spell.specs.ExpressionRelation.{WritesCriterion}
 use Rattle.hx_base.specs.Bytes.{ascii}
 use Rattle.hx_spell.specs.Formats.{FormatReader, after_percent, byte_before, format_of, format_within, rest_after, value_part, with_byte}
 use Rattle.hx_spell.specs.Heads.{ExprNames, FormatNames, NamesHead, PartNames}
-use Rattle.hx_spell.specs.Known.{Known, Reading, nothing_known, reading, with_named_file, with_output}
+use Rattle.hx_spell.specs.Known.{Known, Reading, reading, with_named_file, with_output}
 use Rattle.hx_spell.specs.Sound.{IsReference}
 use Rattle.hx_spell.specs.Tables.{conv_names, entry_at, fetch_names}
-use Rattle.hx_spell.proofs.CriterionFormLemmas.{IsMapWay, default_gives, map_entry}
+use Rattle.hx_spell.proofs.ArgumentLemmas.{parameter_writes}
+use Rattle.hx_spell.proofs.CriterionFormLemmas.{IsMapWay, map_entry}
 use Rattle.hx_spell.proofs.CriterionLemmas.{criterion_law}
 use Rattle.hx_spell.proofs.HeadLemmas.{expr_later, format_later, names_later}
-use Rattle.hx_spell.proofs.ResultLemmas.{given_value}
 use Rattle.hx_spell.proofs.SoundLemmas.{Brings, Grown, ReadsHead, brought, either_brings, grown_refl, grown_trans, head_grown, named_file_brings, output_grown, step_brings, tested_brings, then_brings, weaker_brings}
-use Rattle.hx_spell.proofs.TableFormLemmas.{IsPlainConv, conv_name_gives, fetch_name_gives}
+use Rattle.hx_spell.proofs.TableFormLemmas.{conv_named, fetch_named, parameter_allowed}
 
 -- ---- maps
 
@@ -80,8 +79,8 @@ default_is_readable : (way : MapWay) (given default : Option (List ℕ))
     → optional (read_form (ValueOfMap way.out)) given ≡ Ok default
     → IfSome default (IsReadableAs way.out)
 default_is_readable way given default is =
-    given_value (λ v. IfSome v (IsReadableAs way.out))
-    (optional (read_form (ValueOfMap way.out)) given) default (default_gives way.out given) is
+    let parameter = Optional (ValueOfMap way.out) in
+    parameter_allowed parameter given default (parameter_writes parameter given default is)
 
 map_brings : (line : ℕ) (way : MapWay) → IsMapWay way → (args : List (List ℕ)) (known : Known)
     → Brings IsKnownConv known (map_arguments line way args known)
@@ -110,8 +109,7 @@ conv_by_brings line None such call known =
     let found = entry_at conv_names call.name in
     step_brings IsKnownConv known (conv_by_name found call.args) (λ c. Ok (reading c known))
     (λ c meant.
-    let plain = given_value IsPlainConv (conv_by_name found call.args) c
-    (conv_name_gives found call.args) meant in
+    let plain = conv_named found call.args c meant in
     (grown_refl known, (plain.0, plain_names known.heads c plain.1)))
 
 conv_brings : (line : ℕ) (call : CallForm) (known : Known)
@@ -165,11 +163,9 @@ made_expr known f convs such all = (
 
 fetch_is_one : (step : Step) (f : Fetch) → expr_fetch step ≡ Ok f → IsFetch f
 fetch_is_one (Last call rest) f is =
-    given_value IsFetch (fetch_call call) f
-    (fetch_name_gives (entry_at fetch_names call.name) call.args) is
+    fetch_named (entry_at fetch_names call.name) call.args f is
 fetch_is_one (More call rest) f is =
-    given_value IsFetch (fetch_call call) f
-    (fetch_name_gives (entry_at fetch_names call.name) call.args) is
+    fetch_named (entry_at fetch_names call.name) call.args f is
 fetch_is_one (Faulty name fault) f is = absurd (let no : ⊥ = cc in no)
 
 expr_steps_bring : (line : ℕ) (steps : List Step) (known : Known)

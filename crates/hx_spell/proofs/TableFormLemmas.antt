@@ -1,6 +1,7 @@
--- What the rows of the tables make has arguments that the syntax allows, or is refused by a code.
-use Rattle.std.proofs.Common.{◌≡◌, ℕ, suc, ◌<◌, ◌≤◌, false, List, [], ◌∷◌, length, Option, None, Some, refl, sym, subst, rules}
-use Rattle.std.specs.Prelude.{◌≢◌, pos, IsTrue, Result, IfSome, slice_get}
+-- What the rows of the tables make has arguments that the syntax allows; other arguments are refused
+-- by a code.
+use Rattle.std.proofs.Common.{◌≡◌, ℕ, suc, ◌<◌, ◌≤◌, false, List, [], ◌∷◌, length, Option, None, Some, refl, sym, subst, rules, Ok, ◌∙◌}
+use Rattle.std.specs.Prelude.{◌≢◌, pos, IsTrue, IfSome, slice_get}
 use Rattle.httparse.specs.Grammar.{IsToken}
 use Rattle.hx_text.specs.declared.VarName.{VarName}
 use Rattle.hx_ast.specs.declared.Val.{Val}
@@ -15,17 +16,15 @@ use Rattle.hx_spell.specs.declared.convs.ConvName.{ConvName}
 use Rattle.hx_spell.specs.declared.convs.ConvName.TheVariants as conv_name
 use Rattle.hx_spell.specs.declared.fetches.FetchName.{FetchName}
 use Rattle.hx_spell.specs.declared.fetches.FetchName.TheVariants as fetch_name
-use Rattle.hx_spell.specs.declared.fault.SpellFault.{SpellFault}
-use Rattle.hx_spell.specs.Arguments.{made_by}
 use Rattle.hx_spell.specs.Expressions.{conv_by_name, fetch_by_name, fetch_made}
-use Rattle.hx_spell.specs.Forms.{AllGiven, Argument, Form, Given, Parameter, Row, WriteFrom, Writes, WritesParameter, applied}
+use Rattle.hx_spell.specs.Forms.{AllGiven, Argument, Form, Given, Parameter, Row, WriteFrom, Writes, WritesParameter, applied, WritesRow}
 use Rattle.hx_spell.specs.Forms.Form.{HeaderName, Variable, VariableOrNothing, Index, Amount, Operand, Delimiters, Ipv4Address, Ipv6Address, Width, DigestLength, ValueOfMap}
 use Rattle.hx_spell.specs.Forms.Parameter.{Required, Optional}
 use Rattle.hx_spell.specs.Tables.{conv_row, fetch_row}
-use Rattle.hx_spell.proofs.ArgumentLemmas.{row_gives}
+use Rattle.hx_spell.proofs.ArgumentLemmas.{row_coded, row_writes}
 use Rattle.hx_spell.proofs.CallMeaningLemmas.{conv_made_is, fetch_made_is}
 use Rattle.hx_spell.proofs.FormLemmas.{width_within}
-use Rattle.hx_spell.proofs.ResultLemmas.{Gives}
+use Rattle.hx_spell.proofs.ResultLemmas.{IsCoded}
 
 -- ---- what the forms allow
 
@@ -105,11 +104,10 @@ MakesSuch P row =
     (given : AllGiven row.parameters) → AllowAll row.parameters given
     → P (applied row.parameters row.make given)
 
-pub made_gives : {A : Type 0} (P : A → Type 0) (row : Row A) → MakesSuch P row
-    → (args : List (List ℕ)) → Gives P (made_by row args)
-made_gives P row such args =
-    row_gives P row (λ args given write. such given (all_allowed row.parameters 0 args given write))
-    args
+written_such : {A : Type 0} (P : A → Type 0) (row : Row A) → MakesSuch P row
+    → (args : List (List ℕ)) (made : A) → WritesRow row args made → P made
+written_such P row such args made w =
+    subst P (sym w.is) (such w.given (all_allowed row.parameters 0 args w.given w.written.each))
 
 -- ---- fetches and converters
 
@@ -117,15 +115,9 @@ fetch_such : (name : FetchName) → MakesSuch IsFetch (fetch_row name)
 fetch_such fetch_name.AlwaysTrue given such = tt
 fetch_such _ given such = search rules
 
-pub fetch_gives : (name : FetchName) (args : List (List ℕ)) → Gives IsFetch (fetch_made name args)
-fetch_gives name args =
-    subst (λ (r : Result Fetch SpellFault). Gives IsFetch r) (sym (fetch_made_is name args))
-    (made_gives IsFetch (fetch_row name) (fetch_such name) args)
-
-pub fetch_name_gives : (name : Option FetchName) (args : List (List ℕ))
-    → Gives IsFetch (fetch_by_name name args)
-fetch_name_gives None args = tt
-fetch_name_gives (Some name) args = fetch_gives name args
+pub fetch_written : (name : FetchName) (args : List (List ℕ)) (fetch : Fetch)
+    → WritesRow (fetch_row name) args fetch → IsFetch fetch
+fetch_written name = written_such IsFetch (fetch_row name) (fetch_such name)
 
 -- a converter of the syntax, which looks nothing up in a map
 abbrev pub IsPlainConv : Conv → Type 0
@@ -135,9 +127,35 @@ conv_such : (name : ConvName) → MakesSuch IsPlainConv (conv_row name)
 conv_such conv_name.Lower given such = (tt, refl)
 conv_such _ given such = search rules
 
-pub conv_name_gives : (name : Option ConvName) (args : List (List ℕ))
-    → Gives IsPlainConv (conv_by_name name args)
-conv_name_gives None args = tt
-conv_name_gives (Some name) args =
-    subst (λ (r : Result Conv SpellFault). Gives IsPlainConv r) (sym (conv_made_is name args))
-    (made_gives IsPlainConv (conv_row name) (conv_such name) args)
+pub conv_written : (name : ConvName) (args : List (List ℕ)) (c : Conv)
+    → WritesRow (conv_row name) args c → IsPlainConv c
+conv_written name = written_such IsPlainConv (conv_row name) (conv_such name)
+
+-- ---- what is read by a name
+
+pub fetch_named : (name : Option FetchName) (args : List (List ℕ)) (fetch : Fetch)
+    → fetch_by_name name args ≡ Ok fetch → IsFetch fetch
+fetch_named None args fetch is = absurd (let no : ⊥ = cc in no)
+fetch_named (Some name) args fetch is =
+    fetch_written name args fetch
+    (row_writes (fetch_row name) args fetch (sym (fetch_made_is name args) ∙ is))
+
+pub conv_named : (name : Option ConvName) (args : List (List ℕ)) (c : Conv)
+    → conv_by_name name args ≡ Ok c → IsPlainConv c
+conv_named None args c is = absurd (let no : ⊥ = cc in no)
+conv_named (Some name) args c is =
+    conv_written name args c (row_writes (conv_row name) args c (sym (conv_made_is name args) ∙ is))
+
+pub fetch_coded : (name : FetchName) (args : List (List ℕ)) → IsCoded (fetch_made name args)
+fetch_coded name args = subst IsCoded (sym (fetch_made_is name args)) (row_coded (fetch_row name) args)
+
+pub fetch_name_coded : (name : Option FetchName) (args : List (List ℕ))
+    → IsCoded (fetch_by_name name args)
+fetch_name_coded None args = tt
+fetch_name_coded (Some name) args = fetch_coded name args
+
+pub conv_name_coded : (name : Option ConvName) (args : List (List ℕ))
+    → IsCoded (conv_by_name name args)
+conv_name_coded None args = tt
+conv_name_coded (Some name) args =
+    subst IsCoded (sym (conv_made_is name args)) (row_coded (conv_row name) args)
