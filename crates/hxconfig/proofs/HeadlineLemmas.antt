@@ -1,21 +1,23 @@
 -- The text of a configuration has what stands for each line.
-use Rattle.std.proofs.Common.{◌≡◌, ◌&&◌, ℕ, Bool, true, false, not, cond, List, [], ◌∷◌, ◌++◌, codes, map, flat_map, Option, None, Some, refl, sym, ap, ◌∙◌, subst, append-nil, arith}
+use Rattle.std.proofs.Common.{rules, ◌≡◌, ◌≢◌, ◌==◌, ◌&&◌, ℕ, length, Bool, true, false, not, cond, List, [], ◌∷◌, ◌++◌, codes, map, flat_map, Option, None, Some, refl, sym, ap, ◌∙◌, subst, append-nil, arith}
 use Rattle.std.specs.Io.KnownBytes.{Appends}
 use Rattle.std.specs.Str.{bytes_eq}
 use Rattle.std.proofs.lemmas.Grind.{flat_map-append}
 use Rattle.std.proofs.lemmas.Option.{same_Some}
-use Rattle.hxconfig.specs.Command.{Question, WhatTakesTraffic, ConfigurationOf}
+use Rattle.hx_words.specs.Variable.{Env}
+use Rattle.hx_lint.specs.Report.{lint_text}
+use Rattle.hxconfig.specs.Command.{Question, WhatTakesTraffic, ConfigurationOf, WhatToTell}
 use Rattle.hxconfig.specs.Configuration.{configuration_text, selection_of, text_at, text_below, texts_below, texts_here}
 use Rattle.hxconfig.specs.Fates.{Selection, Fate, Elsewhere, Own, LeftOut, Otherwise, Below, below_or, fate_of, is_set_anew, known_at, left_out_or, said_fate, same_words, statement_fate, title_fate, words_of_hxeval}
-use Rattle.hxconfig.specs.Headline.{Part, StandsFor, NotHeld, Title, SetAnew, RowLeavesOut, OwnBackend, InOtherWords, AsLastRule, Itself, StandFor, IsConfiguration, IsWritten, as_lines}
+use Rattle.hxconfig.specs.Headline.{Part, StandsFor, NotHeld, Title, SetAnew, RowLeavesOut, OwnBackend, InOtherWords, AsLastRule, Itself, StandFor, IsConfiguration, IsWritten, Tells, WritesConfiguration, as_lines}
 use Rattle.hxconfig.specs.LeftOut.{reason_left_out}
-use Rattle.hxconfig.specs.Lines.{Line}
+use Rattle.hxconfig.specs.Lines.{Line, lines_of}
 use Rattle.hxconfig.specs.Proxies.{holds}
-use Rattle.hxconfig.specs.Run.{Outcome, configuration_outcome, outcome_by, notes_of, status_of, text_of}
+use Rattle.hxconfig.specs.Run.{HasContent, Outcome, Setting, configuration_outcome, is_amiss, outcome_by, notes_of, status_of, text_of, written_status}
 use Rattle.hxconfig.specs.Addresses.{address_words}
 use Rattle.hxconfig.specs.Conditions.{Tls}
 use Rattle.hxconfig.specs.Said.{Words}
-use Rattle.hxconfig.specs.Spelling.{line_text}
+use Rattle.hx_lint.specs.Spelling.{line_text}
 use Rattle.hxconfig.specs.Titles.{is_title, word_at}
 use Rattle.hxconfig.specs.declared.fate.TheConstants.{LISTENS, NAMES, SET_ANEW, WORDS_OF_HXEVAL}
 
@@ -120,7 +122,7 @@ is_configuration chosen lines = record {
 configuration_written : (name : List ℕ) (tls : Tls) (file : List ℕ) (lines : List Line) (old new notes notes' : Option (List ℕ)) (outcome : Outcome) (found : Option Selection)
     → selection_of name tls lines ≡ found → outcome ≡ configuration_outcome file lines found → status_of outcome ≡ Some 0
     → Appends old new (text_of outcome) → Appends notes notes' (notes_of outcome)
-    → IsWritten (ConfigurationOf name tls) file lines old new notes notes'
+    → WritesConfiguration name tls file lines old new notes notes'
 configuration_written name tls file lines old new notes notes' outcome None found is status text noted =
     absurd (let three : 3 ≡ 0 = same_Some 3 0 (sym (ap status_of is) ∙ status) in omega (arith, three))
 configuration_written name tls file lines old new notes notes' outcome (Some chosen) found is status text noted = record {
@@ -132,10 +134,52 @@ configuration_written name tls file lines old new notes notes' outcome (Some cho
   told = subst (λ (o : Outcome). Appends notes notes' (notes_of o)) is noted;
 }
 
-pub is_written : (question : Question) (file : List ℕ) (lines : List Line) (old new notes notes' : Option (List ℕ)) (outcome : Outcome)
-    → outcome ≡ outcome_by question file lines → status_of outcome ≡ Some 0 → Appends old new (text_of outcome) → Appends notes notes' (notes_of outcome)
-    → IsWritten question file lines old new notes notes'
-is_written WhatTakesTraffic file lines old new notes notes' outcome is status text noted =
+nothing_told : (told : List ℕ) → written_status (is_amiss told) ≡ 0 → told ≡ []
+nothing_told [] is = refl
+nothing_told (b ∷ bytes) is =
+    let some : (length (b ∷ bytes) == 0) ≡ false = search rules in
+    let one : written_status (is_amiss (b ∷ bytes)) ≡ 1 = rw some refl in absurd (omega (arith, one, is))
+
+pub is_written : (question : Question) (env : Env) (file content : List ℕ) (old new notes notes' : Option (List ℕ)) (outcome : Outcome)
+    → outcome ≡ outcome_by question env file content → status_of outcome ≡ Some 0 → Appends old new (text_of outcome) → Appends notes notes' (notes_of outcome)
+    → IsWritten question env file content old new notes notes'
+is_written WhatTakesTraffic env file content old new notes notes' outcome is status text noted =
     (subst (λ (o : Outcome). Appends old new (text_of o)) is text, subst (λ (o : Outcome). Appends notes notes' (notes_of o)) is noted)
-is_written (ConfigurationOf name tls) file lines old new notes notes' outcome is status text noted =
-    configuration_written name tls file lines old new notes notes' outcome (selection_of name tls lines) refl is status text noted
+is_written (ConfigurationOf name tls) env file content old new notes notes' outcome is status text noted =
+    configuration_written name tls file (lines_of env content) old new notes notes' outcome (selection_of name tls (lines_of env content)) refl is status text noted
+is_written WhatToTell env file content old new notes notes' outcome is status text noted =
+    let none : lint_text env content ≡ [] = nothing_told (lint_text env content) (same_Some _ 0 (sym (ap status_of is) ∙ status)) in
+    record {
+      is = none;
+      written = subst (λ (t : List ℕ). Appends old new t) none (subst (λ (o : Outcome). Appends old new (text_of o)) is text);
+      noted = subst (λ (o : Outcome). Appends notes notes' (notes_of o)) is noted;
+    }
+
+-- ---- what is told at status 1
+
+something_told : (told : List ℕ) → written_status (is_amiss told) ≡ 1 → told ≢ []
+something_told told is none =
+    let zero : written_status (is_amiss []) ≡ 1 = subst (λ (t : List ℕ). written_status (is_amiss t) ≡ 1) none is in omega (arith, zero)
+
+no_configuration : (file : List ℕ) (lines : List Line) (outcome : Outcome) (found : Option Selection)
+    → outcome ≡ configuration_outcome file lines found → status_of outcome ≡ Some 1 → ⊥
+no_configuration file lines outcome None is status =
+    let three : 3 ≡ 1 = same_Some 3 1 (sym (ap status_of is) ∙ status) in omega (arith, three)
+no_configuration file lines outcome (Some chosen) is status =
+    let zero : 0 ≡ 1 = same_Some 0 1 (sym (ap status_of is) ∙ status) in omega (arith, zero)
+
+pub tells_by : (s : Setting) (content : List ℕ) (question : Question) (old new notes notes' : Option (List ℕ)) (outcome : Outcome)
+    → HasContent s (Some content) → s.request.question ≡ question → outcome ≡ outcome_by question s.env s.request.file content → status_of outcome ≡ Some 1
+    → Appends old new (text_of outcome) → Appends notes notes' (notes_of outcome) → Tells s old new notes notes'
+tells_by s content WhatTakesTraffic old new notes notes' outcome has asked is status text noted =
+    absurd (let zero : 0 ≡ 1 = same_Some 0 1 (sym (ap status_of is) ∙ status) in omega (arith, zero))
+tells_by s content (ConfigurationOf name tls) old new notes notes' outcome has asked is status text noted =
+    absurd (no_configuration s.request.file (lines_of s.env content) outcome (selection_of name tls (lines_of s.env content)) is status)
+tells_by s content WhatToTell old new notes notes' outcome has asked is status text noted = record {
+  content = content;
+  of_file = has;
+  asked = asked;
+  some = something_told (lint_text s.env content) (same_Some _ 1 (sym (ap status_of is) ∙ status));
+  written = subst (λ (o : Outcome). Appends old new (text_of o)) is text;
+  noted = subst (λ (o : Outcome). Appends notes notes' (notes_of o)) is noted;
+}

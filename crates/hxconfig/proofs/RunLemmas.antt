@@ -1,5 +1,5 @@
 -- Laws of a run: what it has written at each of its ends.
-use Rattle.std.proofs.Common.{◌≡◌, ◌≢◌, ℕ, zero, suc, ◌≤◌, ◌⊎◌, List, [], ◌∷◌, Contains, IfSome, Option, None, Some, inl, inr, arith, refl, sym, ◌∙◌, ap, subst, append-nil}
+use Rattle.std.proofs.Common.{◌≡◌, ◌≢◌, ℕ, zero, suc, ◌≤◌, ◌⊎◌, Bool, true, false, List, [], ◌∷◌, Contains, IfSome, Option, None, Some, inl, inr, arith, refl, sym, ◌∙◌, ap, subst, append-nil}
 use Rattle.std.specs.Io.KnownBytes.{Appends}
 use Rattle.std.proofs.KnownBytes.{Appends-nil}
 use Rattle.std.proofs.lemmas.Option.{none-some}
@@ -10,10 +10,9 @@ use Rattle.hx_outside.specs.declared.FileFault.{FileFault}
 use Rattle.hx_outside.specs.declared.FileFault.TheVariants as file
 use Rattle.hx_outside.specs.declared.SinkFault.{SinkFault}
 use Rattle.hx_outside.specs.declared.SinkFault.TheVariants as sink
-use Rattle.hxconfig.specs.Headline.{Headline}
-use Rattle.hxconfig.specs.Lines.{lines_of}
-use Rattle.hxconfig.specs.Run.{Setting, Outcome, Written, NoFrontend, HasContent, HasOutcome, HasStatus, Ran, outcome_of, status_of, text_of, notes_of}
-use Rattle.hxconfig.proofs.HeadlineLemmas.{is_written}
+use Rattle.hxconfig.specs.Headline.{Headline, Tells}
+use Rattle.hxconfig.specs.Run.{Setting, Outcome, Written, NoFrontend, HasContent, HasOutcome, HasStatus, Ran, outcome_of, status_of, text_of, notes_of, written_status}
+use Rattle.hxconfig.proofs.HeadlineLemmas.{is_written, tells_by}
 use Rattle.hxconfig.specs.RunFault.{fault_of_file, fault_status, outcome_view, sink_fault}
 use Rattle.hxconfig.specs.declared.configuration.Written.{Written as CodeWritten}
 use Rattle.hxconfig.specs.declared.run_fault.RunFault.{RunFault}
@@ -51,16 +50,21 @@ one_read (Some old) (Some new) name is = (name ∷ [], is, refl)
 
 -- ---- faults
 
-small : (status : ℕ) → Contains (0 ∷ 3 ∷ []) status → status ≤ 3
+small : (status : ℕ) → Contains (0 ∷ 1 ∷ 3 ∷ []) status → status ≤ 3
 small status (zero, within, is) = omega (arith, is)
 small status (suc zero, within, is) = omega (arith, is)
-small status (suc (suc k), within, is) = absurd (omega (arith, within))
+small status (suc (suc zero), within, is) = omega (arith, is)
+small status (suc (suc (suc k)), within, is) = absurd (omega (arith, within))
 
-pub statuses : (f : RunFault) → Contains (0 ∷ 2 ∷ 3 ∷ 5 ∷ 6 ∷ 7 ∷ []) (fault_status f)
-statuses fault.NoFrontend = (2, omega arith, refl)
-statuses fault.Files = (3, omega arith, refl)
-statuses fault.Sink = (4, omega arith, refl)
-statuses fault.NoMemory = (5, omega arith, refl)
+pub statuses : (f : RunFault) → Contains (0 ∷ 1 ∷ 2 ∷ 3 ∷ 5 ∷ 6 ∷ 7 ∷ []) (fault_status f)
+statuses fault.NoFrontend = (3, omega arith, refl)
+statuses fault.Files = (4, omega arith, refl)
+statuses fault.Sink = (5, omega arith, refl)
+statuses fault.NoMemory = (6, omega arith, refl)
+
+pub written_statuses : (amiss : Bool) → Contains (0 ∷ 1 ∷ 2 ∷ 3 ∷ 5 ∷ 6 ∷ 7 ∷ []) (written_status amiss)
+written_statuses false = (0, omega arith, refl)
+written_statuses true = (1, omega arith, refl)
 
 pub is_files : (f : RunFault) → fault_status f ≡ 5 → f ≡ fault.Files
 is_files fault.NoFrontend is = absurd (omega (arith, is))
@@ -134,14 +138,15 @@ no_frontend s old notes None is none = record {
 }
 
 found_some : (s : Setting) (found : Option CodeWritten) (written : CodeWritten) → HasOutcome s (outcome_view found) → found ≡ Some written
-    → HasOutcome s (Written written.text.items written.notes.items)
+    → HasOutcome s (Written written.text.items written.notes.items written.amiss)
 found_some s found written is some = subst (λ (o : Option CodeWritten). HasOutcome s (outcome_view o)) some is
 
 -- all is written
 pub done : (s : Setting) (old new notes notes' : Option (List ℕ)) (found : Option CodeWritten) (written : CodeWritten) → HasOutcome s (outcome_view found)
-    → found ≡ Some written → Appends old new written.text.items × Appends notes notes' written.notes.items → Ran s old new notes notes' 0
+    → found ≡ Some written → Appends old new written.text.items × Appends notes notes' written.notes.items
+    → Ran s old new notes notes' (written_status written.amiss)
 done s old new notes notes' found written is some (text, noted) = record {
-  outcome = Written written.text.items written.notes.items;
+  outcome = Written written.text.items written.notes.items written.amiss;
   of_setting = found_some s found written is some;
   text = all_appended old new written.text.items text;
   notes = all_appended notes notes' written.notes.items noted;
@@ -154,23 +159,25 @@ pub unwritten : (s : Setting) (old new notes notes' : Option (List ℕ)) (found 
     → AppendsPrefix old new written.text.items → AppendsPrefix notes notes' written.notes.items
     → Ran s old new notes notes' (fault_status (sink_fault f))
 unwritten s old new notes notes' found written sink.Failed is some text noted =
-    failed s old new notes notes' (Written written.text.items written.notes.items) 6 (found_some s found written is some) text noted (omega arith)
+    failed s old new notes notes' (Written written.text.items written.notes.items written.amiss) 6 (found_some s found written is some) text noted (omega arith)
 unwritten s old new notes notes' found written sink.NoMemory is some text noted =
-    failed s old new notes notes' (Written written.text.items written.notes.items) 7 (found_some s found written is some) text noted (omega arith)
+    failed s old new notes notes' (Written written.text.items written.notes.items written.amiss) 7 (found_some s found written is some) text noted (omega arith)
 
 -- ---- what follows
 
-has_status : (s : Setting) (old new notes notes' : Option (List ℕ)) (status : ℕ) → Ran s old new notes notes' status → Contains (0 ∷ 3 ∷ []) status
+has_status : (s : Setting) (old new notes notes' : Option (List ℕ)) (status : ℕ) → Ran s old new notes notes' status → Contains (0 ∷ 1 ∷ 3 ∷ []) status
     → HasStatus s status
 has_status s old new notes notes' status r exact = record { outcome = r.outcome; of_setting = r.of_setting; is = (r.whole exact).0 }
 
-pub done_status : (s : Setting) (old new notes notes' : Option (List ℕ)) → Ran s old new notes notes' 0 → HasStatus s 0
-done_status s old new notes notes' r = has_status s old new notes notes' 0 r (0, omega arith, refl)
+pub done_status : (s : Setting) (old new notes notes' : Option (List ℕ)) (amiss : Bool) → Ran s old new notes notes' (written_status amiss)
+    → HasStatus s (written_status amiss)
+done_status s old new notes notes' false r = has_status s old new notes notes' 0 r (0, omega arith, refl)
+done_status s old new notes notes' true r = has_status s old new notes notes' 1 r (1, omega arith, refl)
 
 -- where no file and no sink failed, the status is the outcome's, or memory ran out
 pub complete : (s : Setting) (old new notes notes' : Option (List ℕ)) (f : RunFault) → Ran s old new notes notes' (fault_status f)
     → f ≢ fault.Files → f ≢ fault.Sink → (fault_status f ≡ 7) ⊎ HasStatus s (fault_status f)
-complete s old new notes notes' fault.NoFrontend r no_files no_sink = inr (has_status s old new notes notes' 3 r (1, omega arith, refl))
+complete s old new notes notes' fault.NoFrontend r no_files no_sink = inr (has_status s old new notes notes' 3 r (2, omega arith, refl))
 complete s old new notes notes' fault.Files r no_files no_sink = absurd (no_files refl)
 complete s old new notes notes' fault.Sink r no_files no_sink = absurd (no_sink refl)
 complete s old new notes notes' fault.NoMemory r no_files no_sink = inl refl
@@ -184,10 +191,28 @@ headline_of s old new notes notes' outcome None has is status text noted = absur
 headline_of s old new notes notes' outcome (Some content) has is status text noted = record {
   content = content;
   of_file = has;
-  is = is_written s.request.question s.request.file (lines_of s.env content) old new notes notes' outcome is status text noted;
+  is = is_written s.request.question s.env s.request.file content old new notes notes' outcome is status text noted;
 }
 
-pub headline : (s : Setting) (old new notes notes' : Option (List ℕ)) → Ran s old new notes notes' 0 → Headline s old new notes notes'
-headline s old new notes notes' r =
+pub headline : (s : Setting) (old new notes notes' : Option (List ℕ)) (status : ℕ) → Ran s old new notes notes' status → status ≡ 0
+    → Headline s old new notes notes'
+headline s old new notes notes' status ran is =
+    let r : Ran s old new notes notes' 0 = subst (λ k. Ran s old new notes notes' k) is ran in
     let all = r.whole (0, omega arith, refl) in
     headline_of s old new notes notes' r.outcome r.of_setting.content r.of_setting.of_file r.of_setting.is all.0 all.1 all.2
+
+-- an outcome of status 1 is what is told of a file which is there
+tells_of : (s : Setting) (old new notes notes' : Option (List ℕ)) (outcome : Outcome) (content : Option (List ℕ)) → HasContent s content
+    → outcome ≡ outcome_of s.env s.request content → status_of outcome ≡ Some 1 → Appends old new (text_of outcome)
+    → Appends notes notes' (notes_of outcome) → Tells s old new notes notes'
+unfolding outcome_of
+tells_of s old new notes notes' outcome None has is status text noted = absurd (none-some 1 (sym (ap status_of is) ∙ status))
+tells_of s old new notes notes' outcome (Some content) has is status text noted =
+    tells_by s content s.request.question old new notes notes' outcome has refl is status text noted
+
+pub tells : (s : Setting) (old new notes notes' : Option (List ℕ)) (status : ℕ) → Ran s old new notes notes' status → status ≡ 1
+    → Tells s old new notes notes'
+tells s old new notes notes' status ran is =
+    let r : Ran s old new notes notes' 1 = subst (λ k. Ran s old new notes notes' k) is ran in
+    let all = r.whole (1, omega arith, refl) in
+    tells_of s old new notes notes' r.outcome r.of_setting.content r.of_setting.of_file r.of_setting.is all.0 all.1 all.2

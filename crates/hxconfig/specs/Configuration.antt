@@ -9,7 +9,7 @@ use Rattle.hxconfig.specs.Fates.{Selection, Fate, Elsewhere, Own, LeftOut, Other
 use Rattle.hxconfig.specs.Conditions.{Tls}
 use Rattle.hxconfig.specs.Lines.{Line}
 use Rattle.hxconfig.specs.Proxies.{has_backend, sections_of}
-use Rattle.hxconfig.specs.Spelling.{line_text}
+use Rattle.hx_lint.specs.Spelling.{line_text}
 use Rattle.hxconfig.specs.Titles.{word_at}
 
 -- ---- the text

@@ -1,10 +1,10 @@
 -- The theorem on what is written at status 0, to be read first: what stands for each line of a file.
 -- The functions of `Configuration` make one text that this relation allows, and no other.
-use Rattle.std.specs.Prelude.{◌≡◌, ◌&&◌, ℕ, true, false, not, List, [], ◌∷◌, ◌++◌, codes, flat_map, map, Option, Some, ⊤}
+use Rattle.std.specs.Prelude.{◌≡◌, ◌≢◌, ◌&&◌, ℕ, true, false, not, List, [], ◌∷◌, ◌++◌, codes, flat_map, map, Option, Some, ⊤}
 use Rattle.std.specs.Io.KnownBytes.{Appends}
 use Rattle.std.specs.Str.{bytes_eq}
 use Rattle.hxconfig.specs.Addresses.{address_words}
-use Rattle.hxconfig.specs.Command.{Question, WhatTakesTraffic, ConfigurationOf}
+use Rattle.hxconfig.specs.Command.{Question, WhatTakesTraffic, ConfigurationOf, WhatToTell}
 use Rattle.hxconfig.specs.Conditions.{Tls}
 use Rattle.hxconfig.specs.Configuration.{selection_of, notes_text}
 use Rattle.hxconfig.specs.Fates.{Selection, is_set_anew, known_at, same_words, words_of_hxeval}
@@ -13,8 +13,10 @@ use Rattle.hxconfig.specs.LeftOut.{reason_left_out}
 use Rattle.hxconfig.specs.Lines.{Line, lines_of}
 use Rattle.hxconfig.specs.Proxies.{holds}
 use Rattle.hxconfig.specs.Run.{Setting, HasContent}
+use Rattle.hx_lint.specs.Report.{lint_text}
+use Rattle.hx_words.specs.Variable.{Env}
 use Rattle.hxconfig.specs.Said.{Words}
-use Rattle.hxconfig.specs.Spelling.{line_text}
+use Rattle.hx_lint.specs.Spelling.{line_text}
 use Rattle.hxconfig.specs.Titles.{is_title, word_at}
 
 -- what stands for a line: a text at its number, and texts below the last line of the file
@@ -82,17 +84,36 @@ pub record WritesConfiguration (name : List ℕ) (tls : Tls) (file : List ℕ) (
   pub written : Appends old new text
   pub told : Appends notes_old notes_new (notes_text file chosen lines)
 
+-- there is nothing to tell of a file, and nothing was written
+pub record TellsNothing (env : Env) (content : List ℕ)
+    (old new notes_old notes_new : Option (List ℕ)) : Type 0 where
+  pub is : lint_text env content ≡ []
+  pub written : Appends old new []
+  pub noted : Appends notes_old notes_new []
+
 -- what a question asks for was written
-abbrev pub IsWritten : Question → (file : List ℕ) → List Line
+abbrev pub IsWritten : Question → Env → (file content : List ℕ)
     → (old new notes_old notes_new : Option (List ℕ)) → Type 0
-IsWritten WhatTakesTraffic file lines old new notes_old notes_new =
-    Appends old new (frontends_text lines) × Appends notes_old notes_new []
-IsWritten (ConfigurationOf name tls) file lines old new notes_old notes_new =
-    WritesConfiguration name tls file lines old new notes_old notes_new
+IsWritten WhatTakesTraffic env file content old new notes_old notes_new =
+    Appends old new (frontends_text (lines_of env content)) × Appends notes_old notes_new []
+IsWritten (ConfigurationOf name tls) env file content old new notes_old notes_new =
+    WritesConfiguration name tls file (lines_of env content) old new notes_old notes_new
+IsWritten WhatToTell env file content old new notes_old notes_new =
+    TellsNothing env content old new notes_old notes_new
 
 -- The headline. The file has this content, and of its lines exactly what is asked for was written.
 pub record Headline (s : Setting) (old new notes_old notes_new : Option (List ℕ)) : Type 0 where
   pub content : List ℕ
   pub of_file : HasContent s (Some content)
-  pub is : IsWritten s.request.question s.request.file (lines_of s.env content)
+  pub is : IsWritten s.request.question s.env s.request.file content
       old new notes_old notes_new
+
+-- The headline of status 1. The file has this content; of the lines of a configuration of hxeval
+-- exactly what there is to tell was written, and it is something.
+pub record Tells (s : Setting) (old new notes_old notes_new : Option (List ℕ)) : Type 0 where
+  pub content : List ℕ
+  pub of_file : HasContent s (Some content)
+  pub asked : s.request.question ≡ WhatToTell
+  pub some : lint_text s.env content ≢ []
+  pub written : Appends old new (lint_text s.env content)
+  pub noted : Appends notes_old notes_new []

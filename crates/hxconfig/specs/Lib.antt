@@ -17,7 +17,6 @@ pub mod Reading
 pub mod Said
 pub mod Assembling
 pub mod Fates
-pub mod Spelling
 pub mod Configuration
 pub mod Command
 pub mod Run

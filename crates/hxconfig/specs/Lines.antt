@@ -1,12 +1,10 @@
 -- The lines of a file, each with its number, its section, its text and its words (HAProxy
 -- configuration manual 2.6, sections 2.1 and 2.2).
-use Rattle.std.specs.Prelude.{ℕ, ◌+◌, List, [], ◌∷◌, length, map, Option, None, Some, Result, Ok, Err, if◌then◌else◌}
-use Rattle.std.specs.Io.BufRead.{strip_last}
-use Rattle.hx_base.specs.Bytes.{ascii}
-use Rattle.hx_text.specs.Cut.{pieces}
+use Rattle.std.specs.Prelude.{ℕ, ◌+◌, List, [], ◌∷◌, Result, Ok, Err, if◌then◌else◌}
 use Rattle.hx_words.specs.Variable.{Env}
 use Rattle.hx_words.specs.Words.{words_of}
 use Rattle.hx_words.specs.declared.fault.WordFault.{WordFault}
+use Rattle.hx_lint.specs.Texts.{texts_in}
 use Rattle.hxconfig.specs.Titles.{is_title}
 
 -- A line. Its section is the number of the title above it, or its own where it is a title, and 0
@@ -17,11 +15,6 @@ pub record Line : Type 0 where
   pub section : ℕ
   pub text : List ℕ
   pub words : List (List ℕ)
-
--- the texts of the lines, without the line feeds between them and without the one carriage return
--- that may end each
-abbrev pub texts_in : List ℕ → List (List ℕ)
-texts_in file = map (strip_last (ascii "\r")) (pieces (ascii "\n") file)
 
 abbrev pub words_or_none : Result (List (List ℕ)) WordFault → List (List ℕ)
 words_or_none (Ok words) = words
@@ -50,15 +43,3 @@ lines_from env number above (text ∷ texts) =
 -- the lines of a file, counted from 1
 unfoldable pub lines_of : Env → List ℕ → List Line
 lines_of env file = lines_from env 1 0 (texts_in file)
-
--- ---- what a loop over lines has left
-
--- the texts of the lines of what is left of a file, where something is
-abbrev pub texts_left : Option (List ℕ) → List (List ℕ)
-texts_left None = []
-texts_left (Some rest) = texts_in rest
-
--- the bytes that are left, and the line that begins there
-abbrev pub size_left : Option (List ℕ) → ℕ
-size_left None = 0
-size_left (Some rest) = length rest + 1

@@ -14,6 +14,8 @@ pub enum Task<'a> {
         name: &'a [u8],
         tls: Option<&'a [u8]>,
     },
+    /// `lint`: what there is to tell of a configuration of hxeval
+    Lint,
 }
 
 /// A command over a file.
@@ -24,7 +26,7 @@ pub struct Command<'a> {
     pub file: &'a [u8],
 }
 
-/// The command of these words: `frontends FILE`, `frontend NAME FILE`, or
+/// The command of these words: `frontends FILE`, `lint FILE`, `frontend NAME FILE`, or
 /// `frontend NAME FILE --tls PORT`. None exactly where they are none of these.
 pub fn command_of(words: &[Vec<u8>]) -> Option<Command<'_>>
     ensures { option_map request_of result ≡ command_of (texts_of words.now) }
@@ -32,6 +34,10 @@ pub fn command_of(words: &[Vec<u8>]) -> Option<Command<'_>>
     match words {
         [word, file] if word.as_slice() == b"frontends".as_slice() => Some(Command {
             task: Task::Frontends,
+            file: file.as_slice(),
+        }),
+        [word, file] if word.as_slice() == b"lint".as_slice() => Some(Command {
+            task: Task::Lint,
             file: file.as_slice(),
         }),
         [word, name, file] if word.as_slice() == b"frontend".as_slice() => Some(Command {

@@ -1,5 +1,4 @@
-ghost use Rattle.std.specs.Prelude.{◌≡◌, ◌++◌, codes, option_map, IfOk, OnOk};
-ghost use Rattle.std.specs.Fmt.{decimal};
+ghost use Rattle.std.specs.Prelude.{◌≡◌, ◌++◌, codes, false, option_map, IfOk, OnOk};
 ghost use Rattle.std.specs.Option.{option_copied};
 ghost use Rattle.hxconfig.specs.Configuration.{configuration_text, notes_text, selection_of};
 ghost use Rattle.hxconfig.specs.Configuration.{text_at, text_below};
@@ -11,15 +10,17 @@ use crate::fate::{Fate, Selection, fate_of, first_change_in, holds_one};
 use crate::lines::Line;
 use crate::notes::push_notes;
 use crate::proxies::sections_of;
-use crate::spelling::push_line;
+use hx_lint::push_line;
 use hx_text::NoMemory;
 use std::alloc::Global;
 
-/// What is written of a file: a text, and notes on it.
+/// What is written of a file: a text, and notes on it; and whether the text says that something is
+/// amiss.
 #[derive(Drop)]
 pub(crate) struct Written {
     pub(crate) text: Vec<u8>,
     pub(crate) notes: Vec<u8>,
+    pub(crate) amiss: bool,
 }
 
 /// The configuration of the frontend or `listen` section of this name, where TLS comes in at the
@@ -79,6 +80,7 @@ fn write(
         written.text.items ≡ configuration_text (selection_view chosen.now) lines.now) }
     ensures notes { IfOk result (λ written.
         written.notes.items ≡ notes_text file.now (selection_view chosen.now) lines.now) }
+    ensures amiss { IfOk result (λ written. written.amiss ≡ false) }
 {
     let mut text = Vec::new(alloc);
     let mut below = Vec::new(alloc);
@@ -92,7 +94,11 @@ fn write(
         rest = others;
     }
     text.extend_from_slice(below.as_slice())?;
-    Ok(Written { text, notes })
+    Ok(Written {
+        text,
+        notes,
+        amiss: false,
+    })
 }
 
 /// Appends what stands at the number of a line, and a line feed.

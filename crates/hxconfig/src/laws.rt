@@ -1,13 +1,10 @@
 //! Laws of the definitions, each the contract of a function that does nothing when it runs.
-ghost use Rattle.std.specs.Prelude.{◌≡◌, ◌≤◌, ℕ, false, length, List, Ok, Some};
+ghost use Rattle.std.specs.Prelude.{◌≡◌, ℕ, false, List, Some};
 ghost use Rattle.std.specs.List.{list_any};
 ghost use Rattle.hx_base.specs.Bytes.{ascii};
 ghost use Rattle.hx_words.specs.Calls.{ends_name};
-ghost use Rattle.hx_words.specs.Variable.{Env};
-ghost use Rattle.hx_words.specs.Words.{words_of};
 ghost use Rattle.hxconfig.specs.Reading.{SpellsReplacement};
 ghost use Rattle.hxconfig.specs.Replacing.{replaced};
-ghost use Rattle.hxconfig.specs.Spelling.{line_text};
 
 /// What is written for a replacement is read as it is meant, whatever bytes the expression and the
 /// replacement have: as the fetch, and then `regsub` with these two as its arguments.
@@ -17,12 +14,4 @@ pub fn replacement_reads_back()
         → list_any (ends_name (Some (ascii "]"))) fetch ≡ false
         → SpellsReplacement fetch expression replacement
         (replaced fetch expression replacement) }
-{}
-
-/// The words of a line that words are written as are these words, under any environment: up to 256
-/// of them, as many as a line may have.
-#[tactic(auto, using(crate::proofs::WrittenLineLemmas::line_reads_back))]
-pub fn line_reads_back()
-    ensures { (env : Env) (words : List (List ℕ)) → length words ≤ 256
-        → words_of env (line_text words) ≡ Ok words }
 {}

@@ -1,10 +1,10 @@
-ghost use Rattle.std.specs.Prelude.{◌≡◌, ◌≤◌, ◌≢◌, ◌∷◌, length, map, IfOk, IfErr};
-ghost use Rattle.std.specs.Option.{option_copied};
+ghost use Rattle.std.specs.Prelude.{◌≡◌, IfOk};
 ghost use Rattle.hx_base.specs.Pairs.{pairs_of};
-ghost use Rattle.hxconfig.specs.Lines.{line_at, lines_of, size_left, texts_in, texts_left};
+ghost use Rattle.hxconfig.specs.Lines.{line_at, lines_of};
 
 use crate::titles::is_title;
-use hx_text::{NoMemory, Octets, cut_at, without_cr};
+use hx_lint::first_text;
+use hx_text::{NoMemory, Octets};
 use hx_words::{WordFault, Words, split};
 use std::alloc::Global;
 use std::marker::Model;
@@ -84,18 +84,6 @@ pub(crate) fn lines_of<'f>(
         rest = after;
     }
     Ok(lines)
-}
-
-/// The text of the first line, and what follows its line feed, where it has one.
-#[tactic(auto, using(crate::proofs::LineLemmas::first_texts))]
-fn first_text(left: &[u8]) -> (&[u8], Option<&[u8]>)
-    ensures texts { texts_in left.now ≡ result.0.now ∷ texts_left (option_copied result.1) }
-    ensures shorter { size_left (option_copied result.1) ≤ length left.now }
-{
-    match cut_at(b'\n', left) {
-        Some((text, after)) => (without_cr(text), Some(after)),
-        None => (without_cr(left), None),
-    }
 }
 
 /// A line with its words, below a line of the section `above`.

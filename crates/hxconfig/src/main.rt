@@ -37,7 +37,6 @@ mod runs;
 mod said;
 mod said_tables;
 mod setting;
-mod spelling;
 mod table;
 #[cfg(test)]
 mod tests;

@@ -3,14 +3,14 @@ ghost use Rattle.std.specs.Fmt.{decimal};
 ghost use Rattle.std.specs.Option.{option_copied};
 ghost use Rattle.hxconfig.specs.Configuration.{backend_named, backend_note, fate_note, has_percent};
 ghost use Rattle.hxconfig.specs.Configuration.{note, unknown_note};
-ghost use Rattle.hxconfig.specs.Spelling.{line_text};
+ghost use Rattle.hx_lint.specs.Spelling.{line_text};
 ghost use Rattle.hxconfig.specs.FateView.{fate_view};
 
 use crate::fate::Fate;
 use crate::lines::Line;
 use crate::proxies::has_backend;
-use crate::spelling::push_line;
 use crate::titles::word_at;
+use hx_lint::push_line;
 use hx_text::{NoMemory, Octets};
 use itoa::Buffer;
 

@@ -1,13 +1,14 @@
-ghost use Rattle.std.specs.Prelude.{◌≡◌, ◌↔◌, ◌⊎◌, None, Some, Contains, [], ◌∷◌, IfOk, IfSome, OnOk, IsErrOf};
+ghost use Rattle.std.specs.Prelude.{◌≡◌, ◌≤◌, ◌↔◌, ◌⊎◌, None, Some, Contains, [], ◌∷◌, IfOk, IfSome, OnOk, IsErrOf};
 ghost use Rattle.std.specs.Io.KnownBytes.{Appends};
 ghost use Rattle.hx_base.specs.Pairs.{pairs_of};
 ghost use Rattle.hx_program.specs.Machine.{texts_of};
 ghost use Rattle.hx_outside.specs.Count.{Rose};
 ghost use Rattle.hx_outside.specs.Log.{HoldsSince};
 ghost use Rattle.hx_outside.specs.Prefixes.{AppendsPrefix};
-ghost use Rattle.hxconfig.specs.Command.{command_of, request_of};
-ghost use Rattle.hxconfig.specs.Headline.{Headline};
-ghost use Rattle.hxconfig.specs.Run.{HasStatus, Ran, outcome_of, setting, setting_of};
+ghost use Rattle.hxconfig.specs.Command.{WhatTakesTraffic, WhatToTell, command_of, request_of};
+ghost use Rattle.hxconfig.specs.Headline.{Headline, Tells};
+ghost use Rattle.hxconfig.specs.Run.{HasStatus, Ran, outcome_by, outcome_of, setting, setting_of};
+ghost use Rattle.hxconfig.specs.Run.{written_status};
 ghost use Rattle.hxconfig.specs.RunFault.{outcome_view, result_status};
 
 use crate::command::{Command, Task, command_of};
@@ -15,6 +16,7 @@ use crate::configuration::{Written, configuration};
 use crate::frontends::frontends;
 use crate::lines::lines_of;
 use crate::run_fault::RunFault;
+use hx_lint::lint;
 use hx_outside::{Files, Sink, SinkFault, write_all};
 use hx_text::NoMemory;
 use std::alloc::Global;
@@ -25,12 +27,14 @@ use std::alloc::Global;
 /// `frontends FILE` writes what takes traffic in a configuration of HAProxy, as
 /// `LINE frontend NAME` or `LINE listen NAME` for each section that does. `frontend NAME FILE`
 /// writes the configuration of one of these for hxeval, with every line at its number, and to
-/// `notes` what became of its lines and why; `--tls PORT` says at which port TLS comes in. FILE is read through `files`, once, and no other file
-/// is.
+/// `notes` what became of its lines and why; `--tls PORT` says at which port TLS comes in.
+/// `lint FILE` writes what there is to tell of a configuration of hxeval (`lint` of hx_lint). FILE
+/// is read through `files`, once, and no other file is.
 ///
 /// | Status | Comes |
 /// |---|---|
-/// | 0 | all is written |
+/// | 0 | all is written; of `lint` nothing, since there is nothing to tell |
+/// | 1 | all that `lint` has to tell is written, and it is something |
 /// | 2 | the words are no command; nothing is touched |
 /// | 3 | the file has no frontend of the name; nothing is written |
 /// | 5 | the file can't be read; nothing is written |
@@ -47,7 +51,7 @@ pub fn run<F: Files, K: Sink, N: Sink>(
     out: &mut K,
     notes: &mut N,
 ) -> u8
-    ensures status { Contains (0 ∷ 2 ∷ 3 ∷ 5 ∷ 6 ∷ 7 ∷ []) result }
+    ensures status { Contains (0 ∷ 1 ∷ 2 ∷ 3 ∷ 5 ∷ 6 ∷ 7 ∷ []) result }
     ensures usage { (result ≡ 2) ↔ (command_of (texts_of words.now) ≡ None) }
     ensures untouched { result ≡ 2
         → (files.new ≡ files.old) × (out.new ≡ out.old) × (notes.new ≡ notes.old) }
@@ -55,6 +59,10 @@ pub fn run<F: Files, K: Sink, N: Sink>(
     ensures headline { result ≡ 0
         → IfSome (setting_of words.now env.now (F.held files.old)) (λ given.
         Headline given (K.written out.old) (K.written out.new) (N.written notes.old)
+        (N.written notes.new)) }
+    ensures tells { result ≡ 1
+        → IfSome (setting_of words.now env.now (F.held files.old)) (λ given.
+        Tells given (K.written out.old) (K.written out.new) (N.written notes.old)
         (N.written notes.new)) }
     ensures ran { IfSome (setting_of words.now env.now (F.held files.old)) (λ given.
         Ran given (K.written out.old) (K.written out.new) (N.written notes.old)
@@ -80,12 +88,21 @@ pub fn run<F: Files, K: Sink, N: Sink>(
         return 2;
     };
     match attempt(alloc, env, files, command, out, notes) {
-        Ok(()) => 0,
+        Ok(amiss) => written_status(amiss),
         Err(fault) => fault.status(),
     }
 }
 
-/// Reads the file of a command, and writes what it asks for, up to the first fault.
+/// The status of a run that has written all, and whether that says that something is amiss.
+fn written_status(amiss: bool) -> u8
+    ensures status { result ≡ written_status amiss }
+    ensures small { result ≤ 1 }
+{
+    if amiss { 1 } else { 0 }
+}
+
+/// Reads the file of a command, and writes what it asks for, up to the first fault; and whether
+/// that says that something is amiss.
 fn attempt<F: Files, K: Sink, N: Sink>(
     alloc: Global,
     env: &[(Vec<u8>, Vec<u8>)],
@@ -93,7 +110,7 @@ fn attempt<F: Files, K: Sink, N: Sink>(
     command: Command<'_>,
     out: &mut K,
     notes: &mut N,
-) -> Result<(), RunFault>
+) -> Result<bool, RunFault>
     ensures ran { Ran (setting env.now (F.held files.old) (request_of command.entry))
         (K.written out.old) (K.written out.new) (N.written notes.old) (N.written notes.new)
         (result_status result) }
@@ -113,7 +130,8 @@ fn attempt<F: Files, K: Sink, N: Sink>(
     let Some(written) = found else {
         return Err(RunFault::NoFrontend);
     };
-    Ok(write(&written, out, notes)?)
+    write(&written, out, notes)?;
+    Ok(written.amiss)
 }
 
 /// What comes of a command over a file with this content; none where the file has no frontend of
@@ -128,19 +146,50 @@ fn outcome_of(
     ensures { IfOk result (λ found. outcome_view found
         ≡ outcome_of (pairs_of env.now) (request_of command.entry) (Some content.now)) }
 {
-    let lines = lines_of(alloc, env, content)?;
     match command.task {
-        Task::Frontends => {
-            let text = frontends(alloc, lines.as_slice())?;
-            Ok(Some(Written {
-                text,
-                notes: Vec::new(alloc),
-            }))
-        }
+        Task::Frontends => Ok(Some(what_takes_traffic(alloc, env, content)?)),
         Task::Frontend { name, tls } => {
+            let lines = lines_of(alloc, env, content)?;
             configuration(alloc, command.file, name, tls, lines.as_slice())
         }
+        Task::Lint => Ok(Some(what_to_tell(alloc, env, content)?)),
     }
+}
+
+/// What takes traffic in a file with this content.
+fn what_takes_traffic(
+    alloc: Global,
+    env: &[(Vec<u8>, Vec<u8>)],
+    content: &[u8],
+) -> Result<Written, NoMemory>
+    ensures { IfOk result (λ written. outcome_view (Some written)
+        ≡ outcome_by WhatTakesTraffic (pairs_of env.now) [] content.now) }
+{
+    let lines = lines_of(alloc, env, content)?;
+    let text = frontends(alloc, lines.as_slice())?;
+    Ok(Written {
+        text,
+        notes: Vec::new(alloc),
+        amiss: false,
+    })
+}
+
+/// What there is to tell of a configuration of hxeval with this content.
+fn what_to_tell(
+    alloc: Global,
+    env: &[(Vec<u8>, Vec<u8>)],
+    content: &[u8],
+) -> Result<Written, NoMemory>
+    ensures { IfOk result (λ written. outcome_view (Some written)
+        ≡ outcome_by WhatToTell (pairs_of env.now) [] content.now) }
+{
+    let text = lint(alloc, env, content)?;
+    let amiss = !text.is_empty();
+    Ok(Written {
+        text,
+        notes: Vec::new(alloc),
+        amiss,
+    })
 }
 
 /// Writes the text, and then the notes.

@@ -76,4 +76,13 @@ file defaults~ http-request set-path /x%HU~frontend a~ acl a capture.req.method 
 run frontend a c | 0 | ~http-request set-path /x%[url]~~ acl a capture.req.method GET~http-request set-header X %HU,%[src]~ use_backend %HM~ | c:1: left out: it names the section~c:2: written as: http-request set-path /x%[url]: the same in words that hxeval takes~c:3: left out: it names the section~c:5: written as: http-request set-header X %HU,%[src]: the same in words that hxeval takes~
 file frontend b~ http-request set-path /x~frontend a~ http-request set-header X %HU~backend c~ http-request set-method GET
 run frontend a c | 0 | ~~~http-request set-header X %[url]~~~ | c:3: left out: it names the section~c:4: written as: http-request set-header X %[url]: the same in words that hxeval takes~
+file acl a req.hdr_val(X) lt 3~http-request dney if a~http-request deny if { var(txn.x) -m found }
+run lint c | 1 | 1 differs header-as-number~2 refused 9 Unsupported dney~3 unset txn.x~ |
+run lint d | 5 | |
+run lint | 2 | |
+run lint c c | 2 | |
+write 1
+run lint c | 6 | |
+file acl a path \"$A\"~http-request deny if a
+run lint c | 0 | |
 ";

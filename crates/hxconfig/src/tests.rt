@@ -208,6 +208,6 @@ fn runs_end_and_write_as_their_lines_say(rt: HostRuntime) -> Result<(), Fail> {
             count = count.saturating_add(1);
         }
     }
-    assert_eq!(rt; count, 45);
+    assert_eq!(rt; count, 51);
     Ok(())
 }

@@ -1,7 +1,8 @@
 use Rattle.std.proofs.Common.{◌≡◌, ◌+◌, ◌≤◌, ◌++◌, length}
 use Rattle.std.specs.Option.{option_copied}
 use Rattle.hx_base.specs.Pairs.{pairs_of}
-use Rattle.hxconfig.specs.Lines.{lines_from, lines_of, size_left, texts_left}
+use Rattle.hx_lint.specs.Texts.{size_left, texts_left}
+use Rattle.hxconfig.specs.Lines.{lines_from, lines_of}
 use Rattle.hxconfig.proofs.lines.lines_of.Given as goal
 
 abbrev pub invariant-lines : goal.invariant-lines

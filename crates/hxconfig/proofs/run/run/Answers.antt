@@ -1,15 +1,21 @@
 use Rattle.std.proofs.Common.{◌∙◌, Err, ap, inl, inr, sym}
-use Rattle.hxconfig.proofs.RunLemmas.{complete, done_status, headline, is_files, is_sink, statuses}
+use Rattle.hxconfig.proofs.RunLemmas.{complete, done_status, headline, is_files, is_sink, statuses, tells, written_statuses}
 use Rattle.hxconfig.proofs.run.run.Goals as goal
 
+pub returns-in-Ok-clause-status : goal.returns-in-Ok-clause-status
+returns-in-Ok-clause-status g c = rw c.written_status.ensures.status (written_statuses c.in-Ok.amiss)
+
 pub returns-in-Ok-clause-headline : goal.returns-in-Ok-clause-headline
-returns-in-Ok-clause-headline g c = rw (← c.in-Some.ensures) (λ zero. headline _ _ _ _ _ c.in-Ok.ensures.ran)
+returns-in-Ok-clause-headline g c = rw (← c.in-Some.ensures) (λ zero. headline _ _ _ _ _ _ c.in-Ok.ensures.ran (sym c.written_status.ensures.status ∙ zero))
+
+pub returns-in-Ok-clause-tells : goal.returns-in-Ok-clause-tells
+returns-in-Ok-clause-tells g c = rw (← c.in-Some.ensures) (λ one. tells _ _ _ _ _ _ c.in-Ok.ensures.ran (sym c.written_status.ensures.status ∙ one))
 
 pub returns-in-Ok-clause-ran : goal.returns-in-Ok-clause-ran
-returns-in-Ok-clause-ran g c = rw (← c.in-Some.ensures) c.in-Ok.ensures.ran
+returns-in-Ok-clause-ran g c = rw (← c.in-Some.ensures, c.written_status.ensures.status) c.in-Ok.ensures.ran
 
 pub returns-in-Ok-clause-complete : goal.returns-in-Ok-clause-complete
-returns-in-Ok-clause-complete g c = rw (← c.in-Some.ensures) (λ files out notes. inr (done_status _ _ _ _ _ c.in-Ok.ensures.ran))
+returns-in-Ok-clause-complete g c = rw (← c.in-Some.ensures, c.written_status.ensures.status) (λ files out notes. inr (done_status _ _ _ _ _ c.in-Ok.amiss c.in-Ok.ensures.ran))
 
 pub returns-in-Ok-clause-files_read : goal.returns-in-Ok-clause-files_read
 returns-in-Ok-clause-files_read g c = rw (← c.in-Some.ensures) c.in-Ok.ensures.files_read

@@ -1,5 +1,5 @@
 -- How words are written as a line (HAProxy configuration manual 2.6, section 2.2): outside quotes,
--- each byte that has a meaning there after a backslash. `hxconfig::laws::line_reads_back` says that
+-- each byte that has a meaning there after a backslash. `hx_lint::laws::line_reads_back` says that
 -- the line has these words.
 use Rattle.std.specs.Prelude.{ℕ, ◌==◌, ◌||◌, List, [], ◌∷◌, ◌++◌, codes, flat_map, if◌then◌else◌}
 use Rattle.hx_base.specs.Bytes.{ascii}

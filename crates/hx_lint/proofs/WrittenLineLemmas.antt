@@ -8,7 +8,7 @@ use Rattle.hx_words.specs.TextItems.TextItem.{Gap, Part}
 use Rattle.hx_words.specs.Variable.{Env}
 use Rattle.hx_words.specs.Words.{word_item, words_of}
 use Rattle.hx_words.proofs.WordLemmas.{KeepsWords, ends_well, words_gap, words_part, words_start}
-use Rattle.hxconfig.specs.Spelling.{byte_text, line_text, word_text, words_after}
+use Rattle.hx_lint.specs.Spelling.{byte_text, line_text, word_text, words_after}
 
 -- ---- items
 

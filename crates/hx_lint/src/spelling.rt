@@ -1,10 +1,10 @@
 ghost use Rattle.std.specs.Prelude.{◌≡◌, ◌++◌, OnOk};
-ghost use Rattle.hxconfig.specs.Spelling.{byte_text, line_text, word_text};
+ghost use Rattle.hx_lint.specs.Spelling.{byte_text, line_text, word_text};
 
 use hx_text::{NoMemory, Octets};
 
 /// Appends the line that has these words.
-pub(crate) fn push_line(text: &mut Vec<u8>, words: &[Octets]) -> Result<(), NoMemory>
+pub fn push_line(text: &mut Vec<u8>, words: &[Octets]) -> Result<(), NoMemory>
     ensures { OnOk result (text.new.items ≡ text.old.items ++ line_text words.now) }
 {
     let [first, others @ ..] = words else {
@@ -21,7 +21,7 @@ pub(crate) fn push_line(text: &mut Vec<u8>, words: &[Octets]) -> Result<(), NoMe
 }
 
 /// Appends a word as it is written outside quotes.
-fn push_word(text: &mut Vec<u8>, word: &[u8]) -> Result<(), NoMemory>
+pub(crate) fn push_word(text: &mut Vec<u8>, word: &[u8]) -> Result<(), NoMemory>
     ensures { OnOk result (text.new.items ≡ text.old.items ++ word_text word.now) }
 {
     if word.is_empty() {

@@ -1,6 +1,6 @@
 use Rattle.std.proofs.Common.{◌≡◌, ◌++◌, length, flat_map}
-use Rattle.hxconfig.specs.Spelling.{byte_text, word_text}
-use Rattle.hxconfig.proofs.spelling.push_word.Given as goal
+use Rattle.hx_lint.specs.Spelling.{byte_text, word_text}
+use Rattle.hx_lint.proofs.spelling.push_word.Given as goal
 
 abbrev pub invariant-loop-rest : goal.invariant-loop-rest
 invariant-loop-rest l = l.text.items ++ flat_map byte_text l.rest ≡ l.fn.text.items ++ word_text l.word

@@ -1,0 +1,12 @@
+pub mod Texts
+pub mod Spelling
+pub mod Judging
+pub mod Walks
+pub mod ExprTopics
+pub mod AclTopics
+pub mod ActionTopics
+pub mod CriterionTopics
+pub mod Features
+pub mod Topics
+pub mod Variables
+pub mod Report
