@@ -1,7 +1,8 @@
 -- What a person reads on standard error of a run that ended. The names and reasons of codes are
 -- tables of the library: what is defined here is the sentence in which they stand.
-use Rattle.std.specs.Prelude.{ℕ, ◌==◌, List, ◌++◌, codes, length, map, if◌then◌else◌}
+use Rattle.std.specs.Prelude.{ℕ, ◌==◌, List, ◌++◌, codes, length, map, Option, if◌then◌else◌}
 use Rattle.std.specs.Fmt.{decimal}
+use Rattle.hx_outside.specs.Prefixes.{AppendsPrefix}
 use Rattle.hx_program.specs.Tables.{meaning_of}
 use Rattle.hx_program.specs.declared.codes.TheConstants.{CONFIG_CODES, RECORD_CODES}
 use Rattle.hx_replay.specs.declared.ending.Ending.{Ending}
@@ -73,6 +74,11 @@ ending_text program (RecordRefused offset c) of_status told number code =
 ending_text program UnreadFile of_status told number code = unread_text program told
 ending_text program TooLarge of_status told number code = too_large_text program told
 ending_text program Other of_status told number code = of_status
+
+-- what was written begins the text that is told with some texts beside the fault
+pub record TellsSome (text_with : ToldTexts → List ℕ) (old new : Option (List ℕ)) : Type 0 where
+  pub told : ToldTexts
+  pub written : AppendsPrefix old new (text_with told)
 
 -- the line or the offset of a refusal, and its code
 abbrev pub number_of : Ending → ℕ

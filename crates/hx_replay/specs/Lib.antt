@@ -1,6 +1,10 @@
--- What a program is and what its record is, and what a person is told of a run that ended.
+-- What a program is and what its record is, what a record is answered by whatever answers it, and
+-- what a person is told of a run that ended.
+pub mod Behavior
 pub mod Program
 pub mod Records
+pub mod Outcome
+pub mod Replay
 pub mod Explanation
--- A view of the code, for private contracts.
+-- Views of the code, for contracts of programs and private ones.
 pub mod Gathering

@@ -1,8 +1,6 @@
 -- The record of a run: its bytes as far as they are known, its events, and what refuses them.
 use Rattle.std.specs.Prelude.{◌≡◌, ℕ, List, [], ◌∷◌, ◌++◌, codes, flat_map, Option, None, Some, IfSome, option_map, unwrap_or}
 use Rattle.std.specs.Fmt.{decimal}
-use Rattle.hx_core.specs.Steps.{refusal_of, world_after}
-use Rattle.hx_core.specs.World.{World}
 use Rattle.hx_core.specs.declared.fault.StepFault.{StepFault}
 use Rattle.hx_core.specs.declared.fault.StepFault.TheVariants.{UnknownConn, ConnOpen, TooLarge, NoMemory}
 use Rattle.hx_outside.specs.Log.{HoldsSince, Log}
@@ -47,9 +45,3 @@ abbrev pub events_of : Items → Option (List Event)
 events_of Done = Some []
 events_of (Then placed rest) = option_map (λ events. placed.event ∷ events) (events_of rest)
 events_of _ = None
-
--- each event may stand where it stands
-abbrev pub AreAllowed : World → List Event → Type 0
-AreAllowed world [] = Unit {0}
-AreAllowed world (event ∷ events) =
-    (refusal_of world event ≡ None) × AreAllowed (world_after world event) events

@@ -61,7 +61,7 @@ impl Answers {
 }
 
 /// Writes the answers where there are many, 65,504 bytes or more, as `write_answers` does.
-pub fn write_many<K: Sink>(out: &mut K, answers: &mut Answers) -> Result<(), SinkFault>
+pub(crate) fn write_many<K: Sink>(out: &mut K, answers: &mut Answers) -> Result<(), SinkFault>
     ensures ok { OnOk result (Passes (K.written out.old) (K.written out.new)
         answers.old answers.new []) }
     ensures err { OnErr result (answers.new ≡ []) }
@@ -79,7 +79,7 @@ pub fn write_many<K: Sink>(out: &mut K, answers: &mut Answers) -> Result<(), Sin
 /// Writes the answers, or a prefix of them where it can't. They are gathered no more.
 ///
 /// `Failed` only where the count of faults of `out` rose, and `NoMemory` where memory ran out.
-pub fn write_answers<K: Sink>(out: &mut K, answers: &mut Answers) -> Result<(), SinkFault>
+pub(crate) fn write_answers<K: Sink>(out: &mut K, answers: &mut Answers) -> Result<(), SinkFault>
     ensures empty { answers.new ≡ [] }
     ensures ok { OnOk result (Appends (K.written out.old) (K.written out.new) answers.old) }
     ensures prefix { AppendsPrefix (K.written out.old) (K.written out.new) answers.old }

@@ -31,9 +31,9 @@ pub struct Told<'t> {
 /// what is said where the exit status says all.
 ///
 /// A refused configuration is explained as `PROGRAM: CONFIG:LINE: PLACE: REASON (CODE NAME)`, a
-/// refused record as `PROGRAM: record, byte OFFSET: PLACE: REASON (CODE NAME)`, by the code's row in
-/// its table. LINE, OFFSET and CODE are those of the ending. What `told` has of the place and the
-/// reason is handed on as it is.
+/// refused record as `PROGRAM: record, byte OFFSET: PLACE: REASON (CODE NAME)`, by the code's row
+/// in its table. LINE, OFFSET and CODE are those of the ending. What `told` has of the place and
+/// the reason is handed on as it is.
 ///
 /// `Failed` only where the count of faults of `err` rose, and `NoMemory` where memory ran out: a
 /// prefix of the text was then written.

@@ -1,6 +1,14 @@
-//! What programs share that replay a record through a configuration: answers that are gathered
-//! before they are written, a record whose last bytes are kept, and what a person is told of a run
-//! that ended: the reason by its code, and the place of the fault.
+//! What programs share that replay a record through a configuration: the replay itself, over
+//! whatever answers the events, a record whose last bytes are kept, and what a person is told of a
+//! run that ended: the reason by its code, and the place of the fault.
+//!
+//! A program says what answers an event by an impl of `Answerer`, and what that means by its
+//! `Behavior`. `specs/Replay.antt` says what a record is answered under a behavior.
+//!
+//! ```
+//! let mut engine = CountedEngine::new(alloc, rules, refs); // hxeval's answerer
+//! replay(alloc, &mut engine, &mut record, &mut out, &mut maker)?;
+//! ```
 //!
 //! ```
 //! fn tell<K: Sink, F: Files, S>(
@@ -25,6 +33,7 @@
 //! ```
 #![tactic(auto)]
 
+mod answerer;
 mod answers;
 mod ending;
 mod explanation;
@@ -34,12 +43,17 @@ mod line_place;
 mod place;
 mod recent_record;
 mod record_place;
+mod record_replay;
 mod refused_word;
+mod replay_fault;
 mod spelling;
 mod unknown_call;
 
-pub use answers::{Answers, write_answers, write_many};
+pub use answerer::Answerer;
+pub use answers::Answers;
 pub use ending::Ending;
 pub use explanation::{Told, explain};
 pub use place::{KnownConfig, Place, place_of};
 pub use recent_record::RecentRecord;
+pub use record_replay::replay;
+pub use replay_fault::ReplayFault;

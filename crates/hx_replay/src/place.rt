@@ -1,3 +1,5 @@
+ghost use Rattle.std.specs.Prelude.{◌≡◌, []};
+
 use crate::ending::Ending;
 use crate::file_place::{entry_place, naming_line};
 use crate::line_place::line_place;
@@ -32,7 +34,9 @@ pub struct KnownConfig<'t> {
 }
 
 /// Nothing is known of the place.
-pub(crate) fn unplaced(alloc: Global) -> Place {
+pub(crate) fn unplaced(alloc: Global) -> Place
+    ensures { result.text.items ≡ [] }
+{
     Place {
         text: Vec::new(alloc),
         reason: b"",
@@ -79,7 +83,8 @@ fn push_shown(out: &mut Vec<u8>, text: &[u8]) -> Result<(), AllocError> {
 ///
 /// The file is read again for it from `files`, and so are the lines of the configuration, under the
 /// environment `env`. Where the text of the configuration isn't known, where a file isn't as it
-/// was, where an ending has no such place, and where memory runs out, nothing is told.
+/// was, where an ending has no such place (`too_large`, `other`), and where memory runs out,
+/// nothing is told. Contracts say nothing of the words.
 pub fn place_of<F: Files, S>(
     alloc: Global,
     ending: Ending,
@@ -88,7 +93,11 @@ pub fn place_of<F: Files, S>(
     files: &mut F,
     record: &RecentRecord<S>,
     requests: u64,
-) -> Place {
+) -> Place
+    ensures held { F.held files.new ≡ F.held files.old }
+    ensures too_large { ending ≡ Ending.TooLarge → result.text.items ≡ [] }
+    ensures other { ending ≡ Ending.Other → result.text.items ≡ [] }
+{
     match ending {
         Ending::ConfigRefused { line, code } => {
             refused_place(alloc, config, env, files, line, code)
@@ -109,7 +118,9 @@ fn refused_place<F: Files>(
     files: &mut F,
     line: u64,
     code: u32,
-) -> Place {
+) -> Place
+    ensures held { F.held files.new ≡ F.held files.old }
+{
     let Some(text) = config.text else {
         return unplaced(alloc);
     };
@@ -128,7 +139,9 @@ fn file_place<F: Files>(
     files: &mut F,
     file: &[u8],
     code: u32,
-) -> Place {
+) -> Place
+    ensures held { F.held files.new ≡ F.held files.old }
+{
     if code != BAD_PATTERN && code != BAD_VALUE && code != FILE_TOO_LONG {
         return unplaced(alloc);
     }

@@ -7,7 +7,7 @@ use Rattle.std.specs.Ordering.{nat_cmp}
 use Rattle.std.specs.Str.{bytes_eq}
 use Rattle.std.proofs.lemmas.Bool.{lt-ltb}
 use Rattle.std.proofs.lemmas.Slice.Eq.{bytes_eq-Decides}
-use Rattle.hx_core.specs.Steps.{after_head, after_number, answer_of, next_number, refusal_of, world_after, IsRefusal, StepCountsLarge}
+use Rattle.hx_core.specs.Steps.{after_head, after_number, answer_of, next_number, refusal_of, world_after, StepCountsLarge}
 use Rattle.hx_core.specs.World.{World}
 use Rattle.hx_core.specs.declared.fault.StepFault.{StepFault}
 use Rattle.hx_core.specs.declared.fault.StepFault.TheVariants as step
@@ -17,10 +17,10 @@ use Rattle.hx_outside.specs.Count.{Rose}
 use Rattle.hx_outside.specs.Makers.{CountsLarge, ExpressionText, MakerState}
 use Rattle.hx_record.specs.declared.Event.{Event}
 use Rattle.hx_record.specs.declared.Event.TheVariants.{Conn, Req, Close, Cli}
-use Rattle.hx_replay.specs.Records.{AreAllowed}
-use Rattle.hxdiff.specs.Comparison.{AreAnsweredAlike, Comparison, comparison_after, comparison_to}
+use Rattle.hx_replay.specs.Behavior.{AreAllowed, state_after}
+use Rattle.hx_replay.specs.Program.{engine_behavior}
+use Rattle.hxdiff.specs.Comparison.{AreAnsweredAlike, Comparison, comparison_after, comparison_behavior}
 use Rattle.hxdiff.specs.Tally.{counted_if, some_differ, tally_after}
-use Rattle.hxdiff.specs.Gathering.{GathersDifference}
 use Rattle.hxdiff.specs.declared.tally.Tally.{Tally}
 
 -- ---- connections
@@ -70,24 +70,19 @@ refused_alike old new (Close id) same =
     ap (λ (now_open : Connections). if map.contains_key now_open id then None else Some step.UnknownConn) same
 refused_alike old new (Cli session text) same = refl
 
-pub allowed_alike : (old new : World) (events : List Event) → old.connections ≡ new.connections → AreAllowed old events → AreAllowed new events
+pub allowed_alike : (old new : World) (events : List Event) → old.connections ≡ new.connections → AreAllowed engine_behavior old events → AreAllowed engine_behavior new events
 allowed_alike old new [] same allowed = tt
 allowed_alike old new (event ∷ events) same allowed = (
   sym (refused_alike old new event same) ∙ allowed.0,
   allowed_alike (world_after old event) (world_after new event) events (alike_after old new event same) allowed.1,
 )
 
--- ---- an event
+-- what may stand where it stands in both may do so in the old one
+pub allowed_by_both : (c : Comparison) (events : List Event) → AreAllowed comparison_behavior c events → AreAllowed engine_behavior c.old_world events
+allowed_by_both c [] allowed = tt
+allowed_by_both c (event ∷ events) allowed = (allowed.0, allowed_by_both (comparison_after c event) events allowed.1)
 
--- an event of which an engine gives no answer
-pub no_answer : (before after : Comparison) (event : Event) (old new : List ℕ) (fault : StepFault)
-    → (IsRefusal fault → refusal_of before.old_world event ≡ Some fault)
-    → (¬ (IsRefusal fault) → refusal_of before.old_world event ≡ None) → new ≡ old
-    → GathersDifference before after event old new (Err fault)
-no_answer before after event old new step.UnknownConn refused allowed same = (refused tt, same)
-no_answer before after event old new step.ConnOpen refused allowed same = (refused tt, same)
-no_answer before after event old new step.TooLarge refused allowed same = (allowed (λ is. is), same)
-no_answer before after event old new step.NoMemory refused allowed same = (allowed (λ is. is), same)
+-- ---- an event
 
 -- what a maker knows after a fault: of the first engine, or of the second one after a step of the first that asked for no
 -- text that was too large
@@ -146,7 +141,7 @@ differ_stays tally (Cli session text) old new some =
           (counted_stays (not (bytes_eq old new)) tally.commands_differ commands)
     ]
 
-differ_to_end : (now : Comparison) (events : List Event) → some_differ now.report.tally ≡ true → some_differ (comparison_to now events).report.tally ≡ true
+differ_to_end : (now : Comparison) (events : List Event) → some_differ now.report.tally ≡ true → some_differ (state_after comparison_behavior now events).report.tally ≡ true
 differ_to_end now [] some = some
 differ_to_end now (event ∷ events) some =
     differ_to_end (comparison_after now event) events
@@ -181,12 +176,12 @@ by_test true at_true at_false = at_true refl
 by_test false at_true at_false = at_false refl
 
 -- no difference at the end, none before
-none_before : (now : Comparison) (events : List Event) → some_differ (comparison_to now events).report.tally ≡ false → some_differ now.report.tally ≡ false
+none_before : (now : Comparison) (events : List Event) → some_differ (state_after comparison_behavior now events).report.tally ≡ false → some_differ now.report.tally ≡ false
 none_before now events none_at_end =
     by_test (some_differ now.report.tally) (λ some. absurd (true≢false (sym (differ_to_end now events some) ∙ none_at_end))) (λ is. is)
 
 -- where nothing is counted, each event has the same answer
-pub alike_of_none : (now : Comparison) (events : List Event) → some_differ (comparison_to now events).report.tally ≡ false
+pub alike_of_none : (now : Comparison) (events : List Event) → some_differ (state_after comparison_behavior now events).report.tally ≡ false
     → AreAnsweredAlike now.old_world now.new_world events
 alike_of_none now [] none_at_end = tt
 alike_of_none now (event ∷ events) none_at_end =
@@ -205,7 +200,7 @@ same_uncounted tally (Cli session text) old new same =
 
 -- and the other way round
 pub none_of_alike : (now : Comparison) (events : List Event) → AreAnsweredAlike now.old_world now.new_world events
-    → some_differ (comparison_to now events).report.tally ≡ some_differ now.report.tally
+    → some_differ (state_after comparison_behavior now events).report.tally ≡ some_differ now.report.tally
 none_of_alike now [] alike = refl
 none_of_alike now (event ∷ events) alike =
     none_of_alike (comparison_after now event) events alike.1

@@ -1,11 +1,8 @@
-pub mod BeforeReadingLemmas
 pub mod ComparisonLemmas
 pub mod DifferenceLemmas
 pub mod EndLemmas
 pub mod FilesLemmas
-pub mod LogLemmas
-pub mod OutcomeLemmas
-pub mod ReplayLemmas
+pub mod ReplayFaultLemmas
 pub mod RunLemmas
 pub mod StatusLemmas
 pub mod VerdictLemmas

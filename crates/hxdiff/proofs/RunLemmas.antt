@@ -18,20 +18,21 @@ use Rattle.hx_refs.specs.References.{References, version_entries, RefsState}
 use Rattle.hx_refs.specs.declared.Limits.{Limits}
 use Rattle.hx_rules.specs.Programs.{Rules}
 use Rattle.hx_rules.specs.Tables.{HasHeads, HasLists}
+use Rattle.hx_replay.specs.Gathering.{IsOfRecord, WritesOutcome}
+use Rattle.hx_replay.specs.Outcome.{ends_with}
 use Rattle.hx_replay.specs.Program.{Program, usual_limits}
 use Rattle.hx_replay.specs.Records.{IsRecord}
-use Rattle.hxdiff.specs.Comparison.{Programs}
-use Rattle.hxdiff.specs.Gathering.{Replays}
-use Rattle.hxdiff.specs.Outcome.{Outcome, ConfigRefused, Undecided, last_line}
-use Rattle.hxdiff.specs.Replay.{BeginsWithDecided, ReplayAsksLast, WritesBeforeReading, WritesDecided, decided_outcome, ends_with}
-use Rattle.hxdiff.specs.Run.{Asked, Given, Setting, Accepts, AcceptsBoth, AcceptsSome, AnswersBeforeReading, ConfigJudgesLast, ConfigReads, HasConfig, IsJudgement, RunAsksLast, RunJudgesLast, RunReads, SourceFails, judgement_of, new_of, old_of, outcome_under}
+use Rattle.hx_replay.specs.Replay.{BeginsWithDecided, WritesBeforeReading, decided_outcome}
+use Rattle.hx_replay.proofs.WrittenLemmas.{begins_more}
+use Rattle.hxdiff.specs.Comparison.{Programs, comparison_behavior, initial_comparison}
+use Rattle.hxdiff.specs.Outcome.{ConfigRefused, last_line}
+use Rattle.hxdiff.specs.Run.{Asked, Given, Setting, Accepts, AcceptsBoth, AcceptsSome, AnswersBeforeReading, ConfigJudgesLast, ConfigReads, HasConfig, IsJudgement, RunAsksLast, RunJudgesLast, RunReads, SourceFails, compared_outcome, judgement_of, new_of, old_of, outcome_under}
 use Rattle.hxdiff.specs.RunFault.{Attempted, Finishes, IsAccepted, IsReplayFault, LoadsConfig, fault_end, load_fault, program_of, programs_of, result_end}
 use Rattle.hxdiff.specs.declared.run_fault.RunFault.{RunFault}
 use Rattle.hxdiff.specs.declared.run_fault.RunFault.TheVariants as run
 use Rattle.hxdiff.specs.declared.run_fault.Side.{Side}
 use Rattle.hxdiff.specs.declared.run_fault.Side.TheVariants as sides
 use Rattle.hx_replay.proofs.LogLemmas.{before_map, before_none}
-use Rattle.hxdiff.proofs.LogLemmas.{begins_more}
 
 -- ---- one configuration
 
@@ -201,7 +202,7 @@ record_in_is None = tt
 record_in_is (Some left) = refl
 
 -- where nothing was written and nothing has to be, any configurations and record will do
-unknown : (s : Setting) (old : Option (List ℕ)) (fault : RunFault) → result_end (Err fault) ≡ Undecided → Attempted s old old (Err fault)
+unknown : (s : Setting) (old : Option (List ℕ)) (fault : RunFault) → result_end (Err fault) ≡ None → Attempted s old old (Err fault)
 unknown s old fault undecided =
     let outcome = outcome_under s.asked.task (some_judgement (old_of s)) (some_judgement (new_of s)) (unwrap_or s.left []) in
     record {
@@ -223,7 +224,7 @@ unknown s old fault undecided =
 pub old_unloaded : (s : Setting) (old : Option (List ℕ)) (fault : LoadFault) → LoadsConfig (old_of s) (Err fault)
     → Attempted s old old (Err (load_fault sides.Old fault))
 old_unloaded s old (load.Refused line code) l = record {
-  outcome = ends_with (ConfigRefused sides.Old line code);
+  outcome = ends_with (Some (ConfigRefused sides.Old line code));
   is_such = record {
     old_judgement = loading.Refused (record { line = line; code = code });
     new_judgement = some_judgement (new_of s);
@@ -244,7 +245,7 @@ old_unloaded s old load.NoMemory l = unknown s old run.NoMemory refl
 pub new_unloaded : (s : Setting) (made : Rules × RefsState) (old : Option (List ℕ)) (fault : LoadFault) → IsAccepted (old_of s) made
     → LoadsConfig (new_of s) (Err fault) → Attempted s old old (Err (load_fault sides.New fault))
 new_unloaded s made old (load.Refused line code) accepted l = record {
-  outcome = ends_with (ConfigRefused sides.New line code);
+  outcome = ends_with (Some (ConfigRefused sides.New line code));
   is_such = record {
     old_judgement = loading.Accepted made.0 made.1.content;
     new_judgement = loading.Refused (record { line = line; code = code });
@@ -265,7 +266,7 @@ new_unloaded s made old load.NoMemory accepted l = unknown s old run.NoMemory re
 -- ---- a record that was replayed
 
 pub compared : (s : Setting) (first second : Rules × RefsState) (old new : Option (List ℕ)) (r : Result Bool RunFault) → IsAccepted (old_of s) first
-    → IsAccepted (new_of s) second → Replays (programs_of s.asked.task first second) s.left old new [] r → Attempted s old new r
+    → IsAccepted (new_of s) second → WritesOutcome (IsOfRecord (compared_outcome (programs_of s.asked.task first second)) s.left) old new [] (result_end r) → Attempted s old new r
 compared s first second old new r of_old of_new replays = record {
   outcome = replays.outcome;
   is_such = record {
@@ -298,23 +299,23 @@ accept_some s first second P of_old of_new is =
 
 -- the record wasn't read
 pub nothing_read : (s : Setting) (log : Option Log) (old new : Option (List ℕ)) → AnswersBeforeReading s log log old new
-nothing_read s log old new = before_none log (λ bytes. AcceptsSome s (λ programs. BeginsWithDecided programs bytes old new))
+nothing_read s log old new = before_none log (λ bytes. AcceptsSome s (λ programs. BeginsWithDecided comparison_behavior (initial_comparison programs) bytes old new))
 
 pub answers_before : (s : Setting) (first second : Rules × RefsState) (log log' : Option Log) (old new : Option (List ℕ)) → IsAccepted (old_of s) first
-    → IsAccepted (new_of s) second → WritesBeforeReading (programs_of s.asked.task first second) log log' old new → AnswersBeforeReading s log log' old new
+    → IsAccepted (new_of s) second → WritesBeforeReading comparison_behavior (initial_comparison (programs_of s.asked.task first second)) log log' old new → AnswersBeforeReading s log log' old new
 answers_before s first second log log' old new of_old of_new written =
-    before_map log log' (λ bytes. BeginsWithDecided (programs_of s.asked.task first second) bytes old new)
-    (λ bytes. AcceptsSome s (λ programs. BeginsWithDecided programs bytes old new)) written
-    (λ bytes begins. accept_some s first second (λ programs. BeginsWithDecided programs bytes old new) of_old of_new begins)
+    before_map log log' (λ bytes. BeginsWithDecided comparison_behavior (initial_comparison (programs_of s.asked.task first second)) bytes old new)
+    (λ bytes. AcceptsSome s (λ programs. BeginsWithDecided comparison_behavior (initial_comparison programs) bytes old new)) written
+    (λ bytes begins. accept_some s first second (λ programs. BeginsWithDecided comparison_behavior (initial_comparison programs) bytes old new) of_old of_new begins)
 
 before_moved : (s : Setting) (log log' : Option Log) (old mid new : Option (List ℕ)) (more : List ℕ) → AnswersBeforeReading s log log' old mid
     → Appends mid new more → AnswersBeforeReading s log log' old new
 before_moved s log log' old mid new more so_far appended =
-    before_map log log' (λ bytes. AcceptsSome s (λ programs. BeginsWithDecided programs bytes old mid))
-    (λ bytes. AcceptsSome s (λ programs. BeginsWithDecided programs bytes old new)) so_far (λ bytes answered. record {
+    before_map log log' (λ bytes. AcceptsSome s (λ programs. BeginsWithDecided comparison_behavior (initial_comparison programs) bytes old mid))
+    (λ bytes. AcceptsSome s (λ programs. BeginsWithDecided comparison_behavior (initial_comparison programs) bytes old new)) so_far (λ bytes answered. record {
       programs = answered.programs;
       accepted = answered.accepted;
-      is = begins_more answered.programs bytes old mid new more answered.is appended;
+      is = begins_more comparison_behavior (initial_comparison answered.programs) bytes old mid new more answered.is appended;
     })
 
 -- and then the line of a fault
@@ -334,8 +335,8 @@ source_moved s left' old mid new a nothing = record {
     took = a.is.took;
     consumed = a.is.consumed;
     going_on = a.is.going_on;
-    written = rw (append-nil (decided_outcome a.programs a.is.took).answers) at
-        (Appends-trans old mid new (decided_outcome a.programs a.is.took).answers [] a.is.written nothing);
+    written = rw (append-nil (decided_outcome comparison_behavior (initial_comparison a.programs) a.is.took).answers) at
+        (Appends-trans old mid new (decided_outcome comparison_behavior (initial_comparison a.programs) a.is.took).answers [] a.is.written nothing);
   };
 }
 

@@ -1,81 +1,47 @@
 -- Laws of the status with which a run ends.
-use Rattle.std.proofs.Common.{◌≡◌, ◌≢◌, ℕ, zero, suc, ◌<◌, ◌≤◌, ◌⊎◌, Bool, true, false, List, [], ◌∷◌, ◌++◌, Contains, Option, None, Some, option_map, Result, Ok, Err, inl, inr, arith, refl, sym, ◌∙◌, ap, subst, append_assoc, append-nil}
+use Rattle.std.proofs.Common.{◌≡◌, ◌≢◌, ℕ, zero, suc, ◌<◌, ◌≤◌, ◌⊎◌, Bool, true, false, List, [], ◌∷◌, ◌++◌, Contains, Option, None, Some, option_map, Ok, Err, inl, inr, arith, refl, sym, ◌∙◌, ap, subst, append_assoc, append-nil}
 use mathlib.Core.Bool.{true≢false}
 use Rattle.std.specs.Io.KnownBytes.{Appends}
 use Rattle.std.proofs.KnownBytes.{Appends-trans}
-use Rattle.hx_core.specs.declared.fault.StepFault.{StepFault}
 use Rattle.hx_outside.specs.Count.{Rose}
-use Rattle.hx_record.specs.Record.{Items, Unknown, Done, Bad, Then, record_items}
+use Rattle.hx_record.specs.Record.{record_items}
 use Rattle.hx_record.specs.declared.Event.{Event}
-use Rattle.hx_record.specs.declared.Placed.{Placed}
+use Rattle.hx_replay.specs.Behavior.{state_after}
+use Rattle.hx_replay.specs.Outcome.{Outcome, RecordEnd, RefusedAt, ReplayEnd}
 use Rattle.hx_replay.specs.Program.{Program, initial_world}
-use Rattle.hx_replay.specs.Records.{AreAllowed, events_of, record_limit, refusal_code}
-use Rattle.hxdiff.specs.Comparison.{AreAnsweredAlike, Comparison, Programs, comparison_after, comparison_text, comparison_to, difference_of, differences_to, initial_comparison, refusal_in}
-use Rattle.hxdiff.specs.Report.{ending_of}
+use Rattle.hx_replay.specs.Records.{record_limit}
+use Rattle.hx_replay.specs.Replay.{record_outcome}
+use Rattle.hx_replay.proofs.CompletedLemmas.{completes}
+use Rattle.hx_replay.proofs.OutcomeLemmas.{prefix_of}
+use Rattle.hxdiff.specs.Comparison.{AreAnsweredAlike, Comparison, Programs, comparison_behavior, comparison_text, initial_comparison}
 use Rattle.hxdiff.specs.Tally.{some_differ}
 use Rattle.hxdiff.specs.declared.command.Task.{Task}
-use Rattle.hxdiff.specs.Outcome.{End, Outcome, Completed, ConfigRefused, RecordRefused, Undecided, status_of, last_line, text_of, after_answers}
-use Rattle.hxdiff.specs.Replay.{ends_with, replay_outcome, record_outcome}
+use Rattle.hxdiff.specs.Outcome.{End, Completed, ConfigRefused, RecordRefused, run_end, status_of, last_line, text_of}
 use Rattle.hx_load.specs.Loads.{Loading}
 use Rattle.hx_load.specs.Loads as loading
-use Rattle.hxdiff.specs.Run.{Setting, Accepts, AcceptsBoth, Given, HasOutcome, HasStatus, IsJudgement, Ran, Headline, old_of, new_of, outcome_under, outcome_after}
+use Rattle.hxdiff.specs.Run.{Setting, HasOutcome, HasStatus, Ran, Headline, old_of, new_of, outcome_under, outcome_after}
 use Rattle.hxdiff.specs.RunFault.{Attempted, Finishes, completed_status, fault_end, fault_status}
 use Rattle.hxdiff.specs.declared.run_fault.RunFault.{RunFault}
 use Rattle.hxdiff.specs.declared.run_fault.RunFault.TheVariants as run
 use Rattle.hxdiff.specs.declared.run_fault.Side.{Side}
 use Rattle.hxdiff.specs.declared.run_fault.Side.TheVariants as sides
-use Rattle.hxdiff.proofs.ComparisonLemmas.{allowed_alike, alike_of_none, none_of_alike}
-use Rattle.hxdiff.proofs.OutcomeLemmas.{prefix_of}
+use Rattle.hxdiff.proofs.ComparisonLemmas.{allowed_alike, allowed_by_both, alike_of_none, none_of_alike}
 use Rattle.hxdiff.proofs.RunLemmas.{accepts}
 
 -- an end is completed like this, or not
-abbrev IsCompleted : Bool → End → Type 0
-IsCompleted differs (Completed other) = other ≡ differs
+abbrev IsCompleted : Bool → Option End → Type 0
+IsCompleted differs (Some (Completed other)) = other ≡ differs
 IsCompleted differs _ = ⊥
 
-completed : (differs : Bool) (end : End) → end ≡ Completed differs → IsCompleted differs end
+completed : (differs : Bool) (end : Option End) → end ≡ Some (Completed differs) → IsCompleted differs end
 completed differs end is = subst (IsCompleted differs) (sym is) refl
 
--- A completed replay was of a whole record of events that may stand where they stand, and wrote what comes of their
--- answers.
-pub record Completes (both : Comparison) (items : Items) (differs : Bool) : Type 0 where
-  pub events : List Event
-  pub read : events_of items ≡ Some events
-  pub allowed : AreAllowed both.old_world events
-  pub answers : (replay_outcome both items).answers ≡ comparison_text both events
-  pub tells : some_differ (comparison_to both events).report.tally ≡ differs
-
-completes_then : (both : Comparison) (placed : Placed) (rest : Items) (differs : Bool) (refusal : Option StepFault) → refusal_in both placed.event ≡ refusal
-    → (replay_outcome both (Then placed rest)).end ≡ Completed differs
-    → ((replay_outcome (comparison_after both placed.event) rest).end ≡ Completed differs → Completes (comparison_after both placed.event) rest differs)
-    → Completes both (Then placed rest) differs
-unfolding replay_outcome
-completes_then both placed rest differs None allowed is following =
-    let here : replay_outcome both (Then placed rest)
-    ≡ after_answers (difference_of both placed.event) (replay_outcome (comparison_after both placed.event) rest) = rw allowed refl in
-    let later = following (sym (ap (λ (o : Outcome). o.end) here) ∙ is) in
-    let more = differences_to (comparison_after both placed.event) later.events in
-    let sums = ending_of (comparison_to (comparison_after both placed.event) later.events).report in
-    record {
-      events = placed.event ∷ later.events;
-      read = ap (λ found. option_map (λ events. placed.event ∷ events) found) later.read;
-      allowed = (allowed, later.allowed);
-      answers = ap (λ (o : Outcome). o.answers) here ∙ ap (λ text. difference_of both placed.event ++ text) later.answers
-          ∙ sym (append_assoc (difference_of both placed.event) more sums);
-      tells = later.tells;
-    }
-completes_then both placed rest differs (Some fault) refused is following =
-    let here : replay_outcome both (Then placed rest) ≡ ends_with (RecordRefused placed.offset (refusal_code fault)) = rw refused refl in
-    absurd (completed differs (RecordRefused placed.offset (refusal_code fault)) (sym (ap (λ (o : Outcome). o.end) here) ∙ is))
-
-completes : (both : Comparison) (items : Items) (differs : Bool) → (replay_outcome both items).end ≡ Completed differs → Completes both items differs
-unfolding replay_outcome
-completes both Unknown differs is = absurd (completed differs Undecided is)
-completes both Done differs is =
-    record { events = []; read = refl; allowed = tt; answers = refl; tells = completed differs (Completed (some_differ both.report.tally)) is }
-completes both (Bad offset code) differs is = absurd (completed differs (RecordRefused offset code) is)
-completes both (Then placed rest) differs is =
-    completes_then both placed rest differs (refusal_in both placed.event) refl is (completes (comparison_after both placed.event) rest differs)
+-- the replay of a completed run came to the record's end
+at_record_end : (differs : Bool) (end : Option (ReplayEnd Comparison)) → option_map run_end end ≡ Some (Completed differs)
+    → (last : Comparison) × (end ≡ Some (RecordEnd last)) × (some_differ last.report.tally ≡ differs)
+at_record_end differs None is = absurd (completed differs None is)
+at_record_end differs (Some (RecordEnd last)) is = (last, refl, completed differs (Some (Completed (some_differ last.report.tally))) is)
+at_record_end differs (Some (RefusedAt offset code)) is = absurd (completed differs (Some (RecordRefused offset code)) is)
 
 -- configurations and a record that complete a run
 record CompletesRun (task : Task) (old new : Loading) (bytes : List ℕ) (differs : Bool) : Type 0 where
@@ -83,26 +49,33 @@ record CompletesRun (task : Task) (old new : Loading) (bytes : List ℕ) (differ
   task_is : programs.task ≡ task
   old_is : old ≡ loading.Accepted programs.old_program.rules programs.old_program.references
   new_is : new ≡ loading.Accepted programs.new_program.rules programs.new_program.references
-  end : (record_outcome programs bytes).end ≡ Completed differs
-  answers : (outcome_under task old new bytes).answers ≡ (record_outcome programs bytes).answers
+  last : Comparison
+  end : (record_outcome comparison_behavior (initial_comparison programs) bytes).end ≡ Some (RecordEnd last)
+  tells : some_differ last.report.tally ≡ differs
+  answers : (outcome_under task old new bytes).answers ≡ (record_outcome comparison_behavior (initial_comparison programs) bytes).answers
 
-completes_after : (task : Task) (old : Program) (new : Loading) (bytes : List ℕ) (differs : Bool) → (outcome_after task old new bytes).end ≡ Completed differs
+completes_after : (task : Task) (old : Program) (new : Loading) (bytes : List ℕ) (differs : Bool) → (outcome_after task old new bytes).end ≡ Some (Completed differs)
     → CompletesRun task (loading.Accepted old.rules old.references) new bytes differs
-completes_after task old (loading.Refused refusal) bytes differs is = absurd (completed differs (ConfigRefused sides.New refusal.line refusal.code) is)
-completes_after task old (loading.Missing name) bytes differs is = absurd (completed differs Undecided is)
-completes_after task old (loading.Accepted rules refs) bytes differs is = record {
-  programs = record { task = task; old_program = old; new_program = record { rules = rules; references = refs } };
-  task_is = refl;
-  old_is = refl;
-  new_is = refl;
-  end = is;
-  answers = refl;
-}
+completes_after task old (loading.Refused refusal) bytes differs is = absurd (completed differs (Some (ConfigRefused sides.New refusal.line refusal.code)) is)
+completes_after task old (loading.Missing name) bytes differs is = absurd (completed differs None is)
+completes_after task old (loading.Accepted rules refs) bytes differs is =
+    let programs : Programs = record { task = task; old_program = old; new_program = record { rules = rules; references = refs } } in
+    let (last, end, tells) = at_record_end differs (record_outcome comparison_behavior (initial_comparison programs) bytes).end is in
+    record {
+      programs = programs;
+      task_is = refl;
+      old_is = refl;
+      new_is = refl;
+      last = last;
+      end = end;
+      tells = tells;
+      answers = refl;
+    }
 
-completes_run : (task : Task) (old new : Loading) (bytes : List ℕ) (differs : Bool) → (outcome_under task old new bytes).end ≡ Completed differs
+completes_run : (task : Task) (old new : Loading) (bytes : List ℕ) (differs : Bool) → (outcome_under task old new bytes).end ≡ Some (Completed differs)
     → CompletesRun task old new bytes differs
-completes_run task (loading.Refused refusal) new bytes differs is = absurd (completed differs (ConfigRefused sides.Old refusal.line refusal.code) is)
-completes_run task (loading.Missing name) new bytes differs is = absurd (completed differs Undecided is)
+completes_run task (loading.Refused refusal) new bytes differs is = absurd (completed differs (Some (ConfigRefused sides.Old refusal.line refusal.code)) is)
+completes_run task (loading.Missing name) new bytes differs is = absurd (completed differs None is)
 completes_run task (loading.Accepted rules refs) new bytes differs is =
     completes_after task (record { rules = rules; references = refs }) new bytes differs is
 
@@ -115,22 +88,25 @@ status_other : (differs : Bool) → completed_status differs ≡ 1 → differs �
 status_other false is = absurd (omega (arith, is))
 status_other true is = refl
 
-alike_where : (programs : Programs) (events : List Event) (differs : Bool) → some_differ (comparison_to (initial_comparison programs) events).report.tally ≡ differs
+alike_where : (programs : Programs) (events : List Event) (differs : Bool) → some_differ (state_after comparison_behavior (initial_comparison programs) events).report.tally ≡ differs
     → differs ≡ false → AreAnsweredAlike (initial_world programs.old_program) (initial_world programs.new_program) events
 alike_where programs events differs tells is = alike_of_none (initial_comparison programs) events (tells ∙ is)
 
-other_where : (programs : Programs) (events : List Event) (differs : Bool) → some_differ (comparison_to (initial_comparison programs) events).report.tally ≡ differs
+other_where : (programs : Programs) (events : List Event) (differs : Bool) → some_differ (state_after comparison_behavior (initial_comparison programs) events).report.tally ≡ differs
     → differs ≡ true → AreAnsweredAlike (initial_world programs.old_program) (initial_world programs.new_program) events → ⊥
 other_where programs events differs tells is alike =
     true≢false (sym (tells ∙ is) ∙ none_of_alike (initial_comparison programs) events alike)
 
-headline_of : (s : Setting) (old new : Option (List ℕ)) (differs : Bool) (outcome : Outcome) (wrote : List ℕ) (h : HasOutcome s outcome)
+headline_of : (s : Setting) (old new : Option (List ℕ)) (differs : Bool) (outcome : Outcome End) (wrote : List ℕ) (h : HasOutcome s outcome)
     → CompletesRun s.asked.task h.old_judgement h.new_judgement h.bytes differs → outcome.answers ≡ wrote → Appends old new wrote
     → Headline s old new (completed_status differs)
 headline_of s old new differs outcome wrote h r is appended =
-    let whole = completes (initial_comparison r.programs) (record_items h.bytes record_limit) differs r.end in
+    let whole = completes comparison_behavior (initial_comparison r.programs) (record_items h.bytes record_limit) r.last r.end in
+    let old_allowed = allowed_by_both (initial_comparison r.programs) whole.events whole.allowed in
+    let tells : some_differ (state_after comparison_behavior (initial_comparison r.programs) whole.events).report.tally ≡ differs =
+    ap (λ (c : Comparison). some_differ c.report.tally) (sym whole.last_is) ∙ r.tells in
     let text : comparison_text (initial_comparison r.programs) whole.events ≡ wrote =
-    sym whole.answers ∙ sym r.answers ∙ sym (ap (λ (o : Outcome). o.answers) h.is) ∙ is in
+    sym whole.answers ∙ sym r.answers ∙ sym (ap (λ (o : Outcome End). o.answers) h.is) ∙ is in
     record {
       programs = r.programs;
       accepted = record {
@@ -142,11 +118,11 @@ headline_of s old new differs outcome wrote h r is appended =
       of_source = h.of_source;
       events = whole.events;
       read = whole.read;
-      old_allowed = whole.allowed;
-      new_allowed = allowed_alike (initial_world r.programs.old_program) (initial_world r.programs.new_program) whole.events refl whole.allowed;
+      old_allowed = old_allowed;
+      new_allowed = allowed_alike (initial_world r.programs.old_program) (initial_world r.programs.new_program) whole.events refl old_allowed;
       written = subst (λ (t : List ℕ). Appends old new t) (sym text) appended;
-      same = λ zero_is. alike_where r.programs whole.events differs whole.tells (status_same differs zero_is);
-      other = λ one_is. other_where r.programs whole.events differs whole.tells (status_other differs one_is);
+      same = λ zero_is. alike_where r.programs whole.events differs tells (status_same differs zero_is);
+      other = λ one_is. other_where r.programs whole.events differs tells (status_other differs one_is);
     }
 
 -- a run that is completed
@@ -154,21 +130,21 @@ pub headline : (s : Setting) (old new : Option (List ℕ)) (differs : Bool) → 
 headline s old new differs a =
     headline_of s old new differs a.outcome a.wrote a.is_such
     (completes_run s.asked.task a.is_such.old_judgement a.is_such.new_judgement a.is_such.bytes differs
-    (sym (ap (λ (o : Outcome). o.end) a.is_such.is) ∙ a.answers.0))
+    (sym (ap (λ (o : Outcome End). o.end) a.is_such.is) ∙ a.answers.0))
     (a.answers.1 ∙ append-nil a.wrote) a.appended
 
 -- all answers of an outcome, and then what is written of its end
-wrote_all : (outcome : Outcome) (end : End) (wrote line : List ℕ) → outcome.end ≡ end → outcome.answers ≡ wrote → line ≡ last_line end
+wrote_all : (outcome : Outcome End) (end : Option End) (wrote line : List ℕ) → outcome.end ≡ end → outcome.answers ≡ wrote → line ≡ last_line end
     → text_of outcome ≡ wrote ++ line
 wrote_all outcome end wrote line is answers last = rw (answers, is, last) refl
 
-status_is : (differs : Bool) → status_of (Completed differs) ≡ Some (completed_status differs)
+status_is : (differs : Bool) → status_of (Some (Completed differs)) ≡ Some (completed_status differs)
 status_is false = refl
 status_is true = refl
 
 pub ran_completed : (s : Setting) (old new : Option (List ℕ)) (differs : Bool) → Attempted s old new (Ok differs) → Ran s old new (completed_status differs)
 ran_completed s old new differs a =
-    let text : text_of a.outcome ≡ a.wrote ++ [] = wrote_all a.outcome (Completed differs) a.wrote [] a.answers.0 (a.answers.1 ∙ append-nil a.wrote) refl in
+    let text : text_of a.outcome ≡ a.wrote ++ [] = wrote_all a.outcome (Some (Completed differs)) a.wrote [] a.answers.0 (a.answers.1 ∙ append-nil a.wrote) refl in
     record {
       outcome = a.outcome;
       of_setting = a.is_such;
@@ -227,7 +203,7 @@ nil_of_append [] rest is = refl
 nil_of_append (b ∷ prefix) rest is = cc
 
 -- a prefix of the answers is one of the text
-ran_prefix : (s : Setting) (old new : Option (List ℕ)) (outcome : Outcome) (wrote rest : List ℕ) (status : ℕ) → HasOutcome s outcome
+ran_prefix : (s : Setting) (old new : Option (List ℕ)) (outcome : Outcome End) (wrote rest : List ℕ) (status : ℕ) → HasOutcome s outcome
     → outcome.answers ≡ wrote ++ rest → Appends old new wrote → 5 ≤ status → Ran s old new status
 ran_prefix s old new outcome wrote rest status of_setting is appended large = record {
   outcome = outcome;

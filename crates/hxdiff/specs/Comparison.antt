@@ -5,6 +5,7 @@ use Rattle.hx_core.specs.World.{World}
 use Rattle.hx_core.specs.declared.fault.StepFault.{StepFault}
 use Rattle.hx_outside.specs.Makers.{ExpressionText}
 use Rattle.hx_record.specs.declared.Event.{Event}
+use Rattle.hx_replay.specs.Behavior.{Behavior, answers_to, state_after}
 use Rattle.hx_replay.specs.Program.{Program, initial_world}
 use Rattle.hxdiff.specs.Report.{ReportParts, empty_report, ending_of, report_after, told_of}
 use Rattle.hxdiff.specs.declared.command.Task.{Task}
@@ -47,26 +48,26 @@ comparison_after c event = record {
   report = report_after c.report event (answer_of c.old_world event) (answer_of c.new_world event);
 }
 
--- what is known after events in order
-abbrev pub comparison_to : Comparison → List Event → Comparison
-comparison_to c [] = c
-comparison_to c (event ∷ rest) = comparison_to (comparison_after c event) rest
-
--- what is written at once of events in order, one after the other
-abbrev pub differences_to : Comparison → List Event → List ℕ
-differences_to c [] = []
-differences_to c (event ∷ rest) =
-    difference_of c event ++ differences_to (comparison_after c event) rest
-
--- what is written of a record with these events: what is written at once of each, and then what is
--- written at the end
-abbrev pub comparison_text : Comparison → List Event → List ℕ
-comparison_text c events = differences_to c events ++ ending_of (comparison_to c events).report
-
 -- one of the two reads a key as this expression at an event
 abbrev pub ComparisonAsksFor : Comparison → Event → ExpressionText → Type 0
 ComparisonAsksFor c event text =
     EventAsksFor c.old_world event text ⊎ EventAsksFor c.new_world event text
+
+-- what both do beside one another
+abbrev pub comparison_behavior : Behavior Comparison
+comparison_behavior = record {
+  refusal = refusal_in;
+  answer = difference_of;
+  after = comparison_after;
+  ending = λ c. ending_of c.report;
+}
+
+-- what is written of a record with these events: what is written at once of each, and then what is
+-- written at the end
+abbrev pub comparison_text : Comparison → List Event → List ℕ
+comparison_text c events =
+    answers_to comparison_behavior c events
+    ++ ending_of (state_after comparison_behavior c events).report
 
 -- two worlds answer each of these events alike
 abbrev pub AreAnsweredAlike : (old new : World) → List Event → Type 0

@@ -1,7 +1,10 @@
 -- What a run writes, and how it ends.
 use Rattle.std.specs.Prelude.{ℕ, Bool, true, false, List, [], ◌++◌, codes, Option, None, Some}
 use Rattle.std.specs.Fmt.{decimal}
+use Rattle.hx_replay.specs.Outcome.{Outcome, RecordEnd, RefusedAt, ReplayEnd}
 use Rattle.hx_replay.specs.Records.{record_line}
+use Rattle.hxdiff.specs.Comparison.{Comparison}
+use Rattle.hxdiff.specs.Tally.{some_differ}
 use Rattle.hxdiff.specs.declared.run_fault.Side.{Side}
 use Rattle.hxdiff.specs.declared.run_fault.Side.TheVariants.{Old, New}
 
@@ -10,20 +13,19 @@ pub data End : Type 0 where
   Completed : (differs : Bool) → End
   ConfigRefused : (side : Side) → (line code : ℕ) → End
   RecordRefused : (offset code : ℕ) → End
-  Undecided : End  -- more of a configuration or of the record is not known
 
--- the differences and the totals, one after the other, and how the run ends after them
-pub record Outcome : Type 0 where
-  pub answers : List ℕ
-  pub end : End
+-- the end of a run whose replay ends so
+abbrev pub run_end : ReplayEnd Comparison → End
+run_end (RecordEnd last) = Completed (some_differ last.report.tally)
+run_end (RefusedAt offset code) = RecordRefused offset code
 
 -- the exit status of a run that ends so, where that is decided
-abbrev pub status_of : End → Option ℕ
-status_of (Completed false) = Some 0
-status_of (Completed true) = Some 1
-status_of (ConfigRefused side line code) = Some 3
-status_of (RecordRefused offset code) = Some 4
-status_of Undecided = None
+abbrev pub status_of : Option End → Option ℕ
+status_of (Some (Completed false)) = Some 0
+status_of (Some (Completed true)) = Some 1
+status_of (Some (ConfigRefused side line code)) = Some 3
+status_of (Some (RecordRefused offset code)) = Some 4
+status_of None = None
 
 -- the word for a configuration
 abbrev pub side_name : Side → List ℕ
@@ -35,15 +37,12 @@ config_line side line code =
     side_name side ++ (codes " " ++ (decimal line ++ (codes " " ++ (decimal code ++ codes "\n"))))
 
 -- the line that is written of a refusal
-abbrev pub last_line : End → List ℕ
-last_line (Completed differs) = []
-last_line (ConfigRefused side line code) = config_line side line code
-last_line (RecordRefused offset code) = record_line offset code
-last_line Undecided = []
+abbrev pub last_line : Option End → List ℕ
+last_line (Some (Completed differs)) = []
+last_line (Some (ConfigRefused side line code)) = config_line side line code
+last_line (Some (RecordRefused offset code)) = record_line offset code
+last_line None = []
 
 -- all that is written
-abbrev pub text_of : Outcome → List ℕ
+abbrev pub text_of : Outcome End → List ℕ
 text_of outcome = outcome.answers ++ last_line outcome.end
-
-abbrev pub after_answers : List ℕ → Outcome → Outcome
-after_answers answers outcome = record { answers = answers ++ outcome.answers; end = outcome.end }

@@ -14,11 +14,13 @@ use Rattle.hx_program.specs.Machine.{texts_of}
 use Rattle.hx_record.specs.Record.{record_items}
 use Rattle.hx_record.specs.declared.Event.{Event}
 use Rattle.hx_words.specs.Variable.{Env}
-use Rattle.hx_replay.specs.Program.{Program, initial_world, usual_limits}
-use Rattle.hx_replay.specs.Records.{AreAllowed, HoldsBeforeLastRead, IsRecord, events_of, record_limit}
-use Rattle.hxdiff.specs.Comparison.{Programs, AreAnsweredAlike, comparison_text, initial_comparison}
-use Rattle.hxdiff.specs.Outcome.{Outcome, ConfigRefused, Undecided, status_of, text_of}
-use Rattle.hxdiff.specs.Replay.{BeginsWithDecided, ReplayAsksLast, WritesDecided, ends_with, record_outcome}
+use Rattle.hx_replay.specs.Behavior.{AreAllowed}
+use Rattle.hx_replay.specs.Outcome.{Outcome, ends_with, with_end}
+use Rattle.hx_replay.specs.Program.{Program, engine_behavior, initial_world, usual_limits}
+use Rattle.hx_replay.specs.Records.{HoldsBeforeLastRead, IsRecord, events_of, record_limit}
+use Rattle.hx_replay.specs.Replay.{BeginsWithDecided, ReplayAsksLast, WritesDecided, record_outcome}
+use Rattle.hxdiff.specs.Comparison.{Programs, AreAnsweredAlike, ComparisonAsksFor, comparison_behavior, comparison_text, initial_comparison}
+use Rattle.hxdiff.specs.Outcome.{End, ConfigRefused, run_end, status_of, text_of}
 use Rattle.hxdiff.specs.declared.command.Task.{Task}
 use Rattle.hxdiff.specs.declared.command.Task.TheVariants.{Lines, Counts}
 use Rattle.hxdiff.specs.declared.run_fault.Side.TheVariants.{Old, New}
@@ -123,28 +125,33 @@ pub record IsJudgement (given : Given) (judgement : Loading) : Type 0 where
 
 -- ---- outcomes
 
--- what comes of a record under an old configuration that is accepted
-abbrev pub outcome_after : Task → Program → Loading → List ℕ → Outcome
+-- what comes of a record under two configurations that are accepted
+abbrev pub compared_outcome : Programs → List ℕ → Outcome End
+compared_outcome programs bytes =
+    with_end run_end (record_outcome comparison_behavior (initial_comparison programs) bytes)
+
+-- the same where the new one may be refused
+abbrev pub outcome_after : Task → Program → Loading → List ℕ → Outcome End
 outcome_after task old (loading.Accepted rules refs) bytes =
-    record_outcome (record {
+    compared_outcome (record {
       task = task;
       old_program = old;
       new_program = record { rules = rules; references = refs };
     }) bytes
 outcome_after task old (loading.Refused refusal) bytes =
-    ends_with (ConfigRefused New refusal.line refusal.code)
-outcome_after task old (loading.Missing name) bytes = ends_with Undecided
+    ends_with (Some (ConfigRefused New refusal.line refusal.code))
+outcome_after task old (loading.Missing name) bytes = ends_with None
 
 -- what comes of a record under two configurations: of the old one first, whether it is accepted
-abbrev pub outcome_under : Task → (old new : Loading) → List ℕ → Outcome
+abbrev pub outcome_under : Task → (old new : Loading) → List ℕ → Outcome End
 outcome_under task (loading.Accepted rules refs) new bytes =
     outcome_after task (record { rules = rules; references = refs }) new bytes
 outcome_under task (loading.Refused refusal) new bytes =
-    ends_with (ConfigRefused Old refusal.line refusal.code)
-outcome_under task (loading.Missing name) new bytes = ends_with Undecided
+    ends_with (Some (ConfigRefused Old refusal.line refusal.code))
+outcome_under task (loading.Missing name) new bytes = ends_with None
 
 -- this is the outcome of the configurations and the record of a setting, as far as they are known
-pub record HasOutcome (s : Setting) (outcome : Outcome) : Type 0 where
+pub record HasOutcome (s : Setting) (outcome : Outcome End) : Type 0 where
   pub old_judgement : Loading
   pub new_judgement : Loading
   pub bytes : List ℕ
@@ -156,7 +163,7 @@ pub record HasOutcome (s : Setting) (outcome : Outcome) : Type 0 where
 -- What a run does: it writes a prefix of the text of its setting's outcome. Where its status is
 -- 0, 1, 3 or 4 it writes the whole text, and the status is the outcome's.
 pub record Ran (s : Setting) (old new : Option (List ℕ)) (status : ℕ) : Type 0 where
-  pub outcome : Outcome
+  pub outcome : Outcome End
   pub of_setting : HasOutcome s outcome
   pub written : AppendsPrefix old new (text_of outcome)
   pub whole : Contains (0 ∷ 1 ∷ 3 ∷ 4 ∷ []) status
@@ -164,7 +171,7 @@ pub record Ran (s : Setting) (old new : Option (List ℕ)) (status : ℕ) : Type
 
 -- the status is that of the outcome of what the files hold and the source has left
 pub record HasStatus (s : Setting) (status : ℕ) : Type 0 where
-  pub outcome : Outcome
+  pub outcome : Outcome End
   pub of_setting : HasOutcome s outcome
   pub is : status_of outcome.end ≡ Some status
 
@@ -190,8 +197,8 @@ pub record Headline (s : Setting) (old new : Option (List ℕ)) (status : ℕ) :
   pub of_source : IsRecord s.left bytes
   pub events : List Event
   pub read : events_of (record_items bytes record_limit) ≡ Some events
-  pub old_allowed : AreAllowed (initial_world programs.old_program) events
-  pub new_allowed : AreAllowed (initial_world programs.new_program) events
+  pub old_allowed : AreAllowed engine_behavior (initial_world programs.old_program) events
+  pub new_allowed : AreAllowed engine_behavior (initial_world programs.new_program) events
   pub written : Appends old new (comparison_text (initial_comparison programs) events)
   pub same : status ≡ 0
       → AreAnsweredAlike (initial_world programs.old_program) (initial_world programs.new_program)
@@ -204,7 +211,8 @@ pub record Headline (s : Setting) (old new : Option (List ℕ)) (status : ℕ) :
 -- which is written at once of the events that the bytes taken from the source decide.
 abbrev pub SourceFails : Setting → (left' old new : Option (List ℕ)) → Type 0
 SourceFails s left' old new =
-    AcceptsSome s (λ programs. WritesDecided programs s.left left' old new)
+    AcceptsSome s (λ programs.
+    WritesDecided comparison_behavior (initial_comparison programs) s.left left' old new)
 
 -- The record is read only where both configurations were accepted, and what is decided is written
 -- before more is read: what was written begins with all that is written at once of the events that
@@ -212,7 +220,8 @@ SourceFails s left' old new =
 abbrev pub AnswersBeforeReading : Setting → (log log' : Option Log) → (old new : Option (List ℕ))
     → Type 0
 AnswersBeforeReading s log log' old new = HoldsBeforeLastRead log log' (λ bytes.
-    AcceptsSome s (λ programs. BeginsWithDecided programs bytes old new))
+    AcceptsSome s (λ programs.
+    BeginsWithDecided comparison_behavior (initial_comparison programs) bytes old new))
 
 -- The last text that was too large for the maker is one that is read as a regular expression when
 -- one of the configurations is loaded.
@@ -222,7 +231,9 @@ RunJudgesLast s large = ConfigJudgesLast (old_of s) large ⊎ ConfigJudgesLast (
 -- The last text that was too large for the maker is one for which a rule or a command of one of the
 -- configurations asks, at an event of the record.
 abbrev pub RunAsksLast : Setting → Option ExpressionText → Type 0
-RunAsksLast s large = AcceptsSome s (λ programs. ReplayAsksLast programs s.left large)
+RunAsksLast s large = AcceptsSome s (λ programs.
+    ReplayAsksLast comparison_behavior ComparisonAsksFor (initial_comparison programs)
+    s.left large)
 
 -- the files that a run reads: those of both configurations
 abbrev pub RunReads : Setting → List ℕ → Type 0

@@ -1,20 +1,20 @@
 -- Views of the code of a run: its faults, and what it wrote up to one.
-use Rattle.std.specs.Prelude.{◌≡◌, ℕ, Bool, true, false, List, [], ◌∷◌, ◌++◌, Contains, Option, Result, Ok, Err, ⊤, ◌⊎◌}
+use Rattle.std.specs.Prelude.{◌≡◌, ℕ, Bool, true, false, List, [], ◌∷◌, Contains, Option, None, Some, Result, Ok, Err, ⊤, ◌⊎◌}
 use Rattle.std.specs.Io.KnownBytes.{Appends}
 use Rattle.hx_outside.specs.Prefixes.{AppendsPrefix}
-use Rattle.hx_outside.specs.declared.SinkFault.{SinkFault}
-use Rattle.hx_outside.specs.declared.SinkFault.TheVariants as sink
-use Rattle.hx_record.specs.declared.RecordFault.{RecordFault}
-use Rattle.hx_record.specs.declared.RecordFault.TheVariants as reader
 use Rattle.hx_load.specs.Loads.{Loading}
 use Rattle.hx_load.specs.Loads as loading
 use Rattle.hx_load.specs.declared.load_fault.LoadFault.{LoadFault}
 use Rattle.hx_load.specs.declared.load_fault.LoadFault.TheVariants as load
 use Rattle.hx_refs.specs.References.{RefsState}
 use Rattle.hx_rules.specs.Programs.{Rules}
+use Rattle.hx_replay.specs.Gathering.{WritesOutcome}
+use Rattle.hx_replay.specs.Outcome.{Outcome}
 use Rattle.hx_replay.specs.Program.{Program}
+use Rattle.hx_replay.specs.declared.replay_fault.ReplayFault.{ReplayFault}
+use Rattle.hx_replay.specs.declared.replay_fault.ReplayFault.TheVariants as replay
 use Rattle.hxdiff.specs.Comparison.{Programs}
-use Rattle.hxdiff.specs.Outcome.{End, Outcome, Completed, Undecided, last_line}
+use Rattle.hxdiff.specs.Outcome.{End, Completed, last_line}
 use Rattle.hxdiff.specs.Outcome as ends
 use Rattle.hxdiff.specs.Run.{Given, Setting, HasOutcome, IsJudgement}
 use Rattle.hxdiff.specs.declared.command.Task.{Task}
@@ -29,14 +29,17 @@ load_fault side load.Failed = Files
 load_fault side load.TooLarge = TooLarge
 load_fault side load.NoMemory = NoMemory
 
-abbrev pub sink_fault : SinkFault → RunFault
-sink_fault sink.Failed = Sink
-sink_fault sink.NoMemory = NoMemory
+abbrev pub replay_fault : ReplayFault → RunFault
+replay_fault (replay.RecordRefused offset code) = RecordRefused offset code
+replay_fault replay.Source = Source
+replay_fault replay.Sink = Sink
+replay_fault replay.TooLarge = TooLarge
+replay_fault replay.NoMemory = NoMemory
 
-abbrev pub reader_fault : RecordFault → RunFault
-reader_fault (reader.Bad offset code) = RecordRefused offset code
-reader_fault reader.Failed = Source
-reader_fault reader.NoMemory = NoMemory
+-- what a run comes to whose replay comes to this, with answers that differ or none
+abbrev pub run_result : (differs : Bool) → Result (Unit {0}) ReplayFault → Result Bool RunFault
+run_result differs (Ok _) = Ok differs
+run_result differs (Err fault) = Err (replay_fault fault)
 
 -- the status with which a run ends that came to the record's end
 abbrev pub completed_status : Bool → ℕ
@@ -54,13 +57,13 @@ fault_status TooLarge = 8
 fault_status NoMemory = 7
 
 -- the end that a fault shows: a refusal, or none that the configurations and the record decide
-abbrev pub fault_end : RunFault → End
-fault_end (ConfigRefused side line code) = ends.ConfigRefused side line code
-fault_end (RecordRefused offset code) = ends.RecordRefused offset code
-fault_end _ = Undecided
+abbrev pub fault_end : RunFault → Option End
+fault_end (ConfigRefused side line code) = Some (ends.ConfigRefused side line code)
+fault_end (RecordRefused offset code) = Some (ends.RecordRefused offset code)
+fault_end _ = None
 
-abbrev pub result_end : Result Bool RunFault → End
-result_end (Ok differs) = Completed differs
+abbrev pub result_end : Result Bool RunFault → Option End
+result_end (Ok differs) = Some (Completed differs)
 result_end (Err fault) = fault_end fault
 
 -- a replay has this fault: the configurations are loaded before it
@@ -69,26 +72,9 @@ IsReplayFault (ConfigRefused side line code) = ⊥
 IsReplayFault Files = ⊥
 IsReplayFault _ = ⊤
 
--- these are the answers of an outcome up to an end: all of them where it ends so, and a prefix of
--- them where its end is not decided
-abbrev pub AreAnswersTo : End → Outcome → List ℕ → Type 0
-AreAnswersTo Undecided outcome answers = (rest : List ℕ) × (outcome.answers ≡ answers ++ rest)
-AreAnswersTo end outcome answers = (outcome.end ≡ end) × (outcome.answers ≡ answers)
-
--- A run, or a part of one, up to its end or a fault. It has an outcome of this kind, of whose
--- answers the first are written and the next are gathered: all of them where it ends as the outcome
--- does.
-pub record WritesOutcome (IsSuch : Outcome → Type 0) (old new : Option (List ℕ)) (gathered : List ℕ)
-    (result : Result Bool RunFault) : Type 0 where
-  pub outcome : Outcome
-  pub is_such : IsSuch outcome
-  pub wrote : List ℕ
-  pub appended : Appends old new wrote
-  pub answers : AreAnswersTo (result_end result) outcome (wrote ++ gathered)
-
 -- a run up to the line that is written of its fault
 abbrev pub Attempted : Setting → (old new : Option (List ℕ)) → Result Bool RunFault → Type 0
-Attempted s old new result = WritesOutcome (HasOutcome s) old new [] result
+Attempted s old new result = WritesOutcome (HasOutcome s) old new [] (result_end result)
 
 -- the end of a run: the line that tells the fault was written, and the status is the fault's, or
 -- the sink failed or memory ran out before
@@ -104,14 +90,14 @@ result_status (Err fault) = fault_status fault
 
 -- a run under this setting has an outcome that ends so
 pub record HasEnd (s : Setting) (end : End) : Type 0 where
-  pub outcome : Outcome
+  pub outcome : Outcome End
   pub of_setting : HasOutcome s outcome
-  pub is : outcome.end ≡ end
+  pub is : outcome.end ≡ Some end
 
 -- the same of a refusal; of any other fault nothing is said
-abbrev pub EndsAs : Setting → End → Type 0
-EndsAs s Undecided = ⊤
-EndsAs s end = HasEnd s end
+abbrev pub EndsAs : Setting → Option End → Type 0
+EndsAs s None = ⊤
+EndsAs s (Some end) = HasEnd s end
 
 -- ---- loading
 

@@ -1,8 +1,7 @@
-ghost use Rattle.std.specs.Prelude.{◌≡◌, OnOk};
-ghost use Rattle.hx_core.specs.Steps.{StepCountsLarge};
+ghost use Rattle.std.specs.Prelude.{◌≡◌};
 ghost use Rattle.hx_core.specs.World.{FitRules};
-ghost use Rattle.hxdiff.specs.Comparison.{ComparisonAsksFor, initial_comparison};
-ghost use Rattle.hxdiff.specs.Gathering.{AreRunning, comparison_of, GathersDifference};
+ghost use Rattle.hxdiff.specs.Comparison.{initial_comparison};
+ghost use Rattle.hxdiff.specs.EnginesView.{AreRunning, comparison_of};
 ghost use Rattle.hxdiff.specs.RunFault.{programs_of};
 
 use crate::command::Task;
@@ -11,8 +10,9 @@ use hx_core::{Engine, StepFault};
 use hx_outside::ReMaker;
 use hx_record::Event;
 use hx_refs::Refs;
-use hx_replay::Answers;
+use hx_replay::{Answerer, Answers};
 use hx_rules::Program;
+use hx_text::NoMemory;
 use std::alloc::Global;
 
 /// A configuration that was loaded: its rules and its references.
@@ -21,6 +21,7 @@ pub type Loaded = (Program, Refs);
 /// The engines of both configurations, and what is told of their answers.
 #[derive(Drop)]
 pub struct Engines {
+    alloc: Global,
     pub old_engine: Engine,
     pub new_engine: Engine,
     pub report: Report,
@@ -38,6 +39,7 @@ impl Engines {
         let (old_rules, old_refs) = old;
         let (new_rules, new_refs) = new;
         Engines {
+            alloc,
             old_engine: Engine::new(alloc, old_rules, old_refs),
             new_engine: Engine::new(alloc, new_rules, new_refs),
             report: Report::new(alloc, task),
@@ -45,29 +47,40 @@ impl Engines {
     }
 }
 
-/// Steps over one event with both engines, the old one first, and gathers what is written of it at
-/// once; after a fault what was gathered is as before.
-pub fn gather_difference<M: ReMaker>(
-    alloc: Global,
-    engines: &mut Engines,
-    event: &Event,
-    answers: &mut Answers,
-    maker: &mut M,
-) -> Result<(), StepFault>
-    requires { AreRunning engines.old }
-    ensures gathers { GathersDifference (comparison_of engines.old) (comparison_of engines.new)
-        event.now answers.old answers.new result }
-    ensures running { OnOk result (AreRunning engines.new) }
-    ensures large { StepCountsLarge result (ComparisonAsksFor (comparison_of engines.old) event.now)
-        (M.state maker.old) (M.state maker.new) }
-{
-    let old = engines.old_engine.step(event, maker)?;
-    let new = engines.new_engine.step(event, maker)?;
-    let told = engines
-        .report
-        .tell(alloc, event, old.bytes(), new.bytes(), answers);
-    engines.old_engine.reuse(old);
-    engines.new_engine.reuse(new);
-    told?;
-    Ok(())
+/// An event is answered by both engines, the old one first. What is written of it at once is what
+/// the report tells of the two answers.
+impl Answerer for Engines {
+    ghost use Rattle.hxdiff.specs.Comparison.{Comparison, ComparisonAsksFor, comparison_behavior};
+    ghost use Rattle.hxdiff.specs.EnginesView.{AreRunning, comparison_of};
+
+    ghost State = { Comparison };
+
+    ghost state = { comparison_of };
+
+    ghost behavior = { comparison_behavior };
+
+    ghost AsksFor = { ComparisonAsksFor };
+
+    ghost IsRunning = { AreRunning };
+
+    fn answer<M: ReMaker>(
+        &mut self,
+        event: &Event,
+        answers: &mut Answers,
+        maker: &mut M,
+    ) -> Result<(), StepFault> {
+        let old = self.old_engine.step(event, maker)?;
+        let new = self.new_engine.step(event, maker)?;
+        let told = self
+            .report
+            .tell(self.alloc, event, old.bytes(), new.bytes(), answers);
+        self.old_engine.reuse(old);
+        self.new_engine.reuse(new);
+        told?;
+        Ok(())
+    }
+
+    fn end(&mut self, answers: &mut Answers) -> Result<(), NoMemory> {
+        self.report.end(answers)
+    }
 }

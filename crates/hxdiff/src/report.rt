@@ -1,4 +1,4 @@
-ghost use Rattle.std.specs.Prelude.{◌≡◌, ◌++◌, IfOk, OnOk, OnErr};
+ghost use Rattle.std.specs.Prelude.{◌≡◌, ◌++◌, OnOk, OnErr};
 ghost use Rattle.hxdiff.specs.Difference.{event_difference};
 ghost use Rattle.hxdiff.specs.Report.{empty_report, ending_of, report_after, rows_after, told_of};
 ghost use Rattle.hxdiff.specs.Tally.{some_differ};
@@ -56,6 +56,13 @@ impl Report {
         self.tally.requests
     }
 
+    /// Whether any answers differed so far.
+    pub fn some_differ(&self) -> bool
+        ensures { result ≡ some_differ self.now.tally }
+    {
+        self.tally.some_differ()
+    }
+
     /// Counts an event with these two answers, and gathers what is written of it at once. Where
     /// memory runs out, nothing is gathered, and what is counted isn't known.
     pub fn tell(
@@ -82,18 +89,17 @@ impl Report {
         }
     }
 
-    /// Gathers what is written at the record's end, or nothing where memory runs out, and says
-    /// whether any answers differed.
-    pub fn end(&mut self, answers: &mut Answers) -> Result<bool, NoMemory>
+    /// Gathers what is written at the record's end, or nothing where memory runs out. What is
+    /// counted stays.
+    pub fn end(&mut self, answers: &mut Answers) -> Result<(), NoMemory>
         ensures ok { OnOk result (answers.new ≡ answers.old ++ ending_of self.old) }
-        ensures differs { IfOk result (λ differs. differs ≡ some_differ self.old.tally) }
+        ensures kept { self.new ≡ self.old }
         ensures err { OnErr result (answers.new ≡ answers.old) }
     {
         self.text.clear();
         self.rows.append_lines(&mut self.text)?;
         self.tally.append_totals(&mut self.text)?;
-        answers.push(self.text.as_slice())?;
-        Ok(self.tally.some_differ())
+        answers.push(self.text.as_slice())
     }
 }
 

@@ -4,9 +4,7 @@ ghost use Rattle.hxdiff.specs.Outcome.{config_line, last_line};
 ghost use Rattle.hxdiff.specs.RunFault.{fault_end, fault_status, load_fault};
 
 use hx_load::LoadFault;
-use hx_outside::SinkFault;
-use hx_record::RecordFault;
-use hx_text::NoMemory;
+use hx_replay::ReplayFault;
 use std::alloc::{AllocError, Global};
 
 /// One of the two configurations.
@@ -92,42 +90,19 @@ fn config_line(alloc: Global, side: Side, line: u64, code: u32) -> Result<String
     }
 }
 
-impl From<RecordFault> for RunFault {
+impl From<ReplayFault> for RunFault {
     ghost use Rattle.std.specs.Prelude.{◌≡◌};
-    ghost use Rattle.hxdiff.specs.RunFault.{reader_fault};
+    ghost use Rattle.hxdiff.specs.RunFault.{replay_fault};
 
-    ghost from_gives = { λ fault given. given ≡ reader_fault fault };
+    ghost from_gives = { λ fault given. given ≡ replay_fault fault };
 
-    fn from(fault: RecordFault) -> RunFault {
+    fn from(fault: ReplayFault) -> RunFault {
         match fault {
-            RecordFault::Bad { offset, code } => RunFault::RecordRefused { offset, code },
-            RecordFault::Failed => RunFault::Source,
-            RecordFault::NoMemory => RunFault::NoMemory,
+            ReplayFault::RecordRefused { offset, code } => RunFault::RecordRefused { offset, code },
+            ReplayFault::Source => RunFault::Source,
+            ReplayFault::Sink => RunFault::Sink,
+            ReplayFault::TooLarge => RunFault::TooLarge,
+            ReplayFault::NoMemory => RunFault::NoMemory,
         }
-    }
-}
-
-impl From<SinkFault> for RunFault {
-    ghost use Rattle.std.specs.Prelude.{◌≡◌};
-    ghost use Rattle.hxdiff.specs.RunFault.{sink_fault};
-
-    ghost from_gives = { λ fault given. given ≡ sink_fault fault };
-
-    fn from(fault: SinkFault) -> RunFault {
-        match fault {
-            SinkFault::Failed => RunFault::Sink,
-            SinkFault::NoMemory => RunFault::NoMemory,
-        }
-    }
-}
-
-impl From<NoMemory> for RunFault {
-    ghost use Rattle.std.specs.Prelude.{◌≡◌};
-    ghost use Rattle.hxdiff.specs.declared.run_fault.RunFault.TheVariants as fault;
-
-    ghost from_gives = { λ _ given. given ≡ fault.NoMemory };
-
-    fn from(_: NoMemory) -> RunFault {
-        RunFault::NoMemory
     }
 }

@@ -1,3 +1,6 @@
+ghost use Rattle.hx_replay.specs.Explanation.{TellsSome};
+ghost use Rattle.hxdiff.specs.Explanation.{explanation};
+
 use crate::explain::{ending_of, explain, given_name};
 use crate::run::Ended;
 use crate::run_fault::Side;
@@ -18,7 +21,10 @@ pub fn tell<K: Sink, F: Files + Drop, S>(
     files: KnownFiles<F>,
     record: &RecentRecord<S>,
     large: &[u8],
-) {
+)
+    ensures { TellsSome (explanation ended.status ended.fault) (K.written err.old)
+        (K.written err.new) }
+{
     let side = ended.reached.side;
     let name = given_name(side, words);
     let (mut files, old_text, last) = files.into_parts();

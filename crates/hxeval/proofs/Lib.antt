@@ -1,10 +1,7 @@
-pub mod BeforeReadingLemmas
 pub mod EndLemmas
 pub mod FilesLemmas
 pub mod FirstVersionLemmas
-pub mod OutcomeLemmas
-pub mod ReplayLemmas
+pub mod ReplayFaultLemmas
 pub mod RunLemmas
 pub mod StatusLemmas
 pub mod UnseenLemmas
-pub mod WrittenLemmas

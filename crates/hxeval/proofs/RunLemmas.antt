@@ -3,6 +3,7 @@ use Rattle.std.proofs.Common.{◌≡◌, ℕ, suc, List, [], ◌∷◌, Option, 
 use Rattle.std.specs.Io.KnownBytes.{Appends}
 use Rattle.std.proofs.KnownBytes.{Appends-nil, Appends-trans}
 use Rattle.hx_base.specs.Pairs.{NamedBytes, value_at}
+use Rattle.hx_core.specs.Steps.{EventAsksFor}
 use Rattle.hx_core.specs.World.{FitRules}
 use Rattle.hx_outside.specs.Log.{Log}
 use Rattle.hx_outside.specs.Makers.{ExpressionText}
@@ -16,11 +17,13 @@ use Rattle.hx_refs.specs.declared.Limits.{Limits}
 use Rattle.hx_rules.specs.Programs.{Rules}
 use Rattle.hx_rules.specs.Tables.{HasHeads, HasLists}
 use Rattle.hx_replay.specs.Records.{IsRecord}
-use Rattle.hx_replay.specs.Program.{Program, usual_limits}
+use Rattle.hx_replay.specs.Gathering.{IsOfRecord, WritesOutcome}
+use Rattle.hx_replay.specs.Outcome.{ends_with}
+use Rattle.hx_replay.specs.Program.{engine_behavior, initial_world, Program, usual_limits}
+use Rattle.hx_replay.specs.Replay.{BeginsWithDecided, ReplayAsksLast, WritesBeforeReading, WritesDecided, decided_outcome}
 use Rattle.hx_replay.proofs.LogLemmas.{before_map, before_none}
-use Rattle.hxeval.specs.Gathering.{Replays}
-use Rattle.hxeval.specs.Outcome.{ConfigRefused, Undecided, last_line}
-use Rattle.hxeval.specs.Replay.{BeginsWithDecided, ReplayAsksLast, WritesBeforeReading, WritesDecided, ends_with, decided_outcome}
+use Rattle.hx_replay.proofs.WrittenLemmas.{begins_more}
+use Rattle.hxeval.specs.Outcome.{ConfigRefused, last_line}
 use Rattle.hx_load.specs.LoadResult.{LoadJudgesLast, LoadReadsLast, LoadsHeld}
 use Rattle.hx_load.specs.Loads.{Loading, Loads, ReadsFile, loaded}
 use Rattle.hx_load.specs.Loads as loading
@@ -34,7 +37,6 @@ use Rattle.hx_load.specs.declared.load_fault.LoadFault.TheVariants as load
 use Rattle.hxeval.specs.declared.run_fault.RunFault.{RunFault}
 use Rattle.hxeval.specs.declared.run_fault.RunFault.TheVariants as run
 use Rattle.hx_load.proofs.LoadedLemmas.{loads}
-use Rattle.hxeval.proofs.WrittenLemmas.{begins_more}
 
 -- the files, as far as it is known what they hold
 abbrev pub files_in : Option NamedBytes → NamedBytes
@@ -78,7 +80,7 @@ is_config None name items known = tt
 is_config (Some files) name items known = sym known
 
 -- where nothing was written and nothing has to be, any configuration and record will do
-unknown : (s : Setting) (old : Option (List ℕ)) (fault : RunFault) → result_end (Err fault) ≡ Undecided → Attempted s old old (Err fault)
+unknown : (s : Setting) (old : Option (List ℕ)) (fault : RunFault) → result_end (Err fault) ≡ None → Attempted s old old (Err fault)
 unknown s old fault undecided =
     let outcome = outcome_of s.env s.task (files_in s.held) (config_in s.held s.name) (unwrap_or s.left []) in
     record {
@@ -125,7 +127,7 @@ unloaded_here : (s : Setting) (items : List ℕ) (old : Option (List ℕ)) (faul
     → LoadsHeld s.held s.env usual_limits items (Err fault) → Attempted s old old (Err (load_fault fault))
 unfolding outcome_of
 unloaded_here s items old (load.Refused line code) config l = record {
-  outcome = ends_with (ConfigRefused line code);
+  outcome = ends_with (Some (ConfigRefused line code));
   is_such = record {
     config = Some items;
     files = l.files;
@@ -171,7 +173,7 @@ accepted_is s items rules refs bytes asked same l =
 
 replayed_here : (s : Setting) (items : List ℕ) (rules : Rules) (refs : RefsState) (old new : Option (List ℕ)) (r : Result (Unit {0}) RunFault)
     → s.task ≡ task.Replay → IsConfig s.held s.name (Some items) → LoadsHeld s.held s.env usual_limits items (Ok (rules, refs))
-    → Replays (program_of rules refs.content) s.left old new [] r → Attempted s old new r
+    → WritesOutcome (IsOfRecord (accepted_outcome task.Replay (program_of rules refs.content)) s.left) old new [] (result_end r) → Attempted s old new r
 replayed_here s items rules refs old new r asked config l replays = record {
   outcome = replays.outcome;
   is_such = record {
@@ -191,7 +193,7 @@ replayed_here s items rules refs old new r asked config l replays = record {
 pub replayed_run : (s : Setting) (now : Option NamedBytes) (limits : Limits) (items text : List ℕ) (rules : Rules) (refs : RefsState) (old new : Option (List ℕ)) (r : Result (Unit {0}) RunFault)
     → s.task ≡ task.Replay
     → ReadsConfig s now limits items text → LoadsHeld now s.env limits text (Ok (rules, refs))
-    → Replays (program_of rules refs.content) s.left old new [] r → Attempted s old new r
+    → WritesOutcome (IsOfRecord (accepted_outcome task.Replay (program_of rules refs.content)) s.left) old new [] (result_end r) → Attempted s old new r
 replayed_run s now limits items text rules refs old new r asked read l replays =
     replayed_here s items rules refs old new r asked read.config
     (here s now limits items text read (λ (h : Option NamedBytes) (m : Limits) (t : List ℕ). LoadsHeld h s.env m t (Ok (rules, refs))) l) replays
@@ -223,7 +225,7 @@ checked_run s now limits items text rules refs old new asked read l appended =
     checked_here s items rules refs old new asked read.config
     (here s now limits items text read (λ (h : Option NamedBytes) (m : Limits) (t : List ℕ). LoadsHeld h s.env m t (Ok (rules, refs))) l) appended
 
-uncheckable : (fault : SinkFault) → result_end (Err (sink_fault fault)) ≡ Undecided
+uncheckable : (fault : SinkFault) → result_end (Err (sink_fault fault)) ≡ None
 uncheckable sink.Failed = refl
 uncheckable sink.NoMemory = refl
 
@@ -256,7 +258,7 @@ unchecked_run s now limits items text rules refs old new fault asked read l part
 
 source_fails_here : (s : Setting) (items : List ℕ) (rules : Rules) (refs : RefsState) (left' old new : Option (List ℕ))
     → s.task ≡ task.Replay → IsConfig s.held s.name (Some items) → LoadsHeld s.held s.env usual_limits items (Ok (rules, refs))
-    → WritesDecided (program_of rules refs.content) s.left left' old new → SourceFails s left' old new
+    → WritesDecided engine_behavior (initial_world (program_of rules refs.content)) s.left left' old new → SourceFails s left' old new
 source_fails_here s items rules refs left' old new asked config l written =
     (asked, record { program = program_of rules refs.content; accepted = loaded_accepts s items rules refs config l; is = written })
 
@@ -264,14 +266,14 @@ source_fails_here s items rules refs left' old new asked config l written =
 pub source_fails : (s : Setting) (now : Option NamedBytes) (limits : Limits) (items text : List ℕ) (rules : Rules) (refs : RefsState) (left' old new : Option (List ℕ))
     → s.task ≡ task.Replay
     → ReadsConfig s now limits items text → LoadsHeld now s.env limits text (Ok (rules, refs))
-    → WritesDecided (program_of rules refs.content) s.left left' old new → SourceFails s left' old new
+    → WritesDecided engine_behavior (initial_world (program_of rules refs.content)) s.left left' old new → SourceFails s left' old new
 source_fails s now limits items text rules refs left' old new asked read l written =
     source_fails_here s items rules refs left' old new asked read.config
     (here s now limits items text read (λ (h : Option NamedBytes) (m : Limits) (t : List ℕ). LoadsHeld h s.env m t (Ok (rules, refs))) l) written
 
 asks_here : (s : Setting) (items : List ℕ) (rules : Rules) (refs : RefsState) (large : Option ExpressionText)
     → s.task ≡ task.Replay → IsConfig s.held s.name (Some items) → LoadsHeld s.held s.env usual_limits items (Ok (rules, refs))
-    → ReplayAsksLast (program_of rules refs.content) s.left large → RunAsksLast s large
+    → ReplayAsksLast engine_behavior EventAsksFor (initial_world (program_of rules refs.content)) s.left large → RunAsksLast s large
 asks_here s items rules refs large asked config l asks =
     (asked, record { program = program_of rules refs.content; accepted = loaded_accepts s items rules refs config l; is = asks })
 
@@ -279,7 +281,7 @@ asks_here s items rules refs large asked config l asks =
 pub run_asks : (s : Setting) (now : Option NamedBytes) (limits : Limits) (items text : List ℕ) (rules : Rules) (refs : RefsState) (large : Option ExpressionText)
     → s.task ≡ task.Replay
     → ReadsConfig s now limits items text → LoadsHeld now s.env limits text (Ok (rules, refs))
-    → ReplayAsksLast (program_of rules refs.content) s.left large → RunAsksLast s large
+    → ReplayAsksLast engine_behavior EventAsksFor (initial_world (program_of rules refs.content)) s.left large → RunAsksLast s large
 run_asks s now limits items text rules refs large asked read l asks =
     asks_here s items rules refs large asked read.config
     (here s now limits items text read (λ (h : Option NamedBytes) (m : Limits) (t : List ℕ). LoadsHeld h s.env m t (Ok (rules, refs))) l) asks
@@ -288,7 +290,7 @@ run_asks s now limits items text rules refs large asked read l asks =
 
 -- this was written of what the bytes decide that reads gave, under the configuration of a setting
 abbrev Answered : Setting → (old new : Option (List ℕ)) → List ℕ → Type 0
-Answered s old new bytes = (s.task ≡ task.Replay) × AcceptsSome s (λ program. BeginsWithDecided program bytes old new)
+Answered s old new bytes = (s.task ≡ task.Replay) × AcceptsSome s (λ program. BeginsWithDecided engine_behavior (initial_world program) bytes old new)
 
 -- the record wasn't read
 pub nothing_read : (s : Setting) (log : Option Log) (old new : Option (List ℕ)) → AnswersBeforeReading s log log old new
@@ -296,16 +298,16 @@ nothing_read s log old new = before_none log (Answered s old new)
 
 before_here : (s : Setting) (items : List ℕ) (rules : Rules) (refs : RefsState) (log log' : Option Log) (old new : Option (List ℕ))
     → s.task ≡ task.Replay → IsConfig s.held s.name (Some items) → LoadsHeld s.held s.env usual_limits items (Ok (rules, refs))
-    → WritesBeforeReading (program_of rules refs.content) log log' old new → AnswersBeforeReading s log log' old new
+    → WritesBeforeReading engine_behavior (initial_world (program_of rules refs.content)) log log' old new → AnswersBeforeReading s log log' old new
 before_here s items rules refs log log' old new asked config l written =
-    before_map log log' (λ bytes. BeginsWithDecided (program_of rules refs.content) bytes old new) (Answered s old new) written
+    before_map log log' (λ bytes. BeginsWithDecided engine_behavior (initial_world (program_of rules refs.content)) bytes old new) (Answered s old new) written
     (λ bytes begins. (asked, record { program = program_of rules refs.content; accepted = loaded_accepts s items rules refs config l; is = begins }))
 
 -- a record that was replayed
 pub answers_before : (s : Setting) (now : Option NamedBytes) (limits : Limits) (items text : List ℕ) (rules : Rules) (refs : RefsState) (log log' : Option Log)
     (old new : Option (List ℕ)) → s.task ≡ task.Replay
     → ReadsConfig s now limits items text → LoadsHeld now s.env limits text (Ok (rules, refs))
-    → WritesBeforeReading (program_of rules refs.content) log log' old new → AnswersBeforeReading s log log' old new
+    → WritesBeforeReading engine_behavior (initial_world (program_of rules refs.content)) log log' old new → AnswersBeforeReading s log log' old new
 answers_before s now limits items text rules refs log log' old new asked read l written =
     before_here s items rules refs log log' old new asked read.config
     (here s now limits items text read (λ (h : Option NamedBytes) (m : Limits) (t : List ℕ). LoadsHeld h s.env m t (Ok (rules, refs))) l) written
@@ -318,7 +320,7 @@ before_moved s log log' old mid new more so_far appended =
       record {
         program = answered.1.program;
         accepted = answered.1.accepted;
-        is = begins_more answered.1.program bytes old mid new more answered.1.is appended;
+        is = begins_more engine_behavior (initial_world answered.1.program) bytes old mid new more answered.1.is appended;
       },
     ))
 
@@ -416,8 +418,8 @@ source_moved s left' old mid new (asked, a) nothing = (
       took = a.is.took;
       consumed = a.is.consumed;
       going_on = a.is.going_on;
-      written = rw (append-nil (decided_outcome a.program a.is.took).answers) at
-          (Appends-trans old mid new (decided_outcome a.program a.is.took).answers [] a.is.written nothing);
+      written = rw (append-nil (decided_outcome engine_behavior (initial_world a.program) a.is.took).answers) at
+          (Appends-trans old mid new (decided_outcome engine_behavior (initial_world a.program) a.is.took).answers [] a.is.written nothing);
     };
   },
 )

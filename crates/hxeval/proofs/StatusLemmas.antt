@@ -2,17 +2,17 @@
 use Rattle.std.proofs.Common.{◌≡◌, ◌≢◌, ℕ, zero, suc, ◌<◌, ◌≤◌, ◌⊎◌, List, [], ◌∷◌, ◌++◌, Contains, Option, None, Some, option_map, Ok, Err, inl, inr, arith, refl, sym, ◌∙◌, ap, subst, append_assoc, append-nil}
 use Rattle.std.specs.Io.KnownBytes.{Appends}
 use Rattle.std.proofs.KnownBytes.{Appends-trans}
-use Rattle.hx_core.specs.Steps.{answer_of, refusal_of, world_after}
 use Rattle.hx_core.specs.World.{World}
-use Rattle.hx_core.specs.declared.fault.StepFault.{StepFault}
 use Rattle.hx_outside.specs.Count.{Rose}
-use Rattle.hx_record.specs.Record.{Items, Unknown, Done, Bad, Then, record_items}
-use Rattle.hx_record.specs.declared.Event.{Event}
-use Rattle.hx_record.specs.declared.Placed.{Placed}
-use Rattle.hx_replay.specs.Program.{initial_world, Program, usual_limits}
-use Rattle.hx_replay.specs.Records.{refusal_code, record_limit, events_of, AreAllowed}
-use Rattle.hxeval.specs.Outcome.{End, Outcome, Completed, ConfigRefused, RecordRefused, Undecided, status_of, last_line, text_of, after_answers}
-use Rattle.hxeval.specs.Replay.{ends_with, replay_outcome, record_outcome, answers_to}
+use Rattle.hx_record.specs.Record.{record_items}
+use Rattle.hx_replay.specs.Behavior.{answers_to}
+use Rattle.hx_replay.specs.Outcome.{Outcome, RecordEnd, RefusedAt, ReplayEnd, ends_with}
+use Rattle.hx_replay.specs.Program.{engine_behavior, initial_world, Program, usual_limits}
+use Rattle.hx_replay.specs.Records.{record_limit}
+use Rattle.hx_replay.specs.Replay.{record_outcome}
+use Rattle.hx_replay.proofs.CompletedLemmas.{completes}
+use Rattle.hx_replay.proofs.OutcomeLemmas.{prefix_of}
+use Rattle.hxeval.specs.Outcome.{End, Completed, ConfigRefused, RecordRefused, run_end, status_of, last_line, text_of}
 use Rattle.hx_load.specs.Loads.{Loading, Loads, loaded}
 use Rattle.hx_load.specs.Loads as loading
 use Rattle.hxeval.specs.Run.{Setting, Accepts, Checked, HasOutcome, HasStatus, Ran, Headline, check_line, outcome_under, outcome_of}
@@ -21,67 +21,38 @@ use Rattle.hxeval.specs.declared.command.Task.TheVariants as task
 use Rattle.hxeval.specs.RunFault.{Attempted, Finishes, fault_end, fault_status}
 use Rattle.hxeval.specs.declared.run_fault.RunFault.{RunFault}
 use Rattle.hxeval.specs.declared.run_fault.RunFault.TheVariants as run
-use Rattle.hxeval.proofs.OutcomeLemmas.{prefix_of}
 use Rattle.hxeval.proofs.RunLemmas.{program_of}
 use Rattle.hx_load.proofs.LoadedLemmas.{loads}
 
 -- an end is completed or not
-abbrev IsCompleted : End → Type 0
-IsCompleted Completed = Unit {0}
+abbrev IsCompleted : Option End → Type 0
+IsCompleted (Some Completed) = Unit {0}
 IsCompleted _ = ⊥
 
-completed : (end : End) → end ≡ Completed → IsCompleted end
-completed Completed is = tt
-completed (ConfigRefused line code) is = cc
-completed (RecordRefused offset code) is = cc
-completed Undecided is = cc
+completed : (end : Option End) → end ≡ Some Completed → IsCompleted end
+completed end is = rw is tt
 
--- a completed replay was of a whole record of events that may stand where they stand, and wrote their answers
-pub record Completes (world : World) (items : Items) : Type 0 where
-  pub events : List Event
-  pub read : events_of items ≡ Some events
-  pub allowed : AreAllowed world events
-  pub answers : (replay_outcome world items).answers ≡ answers_to world events
-
-completes_then : (world : World) (placed : Placed) (rest : Items) (refusal : Option StepFault) → refusal_of world placed.event ≡ refusal
-    → (replay_outcome world (Then placed rest)).end ≡ Completed
-    → ((replay_outcome (world_after world placed.event) rest).end ≡ Completed → Completes (world_after world placed.event) rest)
-    → Completes world (Then placed rest)
-unfolding replay_outcome
-completes_then world placed rest None allowed is following =
-    let here : replay_outcome world (Then placed rest)
-    ≡ after_answers (answer_of world placed.event) (replay_outcome (world_after world placed.event) rest) = rw allowed refl in
-    let later = following (sym (ap (λ (o : Outcome). o.end) here) ∙ is) in
-    record {
-      events = placed.event ∷ later.events;
-      read = ap (λ found. option_map (λ events. placed.event ∷ events) found) later.read;
-      allowed = (allowed, later.allowed);
-      answers = ap (λ (o : Outcome). o.answers) here ∙ ap (λ text. answer_of world placed.event ++ text) later.answers;
-    }
-completes_then world placed rest (Some fault) refused is following =
-    let here : replay_outcome world (Then placed rest) ≡ ends_with (RecordRefused placed.offset (refusal_code fault)) = rw refused refl in
-    absurd (completed (RecordRefused placed.offset (refusal_code fault)) (sym (ap (λ (o : Outcome). o.end) here) ∙ is))
-
-completes : (world : World) (items : Items) → (replay_outcome world items).end ≡ Completed → Completes world items
-unfolding replay_outcome
-completes world Unknown is = absurd (completed Undecided is)
-completes world Done is = record { events = []; read = refl; allowed = tt; answers = refl }
-completes world (Bad offset code) is = absurd (completed (RecordRefused offset code) is)
-completes world (Then placed rest) is =
-    completes_then world placed rest (refusal_of world placed.event) refl is (completes (world_after world placed.event) rest)
+-- the replay of a completed run came to the record's end
+at_record_end : (end : Option (ReplayEnd World)) → option_map run_end end ≡ Some Completed → (last : World) × (end ≡ Some (RecordEnd last))
+at_record_end None is = absurd (completed None is)
+at_record_end (Some (RecordEnd last)) is = (last, refl)
+at_record_end (Some (RefusedAt offset code)) is = absurd (completed (Some (RecordRefused offset code)) is)
 
 -- a configuration and a record that complete a run
 record CompletesRun (loaded : Loading) (bytes : List ℕ) : Type 0 where
   program : Program
   is : loaded ≡ loading.Accepted program.rules program.references
-  end : (record_outcome program bytes).end ≡ Completed
-  answers : (outcome_under task.Replay loaded bytes).answers ≡ (record_outcome program bytes).answers
+  last : World
+  end : (record_outcome engine_behavior (initial_world program) bytes).end ≡ Some (RecordEnd last)
+  answers : (outcome_under task.Replay loaded bytes).answers ≡ (record_outcome engine_behavior (initial_world program) bytes).answers
 
-completes_run : (loaded : Loading) (bytes : List ℕ) → (outcome_under task.Replay loaded bytes).end ≡ Completed → CompletesRun loaded bytes
-completes_run (loading.Refused refusal) bytes is = absurd (completed (ConfigRefused refusal.line refusal.code) is)
-completes_run (loading.Missing name) bytes is = absurd (completed Undecided is)
+completes_run : (loaded : Loading) (bytes : List ℕ) → (outcome_under task.Replay loaded bytes).end ≡ Some Completed → CompletesRun loaded bytes
+completes_run (loading.Refused refusal) bytes is = absurd (completed (Some (ConfigRefused refusal.line refusal.code)) is)
+completes_run (loading.Missing name) bytes is = absurd (completed None is)
 completes_run (loading.Accepted rules refs) bytes is =
-    record { program = program_of rules refs; is = refl; end = is; answers = refl }
+    let program = program_of rules refs in
+    let (last, end) = at_record_end (record_outcome engine_behavior (initial_world program) bytes).end is in
+    record { program = program; is = refl; last = last; end = end; answers = refl }
 
 -- a configuration that completes a check
 record CompletesCheck (loaded : Loading) (bytes : List ℕ) : Type 0 where
@@ -89,24 +60,24 @@ record CompletesCheck (loaded : Loading) (bytes : List ℕ) : Type 0 where
   is : loaded ≡ loading.Accepted program.rules program.references
   answers : (outcome_under task.Check loaded bytes).answers ≡ check_line program.rules program.references
 
-completes_check : (loaded : Loading) (bytes : List ℕ) → (outcome_under task.Check loaded bytes).end ≡ Completed → CompletesCheck loaded bytes
-completes_check (loading.Refused refusal) bytes is = absurd (completed (ConfigRefused refusal.line refusal.code) is)
-completes_check (loading.Missing name) bytes is = absurd (completed Undecided is)
+completes_check : (loaded : Loading) (bytes : List ℕ) → (outcome_under task.Check loaded bytes).end ≡ Some Completed → CompletesCheck loaded bytes
+completes_check (loading.Refused refusal) bytes is = absurd (completed (Some (ConfigRefused refusal.line refusal.code)) is)
+completes_check (loading.Missing name) bytes is = absurd (completed None is)
 completes_check (loading.Accepted rules refs) bytes is = record { program = program_of rules refs; is = refl; answers = refl }
 
 -- the outcome of a configuration by its task
-outcome_by : (s : Setting) (outcome : Outcome) (config : List ℕ) (asked : Task) (o : HasOutcome s outcome) → s.task ≡ asked → o.config ≡ Some config
+outcome_by : (s : Setting) (outcome : Outcome End) (config : List ℕ) (asked : Task) (o : HasOutcome s outcome) → s.task ≡ asked → o.config ≡ Some config
     → outcome ≡ outcome_under asked (loaded s.env usual_limits o.files config) o.bytes
 unfolding outcome_of
 outcome_by s outcome config asked o same is = o.is ∙ rw (is, same) refl
 
-no_config_left : (s : Setting) (outcome : Outcome) (o : HasOutcome s outcome) → o.config ≡ None → outcome.end ≡ Completed → ⊥
+no_config_left : (s : Setting) (outcome : Outcome End) (o : HasOutcome s outcome) → o.config ≡ None → outcome.end ≡ Some Completed → ⊥
 unfolding outcome_of
 no_config_left s outcome o config end =
-    let here : outcome ≡ ends_with Undecided = o.is ∙ rw config refl in
-    completed Undecided (sym (ap (λ (o : Outcome). o.end) here) ∙ end)
+    let here : outcome ≡ ends_with None = o.is ∙ rw config refl in
+    completed None (sym (ap (λ (o : Outcome End). o.end) here) ∙ end)
 
-accepts : (s : Setting) (outcome : Outcome) (config : List ℕ) (program : Program) (o : HasOutcome s outcome) → o.config ≡ Some config
+accepts : (s : Setting) (outcome : Outcome End) (config : List ℕ) (program : Program) (o : HasOutcome s outcome) → o.config ≡ Some config
     → loaded s.env usual_limits o.files config ≡ loading.Accepted program.rules program.references → Accepts s program
 accepts s outcome config program o config_is is = record {
   config = config;
@@ -115,15 +86,16 @@ accepts s outcome config program o config_is is = record {
   is = subst (λ (l : Loading). Loads s.env usual_limits o.files config l) is (loads s.env usual_limits o.files config);
 }
 
-headline_of : (s : Setting) (old new : Option (List ℕ)) (wrote : List ℕ) (outcome : Outcome) (config : Option (List ℕ)) (o : HasOutcome s outcome)
-    → s.task ≡ task.Replay → o.config ≡ config → Appends old new wrote → outcome.end ≡ Completed → outcome.answers ≡ wrote → Headline s old new
+headline_of : (s : Setting) (old new : Option (List ℕ)) (wrote : List ℕ) (outcome : Outcome End) (config : Option (List ℕ)) (o : HasOutcome s outcome)
+    → s.task ≡ task.Replay → o.config ≡ config → Appends old new wrote → outcome.end ≡ Some Completed → outcome.answers ≡ wrote → Headline s old new
 headline_of s old new wrote outcome None o asked config appended end answers = absurd (no_config_left s outcome o config end)
 headline_of s old new wrote outcome (Some config) o asked is appended end answers =
     let here = outcome_by s outcome config task.Replay o asked is in
-    let a = completes_run (loaded s.env usual_limits o.files config) o.bytes (sym (ap (λ (o : Outcome). o.end) here) ∙ end) in
-    let c = completes (initial_world a.program) (record_items o.bytes record_limit) a.end in
-    let all : wrote ≡ answers_to (initial_world a.program) c.events =
-    sym answers ∙ ap (λ (o : Outcome). o.answers) here ∙ a.answers ∙ c.answers in
+    let a = completes_run (loaded s.env usual_limits o.files config) o.bytes (sym (ap (λ (o : Outcome End). o.end) here) ∙ end) in
+    let c = completes engine_behavior (initial_world a.program) (record_items o.bytes record_limit) a.last a.end in
+    let all : wrote ≡ answers_to engine_behavior (initial_world a.program) c.events =
+    sym answers ∙ ap (λ (o : Outcome End). o.answers) here ∙ a.answers ∙ c.answers
+    ∙ append-nil (answers_to engine_behavior (initial_world a.program) c.events) in
     record {
       program = a.program;
       accepted = accepts s outcome config a.program o is a.is;
@@ -140,14 +112,14 @@ pub headline : (s : Setting) (old new : Option (List ℕ)) → s.task ≡ task.R
 headline s old new asked a =
     headline_of s old new a.wrote a.outcome a.is_such.config a.is_such asked refl a.appended a.answers.0 (a.answers.1 ∙ append-nil a.wrote)
 
-checked_of : (s : Setting) (old new : Option (List ℕ)) (wrote : List ℕ) (outcome : Outcome) (config : Option (List ℕ)) (o : HasOutcome s outcome)
-    → s.task ≡ task.Check → o.config ≡ config → Appends old new wrote → outcome.end ≡ Completed → outcome.answers ≡ wrote → Checked s old new
+checked_of : (s : Setting) (old new : Option (List ℕ)) (wrote : List ℕ) (outcome : Outcome End) (config : Option (List ℕ)) (o : HasOutcome s outcome)
+    → s.task ≡ task.Check → o.config ≡ config → Appends old new wrote → outcome.end ≡ Some Completed → outcome.answers ≡ wrote → Checked s old new
 checked_of s old new wrote outcome None o asked config appended end answers = absurd (no_config_left s outcome o config end)
 checked_of s old new wrote outcome (Some config) o asked is appended end answers =
     let here = outcome_by s outcome config task.Check o asked is in
-    let a = completes_check (loaded s.env usual_limits o.files config) o.bytes (sym (ap (λ (o : Outcome). o.end) here) ∙ end) in
+    let a = completes_check (loaded s.env usual_limits o.files config) o.bytes (sym (ap (λ (o : Outcome End). o.end) here) ∙ end) in
     let all : wrote ≡ check_line a.program.rules a.program.references =
-    sym answers ∙ ap (λ (o : Outcome). o.answers) here ∙ a.answers in
+    sym answers ∙ ap (λ (o : Outcome End). o.answers) here ∙ a.answers in
     record {
       program = a.program;
       accepted = accepts s outcome config a.program o is a.is;
@@ -160,13 +132,13 @@ checked s old new asked a =
     checked_of s old new a.wrote a.outcome a.is_such.config a.is_such asked refl a.appended a.answers.0 (a.answers.1 ∙ append-nil a.wrote)
 
 -- all answers of an outcome, and then what is written of its end
-wrote_all : (outcome : Outcome) (end : End) (wrote line : List ℕ) → outcome.end ≡ end → outcome.answers ≡ wrote → line ≡ last_line end
+wrote_all : (outcome : Outcome End) (end : Option End) (wrote line : List ℕ) → outcome.end ≡ end → outcome.answers ≡ wrote → line ≡ last_line end
     → text_of outcome ≡ wrote ++ line
 wrote_all outcome end wrote line is answers last = rw (answers, is, last) refl
 
 pub ran_completed : (s : Setting) (old new : Option (List ℕ)) → Attempted s old new (Ok tt) → Ran s old new 0
 ran_completed s old new a =
-    let text : text_of a.outcome ≡ a.wrote ++ [] = wrote_all a.outcome Completed a.wrote [] a.answers.0 (a.answers.1 ∙ append-nil a.wrote) refl in
+    let text : text_of a.outcome ≡ a.wrote ++ [] = wrote_all a.outcome (Some Completed) a.wrote [] a.answers.0 (a.answers.1 ∙ append-nil a.wrote) refl in
     record {
       outcome = a.outcome;
       of_setting = a.is_such;
@@ -224,7 +196,7 @@ nil_of_append [] rest is = refl
 nil_of_append (b ∷ prefix) rest is = cc
 
 -- a prefix of the answers is one of the text
-ran_prefix : (s : Setting) (old new : Option (List ℕ)) (outcome : Outcome) (wrote rest : List ℕ) (status : ℕ) → HasOutcome s outcome
+ran_prefix : (s : Setting) (old new : Option (List ℕ)) (outcome : Outcome End) (wrote rest : List ℕ) (status : ℕ) → HasOutcome s outcome
     → outcome.answers ≡ wrote ++ rest → Appends old new wrote → 5 ≤ status → Ran s old new status
 ran_prefix s old new outcome wrote rest status of_setting is appended large = record {
   outcome = outcome;

@@ -9,8 +9,8 @@ use Rattle.hx_core.specs.World.{World}
 use Rattle.hx_core.specs.declared.fault.StepFault.{StepFault}
 use Rattle.hx_record.specs.declared.Event.{Event}
 use Rattle.hx_replay.specs.Program.{initial_world}
-use Rattle.hx_replay.specs.Records.{AreAllowed}
-use Rattle.hxeval.specs.Replay.{answers_to}
+use Rattle.hx_replay.specs.Behavior.{AreAllowed, answers_to}
+use Rattle.hx_replay.specs.Program.{engine_behavior}
 use Rattle.hxeval.specs.Run.{Headline, Setting}
 use Rattle.hxeval.specs.Unseen.{chosen_answers, ShowsInNoAnswer, ShowsNoUncommittedVersion}
 use Rattle.hx_core.proofs.UnseenRunLemmas.{runs_alike, worlds_begin}
@@ -42,7 +42,7 @@ chosen_step true answer rest answers is = ap (λ (run : Run). with_answer answer
 chosen_step false answer rest answers is = is
 
 -- where each event may stand where it stands, a run is the chosen answers
-chosen_run : (r : ℕ) (chosen : World → Event → Bool) (world : World) (events : List Event) → AreAllowed world events
+chosen_run : (r : ℕ) (chosen : World → Event → Bool) (world : World) (events : List Event) → AreAllowed engine_behavior world events
     → run_of r chosen world events ≡ completed_run (chosen_answers (answer_without_count r) chosen world events)
 chosen_run r chosen world [] allowed = refl
 chosen_run r chosen world (event ∷ events) allowed =
@@ -55,7 +55,7 @@ chosen_run r chosen world (event ∷ events) allowed =
 
 -- a run without a fault is one of such events
 allowed_run : (r : ℕ) (world : World) (events : List Event) → (run_of r is_any_event world events).fault ≡ None
-    → AreAllowed world events
+    → AreAllowed engine_behavior world events
 allowed_run r world [] ends = tt
 allowed_run r world (event ∷ events) ends =
     let rest = run_of r is_any_event (world_after world event) events in
@@ -65,14 +65,14 @@ allowed_run r world (event ∷ events) ends =
 -- ---- what is written
 
 one_after_another : (world : World) (events : List Event)
-    → flat_map (λ (answer : List ℕ). answer) (chosen_answers answer_of is_any_event world events) ≡ answers_to world events
+    → flat_map (λ (answer : List ℕ). answer) (chosen_answers answer_of is_any_event world events) ≡ answers_to engine_behavior world events
 one_after_another world [] = refl
 one_after_another world (event ∷ events) =
     ap (λ (rest : List ℕ). answer_of world event ++ rest) (one_after_another (world_after world event) events)
 
 pub shows_in_no_answer : (r v : ℕ) (world : World) (events : List Event) (old new : Option (List ℕ))
     → run_of r is_any_event world (events_without r v world events) ≡ run_of r (is_kept r v) world events
-    → AreAllowed world events → Appends old new (answers_to world events)
+    → AreAllowed engine_behavior world events → Appends old new (answers_to engine_behavior world events)
     → ShowsInNoAnswer r v world events old new
 shows_in_no_answer r v world events old new alike allowed written =
     let others = events_without r v world events in

@@ -1,7 +1,6 @@
--- What a caller of `run` needs: outcomes, what a record is answered, and the headline;
+-- What a caller of `run` needs: outcomes and the headline;
 -- and what is said beside it of versions that are never committed.
 pub mod Outcome
-pub mod Replay
 pub mod Run
 pub mod RunFiles
 pub mod Unseen
@@ -10,4 +9,3 @@ pub mod Explanation
 -- Views of the code, for private contracts.
 pub mod Command
 pub mod RunFault
-pub mod Gathering

@@ -6,6 +6,7 @@ use Rattle.std.specs.Str.{bytes_eq}
 use Rattle.std.specs.declared.alloc.Global.{Global}
 use Rattle.std.specs.declared.vec.Vec.{Vec}
 use Rattle.hx_base.specs.Pairs.{NamedBytes, pairs_of, value_at}
+use Rattle.hx_core.specs.Steps.{EventAsksFor}
 use Rattle.hx_load.specs.Loads.{GivesProgram, Judges, Loading, ReadsFile, loaded}
 use Rattle.hx_load.specs.Loads as loading
 use Rattle.hx_outside.specs.Log.{Log}
@@ -17,11 +18,13 @@ use Rattle.hx_record.specs.declared.Event.{Event}
 use Rattle.hx_refs.specs.References.{References}
 use Rattle.hx_rules.specs.Programs.{Rules, rule_count}
 use Rattle.hx_words.specs.Variable.{Env}
-use Rattle.hx_replay.specs.Program.{initial_world, Program, usual_limits}
-use Rattle.hx_replay.specs.Records.{HoldsBeforeLastRead, IsRecord, record_limit, events_of, AreAllowed}
-use Rattle.hxeval.specs.Outcome.{Outcome, Completed, ConfigRefused, Undecided, status_of, text_of}
+use Rattle.hx_replay.specs.Behavior.{AreAllowed, answers_to}
+use Rattle.hx_replay.specs.Outcome.{Outcome, ends_with, with_end}
+use Rattle.hx_replay.specs.Program.{engine_behavior, initial_world, Program, usual_limits}
+use Rattle.hx_replay.specs.Records.{HoldsBeforeLastRead, IsRecord, record_limit, events_of}
+use Rattle.hx_replay.specs.Replay.{BeginsWithDecided, ReplayAsksLast, WritesDecided, record_outcome}
+use Rattle.hxeval.specs.Outcome.{End, Completed, ConfigRefused, run_end, status_of, text_of}
 pub use Rattle.hxeval.specs.Outcome.{config_line}
-use Rattle.hxeval.specs.Replay.{BeginsWithDecided, ReplayAsksLast, WritesDecided, ends_with, record_outcome, answers_to}
 use Rattle.hxeval.specs.declared.command.Task.{Task}
 use Rattle.hxeval.specs.declared.command.Task.TheVariants.{Check, Replay}
 
@@ -81,31 +84,32 @@ check_line rules refs =
     ++ (codes " " ++ (decimal (length refs.references) ++ codes "\n")))
 
 -- what comes of a configuration that is accepted: what a record is answered, or that it is accepted
-abbrev pub accepted_outcome : Task → Program → List ℕ → Outcome
-accepted_outcome Replay program bytes = record_outcome program bytes
+abbrev pub accepted_outcome : Task → Program → List ℕ → Outcome End
+accepted_outcome Replay program bytes =
+    with_end run_end (record_outcome engine_behavior (initial_world program) bytes)
 accepted_outcome Check program bytes = record {
   answers = check_line program.rules program.references;
-  end = Completed;
+  end = Some Completed;
 }
 
 -- the same of any configuration, or its refusal; where a file is missing, nothing
-abbrev pub outcome_under : Task → Loading → List ℕ → Outcome
+abbrev pub outcome_under : Task → Loading → List ℕ → Outcome End
 outcome_under task (loading.Accepted rules refs) bytes =
     accepted_outcome task (record { rules = rules; references = refs }) bytes
 outcome_under task (loading.Refused refusal) bytes =
-    ends_with (ConfigRefused refusal.line refusal.code)
-outcome_under task (loading.Missing name) bytes = ends_with Undecided
+    ends_with (Some (ConfigRefused refusal.line refusal.code))
+outcome_under task (loading.Missing name) bytes = ends_with None
 
 -- the outcome of a command over a configuration, files and a record under an environment; of no
 -- configuration, nothing
-unfoldable pub outcome_of : Env → Task → NamedBytes → Option (List ℕ) → List ℕ → Outcome
-outcome_of env task files None bytes = ends_with Undecided
+unfoldable pub outcome_of : Env → Task → NamedBytes → Option (List ℕ) → List ℕ → Outcome End
+outcome_of env task files None bytes = ends_with None
 outcome_of env task files (Some config) bytes =
     outcome_under task (loaded env usual_limits files config) bytes
 
 -- this is the outcome of the configuration, the files and the record of a setting, as far as they
 -- are known
-pub record HasOutcome (s : Setting) (outcome : Outcome) : Type 0 where
+pub record HasOutcome (s : Setting) (outcome : Outcome End) : Type 0 where
   pub config : Option (List ℕ)
   pub files : NamedBytes
   pub bytes : List ℕ
@@ -116,7 +120,7 @@ pub record HasOutcome (s : Setting) (outcome : Outcome) : Type 0 where
 -- What a run does: it writes a prefix of the text of its setting's outcome. Where its status is
 -- 0, 3 or 4 it writes the whole text, and the status is the outcome's.
 pub record Ran (s : Setting) (old new : Option (List ℕ)) (status : ℕ) : Type 0 where
-  pub outcome : Outcome
+  pub outcome : Outcome End
   pub of_setting : HasOutcome s outcome
   pub written : AppendsPrefix old new (text_of outcome)
   pub whole : Contains (0 ∷ 3 ∷ 4 ∷ []) status
@@ -124,7 +128,7 @@ pub record Ran (s : Setting) (old new : Option (List ℕ)) (status : ℕ) : Type
 
 -- the status is that of the outcome of what the files hold and the source has left
 pub record HasStatus (s : Setting) (status : ℕ) : Type 0 where
-  pub outcome : Outcome
+  pub outcome : Outcome End
   pub of_setting : HasOutcome s outcome
   pub is : status_of outcome.end ≡ Some status
 
@@ -156,8 +160,8 @@ pub record Headline (s : Setting) (old new : Option (List ℕ)) : Type 0 where
   pub of_source : IsRecord s.left bytes
   pub events : List Event
   pub read : events_of (record_items bytes record_limit) ≡ Some events
-  pub allowed : AreAllowed (initial_world program) events
-  pub written : Appends old new (answers_to (initial_world program) events)
+  pub allowed : AreAllowed engine_behavior (initial_world program) events
+  pub written : Appends old new (answers_to engine_behavior (initial_world program) events)
 
 -- A check: the configuration was accepted, and its line was written.
 abbrev pub Checked : Setting → (old new : Option (List ℕ)) → Type 0
@@ -168,7 +172,8 @@ Checked s old new = AcceptsSome s (λ program.
 -- written to the events that the bytes taken from the source decide.
 abbrev pub SourceFails : Setting → (left' old new : Option (List ℕ)) → Type 0
 SourceFails s left' old new =
-    (s.task ≡ Replay) × AcceptsSome s (λ program. WritesDecided program s.left left' old new)
+    (s.task ≡ Replay) × AcceptsSome s (λ program.
+    WritesDecided engine_behavior (initial_world program) s.left left' old new)
 
 -- The record is read only where it is to be answered and the configuration was accepted, and what
 -- is decided is written before more is read: what was written begins with all answers to the
@@ -176,7 +181,8 @@ SourceFails s left' old new =
 abbrev pub AnswersBeforeReading : Setting → (log log' : Option Log) → (old new : Option (List ℕ))
     → Type 0
 AnswersBeforeReading s log log' old new = HoldsBeforeLastRead log log' (λ bytes.
-    (s.task ≡ Replay) × AcceptsSome s (λ program. BeginsWithDecided program bytes old new))
+    (s.task ≡ Replay) × AcceptsSome s (λ program.
+    BeginsWithDecided engine_behavior (initial_world program) bytes old new))
 
 -- The last text that was too large for the maker is one that is read as a regular expression when
 -- the configuration is loaded.
@@ -188,7 +194,8 @@ RunJudgesLast s large = HoldsConfig s (λ files config.
 -- event of the record.
 abbrev pub RunAsksLast : Setting → Option ExpressionText → Type 0
 RunAsksLast s large =
-    (s.task ≡ Replay) × AcceptsSome s (λ program. ReplayAsksLast program s.left large)
+    (s.task ≡ Replay) × AcceptsSome s (λ program.
+    ReplayAsksLast engine_behavior EventAsksFor (initial_world program) s.left large)
 
 -- the files that a run reads: the configuration, and those to which it comes when it is loaded, with
 -- no fault before them

@@ -6,8 +6,8 @@ use Rattle.hx_core.specs.Steps.{answer_of, world_after}
 use Rattle.hx_core.specs.Unseen.{answer_without_count, events_without, is_any_event, is_kept, IsNeverCommitted}
 use Rattle.hx_core.specs.World.{World}
 use Rattle.hx_record.specs.declared.Event.{Event}
-use Rattle.hx_replay.specs.Program.{initial_world}
-use Rattle.hx_replay.specs.Records.{AreAllowed}
+use Rattle.hx_replay.specs.Behavior.{AreAllowed}
+use Rattle.hx_replay.specs.Program.{engine_behavior, initial_world}
 use Rattle.hxeval.specs.Run.{Headline, Setting}
 
 -- what a function makes of those of the events that a test chooses, each in the world to which all
@@ -27,7 +27,7 @@ pub record ShowsInNoAnswer (r v : ℕ) (world : World) (events : List Event)
     (old new : Option (List ℕ)) : Type 0 where
   pub written : Appends old new
       (flat_map (λ (answer : List ℕ). answer) (chosen_answers answer_of is_any_event world events))
-  pub allowed : AreAllowed world (events_without r v world events)
+  pub allowed : AreAllowed engine_behavior world (events_without r v world events)
   pub same : chosen_answers (answer_without_count r) is_any_event world
       (events_without r v world events)
       ≡ chosen_answers (answer_without_count r) (is_kept r v) world events

@@ -15,6 +15,7 @@ mod action_runs;
 mod command;
 #[cfg(test)]
 mod command_runs;
+mod counted_engine;
 #[cfg(test)]
 mod example_runs;
 mod explain;
@@ -27,7 +28,7 @@ mod many_tests;
 mod outside_runs;
 #[cfg(test)]
 mod place_tests;
-mod replay;
+mod replay_run;
 mod run;
 mod run_fault;
 #[cfg(test)]

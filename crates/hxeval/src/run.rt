@@ -14,7 +14,7 @@ ghost use Rattle.hxeval.specs.Unseen.{ShowsNoUncommittedVersion};
 ghost use Rattle.hxeval.specs.declared.command.Task.{Task};
 
 use crate::command::{Command, Task, command_of};
-use crate::replay::replay;
+use crate::replay_run::replay_rules;
 use crate::run_fault::RunFault;
 use hx_load::load;
 use hx_outside::{Files, ReMaker, Sink, SinkFault, Source, write_all};
@@ -311,7 +311,7 @@ fn attempt<F: Files, S: Source, K: Sink, M: ReMaker>(
     let config = files.read(alloc, command.name)?;
     let (rules, refs) = load(alloc, config.as_slice(), env, files, maker, Limits::usual())?;
     match command.task {
-        Task::Replay => replay(alloc, rules, refs, record_in, out, maker, requests),
+        Task::Replay => replay_rules(alloc, rules, refs, record_in, out, maker, requests),
         Task::Check => Ok(write_check(alloc, &rules, &refs, out)?),
     }
 }

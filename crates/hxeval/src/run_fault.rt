@@ -5,7 +5,7 @@ ghost use Rattle.hxeval.specs.RunFault.{fault_end, fault_status};
 
 use hx_load::LoadFault;
 use hx_outside::{FileFault, SinkFault};
-use hx_record::RecordFault;
+use hx_replay::ReplayFault;
 use std::alloc::{AllocError, Global};
 
 /// Why a run ended before its record did.
@@ -92,17 +92,19 @@ impl From<LoadFault> for RunFault {
     }
 }
 
-impl From<RecordFault> for RunFault {
+impl From<ReplayFault> for RunFault {
     ghost use Rattle.std.specs.Prelude.{◌≡◌};
-    ghost use Rattle.hxeval.specs.RunFault.{reader_fault};
+    ghost use Rattle.hxeval.specs.RunFault.{replay_fault};
 
-    ghost from_gives = { λ fault given. given ≡ reader_fault fault };
+    ghost from_gives = { λ fault given. given ≡ replay_fault fault };
 
-    fn from(fault: RecordFault) -> RunFault {
+    fn from(fault: ReplayFault) -> RunFault {
         match fault {
-            RecordFault::Bad { offset, code } => RunFault::RecordRefused { offset, code },
-            RecordFault::Failed => RunFault::Source,
-            RecordFault::NoMemory => RunFault::NoMemory,
+            ReplayFault::RecordRefused { offset, code } => RunFault::RecordRefused { offset, code },
+            ReplayFault::Source => RunFault::Source,
+            ReplayFault::Sink => RunFault::Sink,
+            ReplayFault::TooLarge => RunFault::TooLarge,
+            ReplayFault::NoMemory => RunFault::NoMemory,
         }
     }
 }

@@ -1,3 +1,6 @@
+ghost use Rattle.hx_replay.specs.Explanation.{TellsSome};
+ghost use Rattle.hxeval.specs.Explanation.{explanation};
+
 use crate::explain::{ending_of, explain, given_name};
 use crate::run::Ended;
 use hx_outside::{Files, Sink};
@@ -17,7 +20,10 @@ pub(crate) fn tell<K: Sink, F: Files + Drop, S>(
     files: KnownFiles<F>,
     record: &RecentRecord<S>,
     large: &[u8],
-) {
+)
+    ensures { TellsSome (explanation ended.status ended.fault) (K.written err.old)
+        (K.written err.new) }
+{
     let name = given_name(words);
     let (mut files, text, last) = files.into_parts();
     let config = known_config(name, text.as_deref(), last.as_deref());

@@ -1,37 +1,39 @@
-use Rattle.std.proofs.lemmas.Result.{err_from_is_err_and}
-use Rattle.hxdiff.proofs.BeforeReadingLemmas.{gathered_written}
-use Rattle.hxdiff.proofs.ReplayLemmas.{handed_on, replays_written, replays_written_part, sink_not_large}
-use Rattle.hxdiff.specs.RunFault.{programs_of, sink_fault}
-use Rattle.hxdiff.specs.declared.run_fault.RunFault.TheVariants as run
+use Rattle.std.proofs.Common.{sym, ◌∙◌}
+use Rattle.std.specs.Io.KnownBytes.{IsAtEnd}
+use Rattle.hxdiff.specs.EnginesView.{comparison_of}
+use Rattle.hxdiff.specs.RunFault.{programs_of}
+use Rattle.hxdiff.proofs.ReplayFaultLemmas.{at_end_of, replay_kind, run_writes, sink_of, source_of, too_large_of}
 use Rattle.hxdiff.proofs.compare.compare.Goals as goal
-
-pub returns-in_err-write_answers-clause-replays : goal.returns-in_err-write_answers-clause-replays
-returns-in_err-write_answers-clause-replays g c =
-    let p = err_from_is_err_and c.from_residual.result c.from_residual.ensures.1 in
-    rw (p.1, p.2) (replays_written_part (programs_of c.args.task c.args.old c.args.new) (g.S.Source.left c.args.record_in.now) (g.K.Sink.written c.args.out.now)
-    (g.K.Sink.written c.gather-ended.new.out) (g.K.Sink.written c.write_answers.new.out) c.gather-ended.new.answers c.gather-ended.result
-    c.gather-ended.ensures.replays c.write_answers.ensures.prefix c.in_err-write_answers.field-0.0)
 
 pub returns-clause-replays : goal.returns-clause-replays
 returns-clause-replays g c =
-    replays_written (programs_of c.args.task c.args.old c.args.new) (g.S.Source.left c.args.record_in.now) (g.K.Sink.written c.args.out.now)
-    (g.K.Sink.written c.gather-ended.new.out) (g.K.Sink.written c.write_answers.new.out) c.gather-ended.new.answers c.gather-ended.result
-    c.gather-ended.ensures.replays c.in_ok-write_answers.ensures.ok
+    rw (c.run_result.ensures, c.some_differ.ensures) (run_writes (programs_of c.args.task c.args.old c.args.new) (comparison_of c.replay-replayed.new.answerer)
+    (g.S.Source.left c.args.record_in.now) (g.K.Sink.written c.args.out.now) (g.K.Sink.written c.replay-replayed.new.out) c.replay-replayed.result
+    (rw c.new-engines.ensures.comparison at c.replay-replayed.ensures.replays))
 
-pub returns-in_err-write_answers-clause-too_large : goal.returns-in_err-write_answers-clause-too_large
-returns-in_err-write_answers-clause-too_large g c = λ is.
-    let p = err_from_is_err_and c.from_residual.result c.from_residual.ensures.1 in
-    let large = handed_on c.from_residual.result p.0 (sink_fault c.in_err-write_answers.field-0.0) run.TooLarge p.1 p.2 is in
-    absurd (sink_not_large c.in_err-write_answers.field-0.0 large)
-
-pub returns-in_err-write_answers-clause-before_reading : goal.returns-in_err-write_answers-clause-before_reading
-returns-in_err-write_answers-clause-before_reading g c =
-    gathered_written (programs_of c.args.task c.args.old c.args.new) (g.S.Source.log c.args.record_in.now) (g.S.Source.log c.gather-ended.new.record_in)
-    (g.K.Sink.written c.args.out.now) (g.K.Sink.written c.gather-ended.new.out) (g.K.Sink.written c.write_answers.new.out) c.gather-ended.new.answers
-    c.gather-ended.ensures.before_reading c.write_answers.ensures.prefix
+pub returns-clause-decided : goal.returns-clause-decided
+returns-clause-decided g c = λ is. rw c.new-engines.ensures.comparison at
+    (c.replay-replayed.ensures.decided (source_of c.some_differ.result c.replay-replayed.result (sym c.run_result.ensures ∙ is)))
 
 pub returns-clause-before_reading : goal.returns-clause-before_reading
-returns-clause-before_reading g c =
-    gathered_written (programs_of c.args.task c.args.old c.args.new) (g.S.Source.log c.args.record_in.now) (g.S.Source.log c.gather-ended.new.record_in)
-    (g.K.Sink.written c.args.out.now) (g.K.Sink.written c.gather-ended.new.out) (g.K.Sink.written c.write_answers.new.out) c.gather-ended.new.answers
-    c.gather-ended.ensures.before_reading c.write_answers.ensures.prefix
+returns-clause-before_reading g c = rw c.new-engines.ensures.comparison at c.replay-replayed.ensures.before_reading
+
+pub returns-clause-at_end : goal.returns-clause-at_end
+returns-clause-at_end g c =
+    rw c.run_result.ensures (at_end_of (IsAtEnd (g.S.Source.left c.replay-replayed.new.record_in)) c.some_differ.result c.replay-replayed.result
+    c.replay-replayed.ensures.at_end)
+
+pub returns-clause-kind : goal.returns-clause-kind
+returns-clause-kind g c = rw c.run_result.ensures (replay_kind c.some_differ.result c.replay-replayed.result)
+
+pub returns-clause-source : goal.returns-clause-source
+returns-clause-source g c = λ is.
+    c.replay-replayed.ensures.source (source_of c.some_differ.result c.replay-replayed.result (sym c.run_result.ensures ∙ is))
+
+pub returns-clause-sink : goal.returns-clause-sink
+returns-clause-sink g c = λ is.
+    c.replay-replayed.ensures.sink (sink_of c.some_differ.result c.replay-replayed.result (sym c.run_result.ensures ∙ is))
+
+pub returns-clause-too_large : goal.returns-clause-too_large
+returns-clause-too_large g c = λ is. rw c.new-engines.ensures.comparison at
+    (c.replay-replayed.ensures.too_large (too_large_of c.some_differ.result c.replay-replayed.result (sym c.run_result.ensures ∙ is)))

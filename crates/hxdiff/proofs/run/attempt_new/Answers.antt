@@ -1,6 +1,7 @@
 use Rattle.std.proofs.Common.{Err, inl, inr, ap, refl}
 use Rattle.hxdiff.specs.Command.{asked_of}
-use Rattle.hxdiff.specs.Replay.{BeginsWithDecided, ReplayAsksLast, WritesDecided}
+use Rattle.hx_replay.specs.Replay.{ReplayAsksLast, WritesDecided}
+use Rattle.hxdiff.specs.Comparison.{ComparisonAsksFor, comparison_behavior, initial_comparison}
 use Rattle.hxdiff.specs.Run.{setting}
 use Rattle.hxdiff.specs.RunFault.{load_fault}
 use Rattle.hxdiff.specs.declared.run_fault.RunFault.TheVariants as run
@@ -30,7 +31,7 @@ pub returns-in-Ok-clause-source_failed : goal.returns-in-Ok-clause-source_failed
 returns-in-Ok-clause-source_failed g c = λ is. (
   c.compare.ensures.source is,
   accept_some (setting c.args.env.now (g.F.Files.held c.args.files.now) (asked_of c.args.command) (g.S.Source.left c.args.record_in.now)) c.args.old c.in-Ok.new
-      (λ programs. WritesDecided programs (g.S.Source.left c.args.record_in.now) (g.S.Source.left c.compare.new.record_in) (g.K.Sink.written c.args.out.now)
+      (λ programs. WritesDecided comparison_behavior (initial_comparison programs) (g.S.Source.left c.args.record_in.now) (g.S.Source.left c.compare.new.record_in) (g.K.Sink.written c.args.out.now)
       (g.K.Sink.written c.compare.new.out)) c.requires.accepted c.in-Ok.ensures.loads (c.compare.ensures.decided is),
 )
 
@@ -40,7 +41,7 @@ returns-in-Ok-clause-too_large g c = λ is.
       rose_from (g.M.ReMaker.state c.args.maker.now).too_large (g.M.ReMaker.state c.load_config.new.maker).too_large (g.M.ReMaker.state c.compare.new.maker).too_large
           (c.in-Ok.ensures.uncounted (λ is. cc)).0 rose,
       inr (accept_some (setting c.args.env.now (g.F.Files.held c.args.files.now) (asked_of c.args.command) (g.S.Source.left c.args.record_in.now)) c.args.old c.in-Ok.new
-          (λ programs. ReplayAsksLast programs (g.S.Source.left c.args.record_in.now) (g.M.ReMaker.state c.compare.new.maker).large)
+          (λ programs. ReplayAsksLast comparison_behavior ComparisonAsksFor (initial_comparison programs) (g.S.Source.left c.args.record_in.now) (g.M.ReMaker.state c.compare.new.maker).large)
           c.requires.accepted c.in-Ok.ensures.loads asks),
     )
 

@@ -80,42 +80,42 @@ returns-in_err-rules-clause-named g c =
     c.in_ok-config.ensures.bytes c.in_ok-config.ensures.same c.usual.ensures c.as_slice.ensures.value)
     c.in_ok-config.ensures.kept c.in_err-rules.ensures.named
 
-pub replay-requires : goal.replay-requires
-replay-requires g c = fits c.in_ok-rules.refs.content c.in_ok-rules.rules c.in_ok-rules.ensures.heads c.in_ok-rules.ensures.lists
+pub replay_rules-requires : goal.replay_rules-requires
+replay_rules-requires g c = fits c.in_ok-rules.refs.content c.in_ok-rules.rules c.in_ok-rules.ensures.heads c.in_ok-rules.ensures.lists
 
 pub returns-in-Replay-clause-attempted : goal.returns-in-Replay-clause-attempted
 returns-in-Replay-clause-attempted g c =
     replayed_run (setting c.args.env.now (g.F.Files.held c.args.files.now) (asked_of c.args.command) (g.S.Source.left c.args.record_in.now))
     (g.F.Files.held c.read.new.self) c.usual.result c.in_ok-config.config.items c.as_slice.result.now c.in_ok-rules.rules c.in_ok-rules.refs
-    (g.K.Sink.written c.args.out.now) (g.K.Sink.written c.replay.new.out) c.replay.result c.in-Replay.is
+    (g.K.Sink.written c.args.out.now) (g.K.Sink.written c.replay_rules.new.out) c.replay_rules.result c.in-Replay.is
     (reads_config (setting c.args.env.now (g.F.Files.held c.args.files.now) (asked_of c.args.command) (g.S.Source.left c.args.record_in.now)) (g.F.Files.held c.read.new.self) c.usual.result c.in_ok-config.config.items c.as_slice.result.now
     c.in_ok-config.ensures.bytes c.in_ok-config.ensures.same c.usual.ensures c.as_slice.ensures.value)
-    c.in_ok-rules.ensures.loads c.replay.ensures.replays
+    c.in_ok-rules.ensures.loads c.replay_rules.ensures.replays
 
 pub returns-in-Replay-clause-source_failed : goal.returns-in-Replay-clause-source_failed
 returns-in-Replay-clause-source_failed g c = λ is. (
-  c.replay.ensures.source is,
+  c.replay_rules.ensures.source is,
   source_fails (setting c.args.env.now (g.F.Files.held c.args.files.now) (asked_of c.args.command) (g.S.Source.left c.args.record_in.now))
       (g.F.Files.held c.read.new.self) c.usual.result c.in_ok-config.config.items c.as_slice.result.now c.in_ok-rules.rules c.in_ok-rules.refs
-      (g.S.Source.left c.replay.new.record_in) (g.K.Sink.written c.args.out.now) (g.K.Sink.written c.replay.new.out) c.in-Replay.is
+      (g.S.Source.left c.replay_rules.new.record_in) (g.K.Sink.written c.args.out.now) (g.K.Sink.written c.replay_rules.new.out) c.in-Replay.is
       (reads_config (setting c.args.env.now (g.F.Files.held c.args.files.now) (asked_of c.args.command) (g.S.Source.left c.args.record_in.now)) (g.F.Files.held c.read.new.self) c.usual.result c.in_ok-config.config.items c.as_slice.result.now
       c.in_ok-config.ensures.bytes c.in_ok-config.ensures.same c.usual.ensures c.as_slice.ensures.value)
-      c.in_ok-rules.ensures.loads (c.replay.ensures.decided is),
+      c.in_ok-rules.ensures.loads (c.replay_rules.ensures.decided is),
 )
 
 pub returns-in-Replay-clause-config_refused : goal.returns-in-Replay-clause-config_refused
-returns-in-Replay-clause-config_refused g c = λ line code is. absurd (no_config c.replay.result line code c.replay.ensures.kind is)
+returns-in-Replay-clause-config_refused g c = λ line code is. absurd (no_config c.replay_rules.result line code c.replay_rules.ensures.kind is)
 
 pub returns-in-Replay-clause-files_failed : goal.returns-in-Replay-clause-files_failed
-returns-in-Replay-clause-files_failed g c = λ is. absurd (no_files c.replay.result c.replay.ensures.kind is)
+returns-in-Replay-clause-files_failed g c = λ is. absurd (no_files c.replay_rules.result c.replay_rules.ensures.kind is)
 
 pub returns-in-Replay-clause-too_large : goal.returns-in-Replay-clause-too_large
 returns-in-Replay-clause-too_large g c = λ is.
-    let (rose, asks) = c.replay.ensures.too_large is in (
+    let (rose, asks) = c.replay_rules.ensures.too_large is in (
       rw (c.in_ok-rules.ensures.uncounted (λ is. cc)).0 at rose,
       inr (run_asks (setting c.args.env.now (g.F.Files.held c.args.files.now) (asked_of c.args.command) (g.S.Source.left c.args.record_in.now))
           (g.F.Files.held c.read.new.self) c.usual.result c.in_ok-config.config.items c.as_slice.result.now c.in_ok-rules.rules c.in_ok-rules.refs
-          (g.M.ReMaker.state c.replay.new.maker).large c.in-Replay.is
+          (g.M.ReMaker.state c.replay_rules.new.maker).large c.in-Replay.is
           (reads_config (setting c.args.env.now (g.F.Files.held c.args.files.now) (asked_of c.args.command) (g.S.Source.left c.args.record_in.now)) (g.F.Files.held c.read.new.self) c.usual.result c.in_ok-config.config.items c.as_slice.result.now
           c.in_ok-config.ensures.bytes c.in_ok-config.ensures.same c.usual.ensures c.as_slice.ensures.value)
           c.in_ok-rules.ensures.loads asks),
@@ -217,10 +217,10 @@ pub returns-in-Replay-clause-before_reading : goal.returns-in-Replay-clause-befo
 returns-in-Replay-clause-before_reading g c =
     answers_before (setting c.args.env.now (g.F.Files.held c.args.files.now) (asked_of c.args.command) (g.S.Source.left c.args.record_in.now))
     (g.F.Files.held c.read.new.self) c.usual.result c.in_ok-config.config.items c.as_slice.result.now c.in_ok-rules.rules c.in_ok-rules.refs
-    (g.S.Source.log c.args.record_in.now) (g.S.Source.log c.replay.new.record_in) (g.K.Sink.written c.args.out.now) (g.K.Sink.written c.replay.new.out) c.in-Replay.is
+    (g.S.Source.log c.args.record_in.now) (g.S.Source.log c.replay_rules.new.record_in) (g.K.Sink.written c.args.out.now) (g.K.Sink.written c.replay_rules.new.out) c.in-Replay.is
     (reads_config (setting c.args.env.now (g.F.Files.held c.args.files.now) (asked_of c.args.command) (g.S.Source.left c.args.record_in.now)) (g.F.Files.held c.read.new.self) c.usual.result c.in_ok-config.config.items c.as_slice.result.now
     c.in_ok-config.ensures.bytes c.in_ok-config.ensures.same c.usual.ensures c.as_slice.ensures.value)
-    c.in_ok-rules.ensures.loads c.replay.ensures.before_reading
+    c.in_ok-rules.ensures.loads c.replay_rules.ensures.before_reading
 
 -- ---- the files that were read
 
@@ -245,8 +245,8 @@ pub returns-in-Replay-clause-files_read : goal.returns-in-Replay-clause-files_re
 returns-in-Replay-clause-files_read g c =
     files_of_loaded (setting c.args.env.now (g.F.Files.held c.args.files.now) (asked_of c.args.command) (g.S.Source.left c.args.record_in.now))
     (g.F.Files.held c.read.new.self) c.usual.result c.in_ok-config.config.items c.as_slice.result.now c.in_ok-rules.rules c.in_ok-rules.refs (g.F.Files.last c.load.new.files) (g.F.Files.last c.load.new.files)
-    (result_status c.replay.result) (g.F.Files.log c.args.files.now) (g.F.Files.log c.read.new.self) (g.F.Files.log c.load.new.files)
-    (no_refusal c.replay.result c.replay.ensures.kind)
+    (result_status c.replay_rules.result) (g.F.Files.log c.args.files.now) (g.F.Files.log c.read.new.self) (g.F.Files.log c.load.new.files)
+    (no_refusal c.replay_rules.result c.replay_rules.ensures.kind)
     (reads_config (setting c.args.env.now (g.F.Files.held c.args.files.now) (asked_of c.args.command) (g.S.Source.left c.args.record_in.now)) (g.F.Files.held c.read.new.self) c.usual.result c.in_ok-config.config.items c.as_slice.result.now
     c.in_ok-config.ensures.bytes c.in_ok-config.ensures.same c.usual.ensures c.as_slice.ensures.value)
     c.in_ok-config.ensures.log c.in_ok-rules.ensures.reads
