@@ -3,7 +3,7 @@ use crate::items::Items;
 use hx_text::{Octets, VarName};
 
 /// A part of a format.
-#[derive(Debug, Drop)]
+#[derive(Drop)]
 pub enum Part {
     /// bytes that stand for themselves
     Text(Octets),
@@ -17,7 +17,7 @@ pub type Format = Items<Part>;
 
 /// What the location of a redirect is made of (HAProxy configuration manual 2.4, section 4.2,
 /// `redirect`).
-#[derive(Clone, Copy, Debug)]
+#[derive(Clone, Copy)]
 pub enum RedirectKind {
     /// `location`: the format alone
     Location,
@@ -30,7 +30,7 @@ pub enum RedirectKind {
 /// What a rule of `http-request` does (HAProxy configuration manual 2.4, section 4.2): a variant
 /// for each action, whose fields are its arguments in their order. An argument that may be missing
 /// is an option, and a word that may be there is a boolean.
-#[derive(Debug, Drop)]
+#[derive(Drop)]
 pub enum Action {
     /// `allow`: the rules of `http-request` end
     Allow,

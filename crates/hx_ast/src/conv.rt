@@ -4,7 +4,7 @@ use hx_text::{By, Octets, Out, VarName};
 /// What an expression makes of a sample (HAProxy configuration manual 2.4, section 7.3.1): a
 /// variant for each converter, whose fields are its arguments in their order. An argument that may
 /// be missing is an option. All converters that look a key up in a map share a variant.
-#[derive(Debug, Drop)]
+#[derive(Drop)]
 pub enum Conv {
     /// `lower`: ASCII capitals become small letters
     Lower,

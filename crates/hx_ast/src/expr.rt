@@ -7,7 +7,7 @@ pub type Convs = Items<Conv>;
 
 /// An expression: a fetch, and the converters that its sample goes through from the first to the
 /// last (HAProxy configuration manual 2.4, section 7.3).
-#[derive(Debug, Drop)]
+#[derive(Drop)]
 pub struct Expr {
     /// what is taken from the request, its connection or the variables
     pub fetch: Fetch,

@@ -7,7 +7,7 @@ use hx_text::{Ip, Octets, VarName};
 ///
 /// The number after the name of a header is that of an occurrence: of the header's values, or
 /// lines, from the first, 1, where it is positive, and from the last, -1, where it is negative.
-#[derive(Debug, Drop)]
+#[derive(Drop)]
 pub enum Fetch {
     /// `always_true`
     AlwaysTrue,

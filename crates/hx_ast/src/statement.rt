@@ -18,7 +18,7 @@ pub type Cond = Items<Conj>;
 /// An ACL: samples, and the patterns that they are compared with (HAProxy configuration manual 2.4,
 /// section 7.1). It has the inline patterns twice: as they are written, and under the last of its
 /// heads.
-#[derive(Debug, Drop)]
+#[derive(Drop)]
 pub struct Decl {
     /// gives the samples
     pub expr: Expr,
@@ -33,7 +33,7 @@ pub struct Decl {
 }
 
 /// The ACL of a term.
-#[derive(Debug, Drop)]
+#[derive(Drop)]
 pub enum AclUse {
     /// the ACL of this name: one that is declared, or else one that is predefined
     Named(Octets),
@@ -42,7 +42,7 @@ pub enum AclUse {
 }
 
 /// A term of a condition (HAProxy configuration manual 2.4, section 7.2).
-#[derive(Debug, Drop)]
+#[derive(Drop)]
 pub struct Term {
     /// whether the term holds where the ACL doesn't
     pub negated: bool,
@@ -51,7 +51,7 @@ pub struct Term {
 }
 
 /// A rule: an action, and when it is taken.
-#[derive(Debug, Drop)]
+#[derive(Drop)]
 pub struct Rule {
     /// the number of its line in the configuration, counted from 1
     pub line: u64,
@@ -64,7 +64,7 @@ pub struct Rule {
 }
 
 /// What a line of a configuration says.
-#[derive(Debug, Drop)]
+#[derive(Drop)]
 pub enum Statement {
     /// nothing that changes a rule, as a line without words
     Plain,

@@ -2,7 +2,7 @@ use hx_text::VarName;
 
 /// The operand of an arithmetic or bitwise converter (HAProxy configuration manual 2.4, section
 /// 7.3.1, `add`): a number, or the variable whose value, cast to an integer, is the number.
-#[derive(Debug, Drop)]
+#[derive(Drop)]
 pub enum Val {
     /// a number as it is written
     Number(i64),

@@ -4,7 +4,7 @@ use hx_text::Octets;
 /// whether it is about maps or about lists of patterns that ACLs use, `name` names the reference
 /// by its file or its number, and `ver` is the number of a version, or none for that which is
 /// searched.
-#[derive(Debug, Drop, PartialEq, Eq)]
+#[derive(Drop, PartialEq, Eq)]
 pub enum Command {
     /// `show acl`, `show map`: all references.
     ShowAll {

@@ -11,7 +11,7 @@ use std::marker::Model;
 const TOO_MANY_BITS: usize = 0x4000_0000_0000_0000;
 
 /// A key of bits. Contracts see the list of its bits.
-#[derive(Debug, Drop)]
+#[derive(Drop)]
 pub struct BitKey {
     bytes: KeyBytes,
     bits: usize,

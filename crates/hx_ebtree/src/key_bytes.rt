@@ -10,7 +10,7 @@ const SHORT: usize = 24;
 
 /// The bytes of a key. Few of them lie in the node beside what a search reads before them, so that
 /// they take no memory of their own and mostly no other line of the cache.
-#[derive(Debug, Drop)]
+#[derive(Drop)]
 pub(crate) enum KeyBytes {
     Short(ArrayVec<u8, SHORT>),
     Long(Vec<u8>),

@@ -6,14 +6,14 @@ use crate::key::BitKey;
 use hx_pool::{Chain, Linked, Links};
 
 /// What hangs at a place of a tree: the leaf of a node, or its branch part.
-#[derive(Clone, Copy, Debug)]
+#[derive(Clone, Copy)]
 pub(crate) enum Down {
     Leaf(usize),
     Branch(usize),
 }
 
 /// Where something hangs: the left or the right side of a node's branch part.
-#[derive(Clone, Copy, Debug)]
+#[derive(Clone, Copy)]
 pub(crate) struct Up {
     pub(crate) node: usize,
     pub(crate) right: bool,
@@ -21,7 +21,7 @@ pub(crate) struct Up {
 
 /// A branch: the bit of the code by which the sides differ, the sides, and where it hangs, which is
 /// none at the root.
-#[derive(Clone, Copy, Debug)]
+#[derive(Clone, Copy)]
 pub(crate) struct Branch {
     pub(crate) bit: u64,
     pub(crate) left: Down,
@@ -35,7 +35,7 @@ pub(crate) struct Branch {
 /// leaf.
 ///
 /// What the way down reads comes first, so that it lies together.
-#[derive(Debug, Drop)]
+#[derive(Drop)]
 pub struct Node<V> {
     pub(crate) branch: Option<Branch>,
     pub(crate) key: BitKey,

@@ -10,7 +10,7 @@ use std::sync::ledger::Ledger;
 
 /// A tree of nodes of one pool. What it stands for is said together with the pool. No call takes
 /// memory.
-#[derive(Debug, Drop)]
+#[derive(Drop)]
 pub struct Tree {
     pub(crate) root: Option<Down>,
 }

@@ -22,7 +22,7 @@ use std::sync::ledger::Ledger;
 
 /// How an index is searched: through the chain, by whole texts, by beginnings of texts, or by
 /// networks.
-#[derive(Clone, Copy, Debug, PartialEq, Eq)]
+#[derive(Clone, Copy, PartialEq, Eq)]
 pub(crate) enum Search {
     Scan,
     Exact,

@@ -7,7 +7,7 @@ use hx_text::{By, Ip, Net};
 
 /// Where an index keeps a pattern: in its chain, in its tree of texts, or in its tree of networks
 /// of IPv6 addresses.
-#[derive(Clone, Copy, Debug, PartialEq, Eq)]
+#[derive(Clone, Copy, PartialEq, Eq)]
 pub(crate) enum Part {
     Listed,
     Keyed,

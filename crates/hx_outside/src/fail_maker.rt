@@ -11,7 +11,7 @@ use std::alloc::Global;
 use std::marker::Model;
 
 /// A maker that finds texts too large at chosen calls, for tests of what makes expressions.
-#[derive(Debug, Drop)]
+#[derive(Drop)]
 pub struct FailMaker {
     fails: Vec<u64>,
     calls: u64,

@@ -13,7 +13,7 @@ use std::marker::Model;
 /// Files that hand on what others hold, and keep the name of each read, so that one can see which
 /// files a loader reads and in which order. Where memory runs out, they give the log up, and hand
 /// on as before.
-#[derive(Debug, Drop)]
+#[derive(Drop)]
 pub struct LogFiles<F> {
     alloc: Global,
     inner: F,

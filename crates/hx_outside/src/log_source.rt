@@ -13,7 +13,7 @@ use std::marker::Model;
 
 /// A source that hands on what another one gives, and keeps what each read gave, so that one can
 /// see when a reader reads. Where memory runs out, it gives the log up, and hands on as before.
-#[derive(Debug, Drop)]
+#[derive(Drop)]
 pub struct LogSource<S> {
     alloc: Global,
     inner: S,

@@ -9,7 +9,7 @@ use std::alloc::Global;
 use std::marker::Model;
 
 /// Files in memory, which fail at chosen calls, for tests of what reads files.
-#[derive(Debug, Drop)]
+#[derive(Drop)]
 pub struct MemFiles {
     files: Vec<(Vec<u8>, Vec<u8>)>,
     fails: Vec<u64>,

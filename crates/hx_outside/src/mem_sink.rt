@@ -9,7 +9,7 @@ use std::alloc::Global;
 use std::marker::Model;
 
 /// A sink in memory, which takes pieces and fails at chosen calls, for tests of what writes.
-#[derive(Debug, Drop)]
+#[derive(Drop)]
 pub struct MemSink {
     written: Vec<u8>,
     piece: usize,

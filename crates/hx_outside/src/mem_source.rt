@@ -9,7 +9,7 @@ use crate::source::Source;
 use std::marker::Model;
 
 /// A source in memory, which gives pieces and fails at chosen calls, for tests of what reads.
-#[derive(Debug, Drop)]
+#[derive(Drop)]
 pub struct MemSource {
     bytes: Vec<u8>,
     at: usize,

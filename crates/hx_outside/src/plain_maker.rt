@@ -12,7 +12,7 @@ use std::alloc::Global;
 use std::marker::Model;
 
 /// A text that was too large, and whether the case of letters was to be ignored.
-#[derive(Debug, Drop)]
+#[derive(Drop)]
 struct Large {
     text: Vec<u8>,
     ci: bool,
@@ -20,7 +20,7 @@ struct Large {
 
 /// Makes the regular expressions of the library `regex`, within its own limits: a text that is
 /// nested deeper than 250 levels is refused, and one that takes more than 10 MiB is too large.
-#[derive(Debug, Drop)]
+#[derive(Drop)]
 pub struct PlainMaker {
     too_large: u64,
     large: Option<Large>,

@@ -13,7 +13,7 @@ use std::marker::Model;
 /// Each error of the writer is a fault, but for a write that a signal interrupted, which is tried
 /// again; and so is a write that takes nothing. It is never flushed, so a writer that keeps bytes
 /// back is to be flushed by whoever owns it.
-#[derive(Debug, Drop)]
+#[derive(Drop)]
 pub struct StdSink<W> {
     writer: W,
     faults: u64,

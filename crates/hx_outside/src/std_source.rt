@@ -13,7 +13,7 @@ use std::marker::Model;
 ///
 /// Each error of the reader is a fault, but for a read that a signal interrupted: that one is tried
 /// again.
-#[derive(Debug, Drop)]
+#[derive(Drop)]
 pub struct StdSource<R> {
     reader: R,
     faults: u64,

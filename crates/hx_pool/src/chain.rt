@@ -13,7 +13,7 @@ use std::sync::ledger::Ledger;
 
 /// A list of numbers of a pool, kept in the links of their values. What a chain lies for is said
 /// together with its pool. No call takes memory.
-#[derive(Debug, Drop)]
+#[derive(Drop)]
 pub struct Chain {
     first: Option<usize>,
     last: Option<usize>,

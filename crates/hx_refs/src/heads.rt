@@ -3,7 +3,7 @@ use std::marker::Model;
 
 /// A way to search a reference: the match method, whether case is ignored, the position of the
 /// reference, and that of the use among those of the reference.
-#[derive(Clone, Copy, Debug)]
+#[derive(Clone, Copy)]
 pub(crate) struct KeptHead {
     pub(crate) by: By,
     pub(crate) ci: bool,

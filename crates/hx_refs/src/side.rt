@@ -1,5 +1,5 @@
 /// What a word names a reference for.
-#[derive(Clone, Copy, Debug, PartialEq, Eq)]
+#[derive(Clone, Copy, PartialEq, Eq)]
 pub enum Side {
     /// As a list that an ACL uses.
     Acl,

@@ -5,7 +5,7 @@ use hx_text::{Ip, NoMemory, Octets};
 use std::alloc::Global;
 
 /// Bytes that are lent from elsewhere, or owned.
-#[derive(Debug, Drop)]
+#[derive(Drop)]
 pub enum Bytes<'a> {
     Lent(&'a [u8]),
     Own(Octets),
@@ -26,7 +26,7 @@ impl Bytes<'_> {
 /// A value that a fetch or a converter gives, of one of the types that HAProxy's samples have:
 /// boolean, integer, address, string, binary and method (HAProxy configuration manual 2.4, section
 /// 7.1). Its bytes may be lent from what it was taken from.
-#[derive(Debug, Drop)]
+#[derive(Drop)]
 pub enum Sample<'a> {
     Bool(bool),
     Int(i64),
@@ -37,7 +37,7 @@ pub enum Sample<'a> {
 }
 
 /// A sample that owns its bytes, as a variable keeps it.
-#[derive(Debug, Drop, PartialEq, Eq)]
+#[derive(Drop, PartialEq, Eq)]
 pub enum Value {
     Bool(bool),
     Int(i64),

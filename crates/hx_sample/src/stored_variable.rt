@@ -4,7 +4,7 @@ use hx_text::Octets;
 
 /// What a variable belongs to: the process, the session of a connection, the transaction, the
 /// request or the response.
-#[derive(Clone, Copy, Debug, PartialEq, Eq)]
+#[derive(Clone, Copy, PartialEq, Eq)]
 pub(crate) enum Owner {
     Process,
     Session(u32),

@@ -14,7 +14,7 @@ use thiserror::Error;
 
 /// An entry that was found, lent from the tables: its number, its key, and the value under the key,
 /// which is empty in a list of keys alone.
-#[derive(Clone, Copy, Debug)]
+#[derive(Clone, Copy)]
 pub struct Hit<'a> {
     pub number: u64,
     pub key: &'a [u8],
@@ -23,7 +23,7 @@ pub struct Hit<'a> {
 
 /// A change of a list, as a rule asks for it (HAProxy configuration manual 2.4, section 4.2,
 /// `http-request add-acl` and the actions like it).
-#[derive(Clone, Copy, Debug)]
+#[derive(Clone, Copy)]
 pub enum Change<'a> {
     /// the key is appended, where no entry has it
     Add { key: &'a [u8] },
@@ -135,7 +135,7 @@ pub trait Tables {
 
 /// Tables in which nothing is found, for expressions that look nothing up: one head, by `str` with
 /// case, whose list has no entries and takes none.
-#[derive(Clone, Copy, Debug, Drop)]
+#[derive(Clone, Copy, Drop)]
 pub struct EmptyTables;
 
 impl Tables for EmptyTables {

@@ -10,7 +10,7 @@ use arrayvec::ArrayVec;
 use std::net::Ipv6Addr;
 
 /// An internet address, as the number that its bits make.
-#[derive(Clone, Copy, Debug, PartialEq, Eq)]
+#[derive(Clone, Copy, PartialEq, Eq)]
 pub enum Ip {
     V4(u32),
     V6(u128),

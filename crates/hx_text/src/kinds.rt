@@ -1,6 +1,6 @@
 /// The types of samples (HAProxy configuration manual 2.4, section 7.1): boolean, integer, address,
 /// string, binary and method. `Any` is the type of a variable, which is known only when it is read.
-#[derive(Clone, Copy, Debug, PartialEq, Eq)]
+#[derive(Clone, Copy, PartialEq, Eq)]
 pub enum Kind {
     Bool,
     Int,
@@ -12,7 +12,7 @@ pub enum Kind {
 }
 
 /// The match methods of patterns (HAProxy configuration manual 2.4, section 7.1).
-#[derive(Clone, Copy, Debug, PartialEq, Eq)]
+#[derive(Clone, Copy, PartialEq, Eq)]
 pub enum By {
     Found,
     Bool,
@@ -31,7 +31,7 @@ pub enum By {
 
 /// The types of the values that a map gives (HAProxy configuration manual 2.4, section 7.3.1,
 /// `map`).
-#[derive(Clone, Copy, Debug, PartialEq, Eq)]
+#[derive(Clone, Copy, PartialEq, Eq)]
 pub enum Out {
     Str,
     Int,

@@ -8,7 +8,7 @@ use crate::numbers::read_number;
 /// A network: an address of which the first `bits` bits count, or an IPv4 address of which the
 /// bits count that are set in `mask`. The other bits of `ip` are zero. A mask has a zero before a
 /// one: one whose ones all come first is a count of bits.
-#[derive(Clone, Copy, Debug, PartialEq, Eq)]
+#[derive(Clone, Copy, PartialEq, Eq)]
 pub enum Net {
     Plain { ip: Ip, bits: u32 },
     Masked { ip: u32, mask: u32 },

@@ -20,7 +20,7 @@ use std::sync::ledger::Ledger;
 
 /// Where the version of a number stands in a row: in this slot; or it would stand before that in
 /// this slot, or last.
-#[derive(Clone, Copy, Debug)]
+#[derive(Clone, Copy)]
 pub(crate) enum Place {
     At(usize),
     Before(usize),

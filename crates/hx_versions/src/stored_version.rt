@@ -5,7 +5,7 @@ use hx_pool::{Linked, Links};
 
 /// Whose version it is: that of the reference at a position, or of none any more, since it waits
 /// for its slots to be given back.
-#[derive(Clone, Copy, Debug, PartialEq, Eq)]
+#[derive(Clone, Copy, PartialEq, Eq)]
 pub(crate) enum Owner {
     Reference(u32),
     Retired,

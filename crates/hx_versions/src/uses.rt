@@ -5,7 +5,7 @@ use hx_text::By;
 use std::marker::Model;
 
 /// A use of a reference: the match method, whether case is ignored, and the number of the head.
-#[derive(Clone, Copy, Debug)]
+#[derive(Clone, Copy)]
 pub struct KeptUse {
     pub by: By,
     pub ci: bool,

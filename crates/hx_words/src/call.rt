@@ -5,7 +5,7 @@ use hx_text::Octets;
 use std::marker::Model;
 
 /// A call: a name, and the arguments in its parentheses. Contracts see it as a record of both.
-#[derive(Debug, Drop)]
+#[derive(Drop)]
 pub struct Call {
     name: Octets,
     args: Vec<Octets>,
@@ -59,7 +59,7 @@ impl Call {
 }
 
 /// What a text of calls begins with.
-#[derive(Debug, Drop)]
+#[derive(Drop)]
 pub enum CallStep<'a> {
     /// The last call, and what follows the stop byte, nothing where the text ends.
     Last { call: Call, rest: &'a [u8] },

@@ -4,7 +4,7 @@ use crate::call::Call;
 use std::marker::Model;
 
 /// The calls of a text, in order, and how many of its bytes were read.
-#[derive(Debug, Drop)]
+#[derive(Drop)]
 pub struct Calls {
     calls: Vec<Call>,
     used: usize,

@@ -4,7 +4,7 @@ use hx_text::Octets;
 use std::marker::Model;
 
 /// The words of a line, in order. Contracts see them as the list of their bytes.
-#[derive(Debug, Drop)]
+#[derive(Drop)]
 pub struct Words {
     words: Vec<Octets>,
 }
