@@ -8,21 +8,20 @@ use Rattle.std.proofs.lemmas.List.Prefix.{front_rest}
 use mathlib.Core.List.{reverse-cons}
 use Rattle.std.proofs.lemmas.Slice.Eq.{starts_is}
 use Rattle.hx_sample.specs.Keys.{is_delimited_part, is_ended, is_part, rests_after}
-use Rattle.hx_match.specs.Scanning.{begins_delimited}
 use Rattle.hx_match.proofs.TextLemmas.{begins_part, or_left, or_right}
 
 either : (a b : Bool) → (a || b) ≡ true → (a ≡ true) ⊎ (b ≡ true)
 either true b h = inl refl
 either false b h = inr h
 
-both : (a b : Bool) → (a && b) ≡ true → (a ≡ true) × (b ≡ true)
+pub both : (a b : Bool) → (a && b) ≡ true → (a ≡ true) × (b ≡ true)
 both true b h = (refl, h)
 both false b h = absurd cc
 
-starts_split : (text key : List ℕ) → starts_with nat_eq text key ≡ true → text ≡ key ++ drop (length key) text
+pub starts_split : (text key : List ℕ) → starts_with nat_eq text key ≡ true → text ≡ key ++ drop (length key) text
 starts_split text key h = (starts_is Decides-eqb text key (starts_with nat_eq text key) refl).0 h
 
-split_starts : (text key after : List ℕ) → text ≡ key ++ after → starts_with nat_eq text key ≡ true
+pub split_starts : (text key after : List ℕ) → text ≡ key ++ after → starts_with nat_eq text key ≡ true
 split_starts text key after e = (starts_is Decides-eqb text key (starts_with nat_eq text key) refl).1 after e
 
 -- ---- parts
@@ -52,6 +51,11 @@ between_part key (b ∷ before) after text e =
     rw e (part_of_cons key (before ++ (key ++ after)) b (between_part key before after (before ++ (key ++ after)) refl))
 
 -- ---- components
+
+-- the part begins the text, and a delimiter or the end follows it
+abbrev begins_delimited : (ℕ → Bool) → List ℕ → List ℕ → Bool
+begins_delimited is_delim part text =
+    starts_with nat_eq text part && is_ended is_delim (drop (length part) text)
 
 -- a delimiter at the end of some bytes ends them still with one more byte before them
 ended_longer : (test : ℕ → Bool) (xs : List ℕ) (x b : ℕ) → is_ended test (xs ++ x ∷ []) ≡ true

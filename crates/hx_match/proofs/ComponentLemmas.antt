@@ -1,6 +1,6 @@
 -- Components: case doesn't matter to delimiters, and what follows each delimiter.
-use Rattle.std.proofs.Common.{◌≡◌, ℕ, ◌+◌, ◌-◌, ◌<◌, ◌≤◌, Bool, true, false, cond, ◌||◌, ◌==◌, List, [], ◌∷◌, ◌++◌, length, map, take, drop, refl, sym, ap, ap₂, ◌∙◌, arith, inl, inr, ◌⊎◌}
-use Rattle.std.specs.Prelude.{if◌then◌else◌, reverse}
+use Rattle.std.proofs.Common.{◌≡◌, ℕ, ◌+◌, ◌-◌, ◌<◌, ◌≤◌, Bool, true, false, cond, ◌||◌, ◌&&◌, ◌==◌, List, [], ◌∷◌, ◌++◌, length, map, take, drop, refl, sym, ap, ap₂, ◌∙◌, arith, inl, inr, ◌⊎◌}
+use Rattle.std.specs.Prelude.{reverse}
 use Rattle.std.specs.Char.{to_ascii_lowercase}
 use Rattle.std.specs.List.{prefix_len, suffix_len}
 use Rattle.std.proofs.lemmas.Bool.{cases_lt, ne_eqb}
@@ -8,7 +8,7 @@ use Rattle.std.proofs.lemmas.List.{drop-map, length-map, map-append, take-map}
 use mathlib.Core.List.{reverse-cons}
 use Rattle.std.proofs.lemmas.Str.Ascii.{lowercase_is}
 use Rattle.hx_base.specs.Bytes.{ascii}
-use Rattle.hx_sample.specs.Keys.{folded, is_component, is_delimited_part, is_ended, parts_path, rests_after, trimmed}
+use Rattle.hx_sample.specs.Keys.{folded, is_component, is_delimited_part, is_ended, parts_path, trimmed}
 use Rattle.hx_match.specs.Read.{is_delim}
 use Rattle.hx_match.specs.declared.components.Delims.{Delims}
 use Rattle.hx_match.specs.declared.components.Delims.TheVariants.{Path, Domain}
@@ -93,43 +93,34 @@ ended_lower : (test : ℕ → Bool) → IgnoresCase test → (text : List ℕ)
 ended_lower test h [] = refl
 ended_lower test h (b ∷ text) = h b
 
--- what follows a part in a text ends it in whatever case
-pub ended_folded : (delims : Delims) (ci : Bool) (part text : List ℕ)
-    → is_ended (is_delim delims) (drop (length (folded ci part)) (folded ci text))
-    ≡ is_ended (is_delim delims) (drop (length part) text)
-ended_folded delims true part text =
-    rw (length-map part to_ascii_lowercase, drop-map to_ascii_lowercase (length part) text)
-    (ended_lower (is_delim delims) (ignores delims) (drop (length part) text))
-ended_folded delims false part text = refl
-
--- what follows the delimiters of a text, from its first byte and the others
-pub rests_folded : (delims : Delims) (ci : Bool) (b : ℕ) (text : List ℕ)
-    → rests_after (is_delim delims) (folded ci (b ∷ text))
-    ≡ (if is_delim delims b then folded ci text ∷ rests_after (is_delim delims) (folded ci text)
-    else rests_after (is_delim delims) (folded ci text))
-rests_folded delims true b text =
-    rw (ignores delims b) refl
-rests_folded delims false b text = refl
+-- what ends before a place of a text and begins at another does so in whatever case
+pub between_folded : (delims : Delims) (ci : Bool) (text : List ℕ) (start end : ℕ)
+    → (is_ended (is_delim delims) (reverse (take start (folded ci text))) && is_ended (is_delim delims) (drop end (folded ci text)))
+    ≡ (is_ended (is_delim delims) (reverse (take start text)) && is_ended (is_delim delims) (drop end text))
+between_folded delims true text start end =
+    ap₂ (λ p q. p && q)
+    (ap (λ l. is_ended (is_delim delims) l)
+    (ap (λ l. reverse l) (take-map to_ascii_lowercase start text) ∙ reverse_map to_ascii_lowercase (take start text))
+    ∙ ended_lower (is_delim delims) (ignores delims) (reverse (take start text)))
+    (ap (λ l. is_ended (is_delim delims) l) (drop-map to_ascii_lowercase end text)
+    ∙ ended_lower (is_delim delims) (ignores delims) (drop end text))
+between_folded delims false text start end = refl
 
 -- a part that isn't empty is a component where it stands between delimiters
-pub filled_component : (test : ℕ → Bool) (ci : Bool) (part text : List ℕ) → 0 < length part
-    → is_component test (folded ci part) text ≡ is_delimited_part test (folded ci part) text
-filled_component test ci [] text some = absurd (omega arith)
-filled_component test true (b ∷ part) text some = refl
-filled_component test false (b ∷ part) text some = refl
+pub filled_component : (test : ℕ → Bool) (part text : List ℕ) → 0 < length part
+    → is_component test part text ≡ is_delimited_part test part text
+filled_component test [] text some = absurd (omega (arith, some))
+filled_component test (b ∷ part) text some = refl
 
-pub empty_component : (test : ℕ → Bool) (ci : Bool) (part text : List ℕ) → length part ≡ 0
-    → is_component test (folded ci part) text ≡ false
-empty_component test true [] text none = refl
-empty_component test false [] text none = refl
-empty_component test ci (b ∷ part) text none = absurd (omega arith)
+pub empty_component : (test : ℕ → Bool) (part text : List ℕ) → length part ≡ 0
+    → is_component test part text ≡ false
+empty_component test [] text none = refl
+empty_component test (b ∷ part) text none = absurd (omega (arith, none))
 
--- a part of a key that was trimmed once is a component where the trimmed key is
+-- a needle of the key that was trimmed first is a component where the trimmed key is
 pub component_of_key : (delims : Delims) (ci : Bool) (key part text : List ℕ) (hit : Bool)
-    → hit ≡ is_component (is_delim delims) (folded ci part) text
-    → part ≡ trimmed (is_delim delims) key
+    → hit ≡ is_component (is_delim delims) part text
+    → part ≡ folded ci (trimmed (is_delim delims) key)
     → hit ≡ is_component (is_delim delims) (trimmed (is_delim delims) (folded ci key)) text
 component_of_key delims ci key part text hit is read =
-    is
-    ∙ ap (λ p. is_component (is_delim delims) p text)
-    (ap (λ p. folded ci p) read ∙ trimmed_folded delims ci key)
+    is ∙ ap (λ p. is_component (is_delim delims) p text) (read ∙ trimmed_folded delims ci key)

@@ -1,6 +1,9 @@
 pub mod TextLemmas
 pub mod ComponentLemmas
+pub mod ComponentPlaceLemmas
 pub mod ExpressionLemmas
+pub mod PeriodLemmas
+pub mod PlaceLemmas
 pub mod RefusalLemmas
 pub mod BetweenLemmas
 pub mod RangeLemmas

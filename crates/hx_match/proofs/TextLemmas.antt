@@ -1,15 +1,16 @@
 -- Texts that begin or end with a key in whatever case, and the places at which a key stands.
-use Rattle.std.proofs.Common.{◌≡◌, ℕ, zero, suc, ◌+◌, ◌-◌, ◌<◌, ◌≤◌, Bool, true, false, ◌||◌, List, [], ◌∷◌, length, map, take, drop, refl, sym, ap, arith}
+use Rattle.std.proofs.Common.{◌≡◌, ℕ, zero, suc, ◌+◌, ◌-◌, ◌<◌, ◌≤◌, Bool, true, false, ◌||◌, List, [], ◌∷◌, length, map, take, drop, refl, sym, ap, ◌∙◌, arith}
 use Rattle.std.specs.Prelude.{IsTrue, ◌↔◌, nat_eq}
 use Rattle.std.specs.Char.{to_ascii_lowercase}
 use Rattle.std.specs.List.{ends_with, starts_with}
 use Rattle.std.specs.Str.{bytes_eq}
+use Rattle.std.proofs.lemmas.Bool.{false≢true}
 use Rattle.std.proofs.lemmas.Bool.Decides.{Decides-eqb}
 use Rattle.std.proofs.lemmas.List.{drop-map, length-append, length-drop, length-map, take-map}
 use Rattle.std.proofs.lemmas.List.Prefix.{at_from_reads, at_reads}
 use Rattle.std.proofs.lemmas.Slice.Eq.{bytes_eq-Decides, starts_is}
 use Rattle.memchr.specs.Find.{OccursAt}
-use Rattle.hx_sample.specs.Keys.{is_part}
+use Rattle.hx_sample.specs.Keys.{folded, is_part}
 
 abbrev lower : List ℕ → List ℕ
 lower text = map to_ascii_lowercase text
@@ -69,13 +70,13 @@ no_part key (b ∷ text) none =
     or_none _ (is_part key text) (none zero (omega arith))
     (no_part key text (λ k le. none (suc k) (omega arith)))
 
-occurs_starts : (text key : List ℕ) (k : ℕ) → OccursAt text key k → starts_with nat_eq (drop k text) key ≡ true
+pub occurs_starts : (text key : List ℕ) (k : ℕ) → OccursAt text key k → starts_with nat_eq (drop k text) key ≡ true
 occurs_starts text key k occurs =
     (starts_is Decides-eqb (drop k text) key (starts_with nat_eq (drop k text) key) refl).1
     (drop (k + length key) text)
     (at_from_reads 0 text key k occurs.fits occurs.reads)
 
-starts_occurs : (text key : List ℕ) (k : ℕ) → k ≤ length text
+pub starts_occurs : (text key : List ℕ) (k : ℕ) → k ≤ length text
     → starts_with nat_eq (drop k text) key ≡ true → OccursAt text key k
 starts_occurs text key k le starts =
     let split = (starts_is Decides-eqb (drop k text) key (starts_with nat_eq (drop k text) key) refl).0 starts in
@@ -102,3 +103,9 @@ found_nowhere text key none =
 -- a key that begins a text is a part of it
 pub begins_part : (text key : List ℕ) → starts_with nat_eq text key ≡ true → true ≡ is_part key text
 begins_part text key starts = sym (part_at key text zero (omega arith) starts)
+
+-- a needle of the key with small letters is a part where the key is, in whatever case
+pub part_of_key : (ci : Bool) (key part text : List ℕ) (hit : Bool) → hit ≡ is_part part (folded true text)
+    → ci ≡ true → part ≡ folded ci key → hit ≡ is_part (folded ci key) (folded ci text)
+part_of_key true key part text hit is ignored read = is ∙ ap (λ p. is_part p (folded true text)) read
+part_of_key false key part text hit is ignored read = absurd (false≢true ignored)

@@ -9,9 +9,9 @@ use crate::form::{Form, TextForm};
 use crate::networks::has_address;
 use crate::pattern::Pattern;
 use crate::texts::{begins, ends, equals, has_part, has_part_folded};
+use hx_regex::RegularExpression;
 use hx_sample::Sample;
 use hx_text::NoMemory;
-use regex::bytes::Regex;
 use std::alloc::Global;
 
 /// Whether the pattern hits the sample, by the method and the case that it was read for. A sample
@@ -66,18 +66,18 @@ impl TextForm {
             TextForm::Beg => begins(ci, text, key),
             TextForm::End => ends(ci, text, key),
             TextForm::Sub(finder) => has_part(text, finder),
-            TextForm::SubFolded => has_part_folded(text, key),
-            TextForm::Dir(part) => has_component(Delims::Path, ci, text, part.as_slice()),
-            TextForm::Dom(part) => has_component(Delims::Domain, ci, text, part.as_slice()),
+            TextForm::SubFolded(needle) => has_part_folded(text, needle),
+            TextForm::Dir(part) => has_component(Delims::Path, ci, text, part),
+            TextForm::Dom(part) => has_component(Delims::Domain, ci, text, part),
         }
     }
 }
 
 /// Whether the expression matches somewhere in the text.
-fn finds(alloc: Global, re: &Regex, text: &[u8]) -> Result<bool, NoMemory>
+fn finds(alloc: Global, re: &RegularExpression, text: &[u8]) -> Result<bool, NoMemory>
     ensures { (ci : Bool) (key : List ℕ) → IsKeyExpression ci key re.now →
         IfOk result (λ hit. hit ≡ is_found_in (key_expression ci key) text.now) }
 {
-    let mut matcher = re.matcher(alloc)?;
-    Ok(matcher.is_match(text))
+    let hit = re.is_match(alloc, text)?;
+    Ok(hit)
 }

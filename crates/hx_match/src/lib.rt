@@ -14,10 +14,13 @@ mod components;
 mod form;
 mod hitting;
 pub mod laws;
+mod needle;
 mod networks;
 mod parsing;
 mod pattern;
+mod periods;
 mod ranges;
+mod search;
 mod texts;
 
 pub use hitting::hits;

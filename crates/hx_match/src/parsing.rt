@@ -2,19 +2,21 @@ ghost use Rattle.std.specs.Prelude.{◌≡◌, ◌≢◌, None, Some, IfOk, IfEr
 ghost use Rattle.std.specs.Result.{result_ok};
 ghost use Rattle.hex.specs.Hex.{decode_of};
 ghost use Rattle.hx_text.specs.Network.{net_of};
-ghost use Rattle.hx_sample.specs.Keys.{range_of, trimmed};
+ghost use Rattle.hx_sample.specs.Keys.{folded, range_of, trimmed};
+ghost use Rattle.hx_match.specs.Needles.{IsNeedle};
 ghost use Rattle.hx_match.specs.Patterns.{fault_without, range_fault, text_fault, AsksMaker, MayCome, PatternCountsLarge};
 ghost use Rattle.hx_match.specs.Read.{by_of, by_of_text, is_delim, range_of_bounds, IsKeyExpression, IsNetwork, IsRead, IsTextRead};
 
 use crate::components::{Delims, trim};
 use crate::form::{Form, TextForm};
+use crate::needle::Needle;
 use crate::pattern::Pattern;
 use crate::ranges::{Bounds, read_range};
 use hex::FromHexError;
 use hx_outside::{PatFault, ReFault, ReMaker};
+use hx_regex::RegularExpression;
 use hx_text::{By, Net, NoMemory, Octets, read_net};
 use memchr::memmem::FinderBuilder;
-use regex::bytes::Regex;
 use std::alloc::Global;
 
 /// The text as a pattern of the method, where `ci` says whether the case of letters is ignored.
@@ -79,8 +81,8 @@ fn plain_form(alloc: Global, by: By, ci: bool, text: &[u8]) -> Result<Form, PatF
         By::Beg => Ok(Form::Text(TextForm::Beg)),
         By::End => Ok(Form::Text(TextForm::End)),
         By::Sub => Ok(Form::Text(part_form(alloc, ci, text)?)),
-        By::Dir => Ok(Form::Text(TextForm::Dir(component(alloc, Delims::Path, text)?))),
-        By::Dom => Ok(Form::Text(TextForm::Dom(component(alloc, Delims::Domain, text)?))),
+        By::Dir => Ok(Form::Text(TextForm::Dir(component(alloc, ci, Delims::Path, text)?))),
+        By::Dom => Ok(Form::Text(TextForm::Dom(component(alloc, ci, Delims::Domain, text)?))),
     }
 }
 
@@ -135,7 +137,7 @@ fn part_form(alloc: Global, ci: bool, text: &[u8]) -> Result<TextForm, PatFault>
     ensures refused { IfErr result (λ fault. fault ≡ PatFault.NoMemory) }
 {
     if ci {
-        return Ok(TextForm::SubFolded);
+        return Ok(TextForm::SubFolded(needle_of(alloc, ci, text)?));
     }
     match Vec::from_slice(alloc, text) {
         Ok(key) => Ok(TextForm::Sub(FinderBuilder::new().build_forward_owned(key))),
@@ -143,12 +145,19 @@ fn part_form(alloc: Global, ci: bool, text: &[u8]) -> Result<TextForm, PatFault>
     }
 }
 
-fn component(alloc: Global, delims: Delims, text: &[u8]) -> Result<Octets, PatFault>
-    ensures read { IfOk result (λ part. part ≡ trimmed (is_delim delims) text.now) }
+fn component(alloc: Global, ci: bool, delims: Delims, text: &[u8]) -> Result<Needle, PatFault>
+    ensures read { IfOk result (IsNeedle (folded ci (trimmed (is_delim delims) text.now))) }
     ensures refused { IfErr result (λ fault. fault ≡ PatFault.NoMemory) }
 {
-    match Octets::copy(alloc, trim(delims, text)) {
-        Ok(part) => Ok(part),
+    needle_of(alloc, ci, trim(delims, text))
+}
+
+fn needle_of(alloc: Global, ci: bool, key: &[u8]) -> Result<Needle, PatFault>
+    ensures read { IfOk result (IsNeedle (folded ci key.now)) }
+    ensures refused { IfErr result (λ fault. fault ≡ PatFault.NoMemory) }
+{
+    match Needle::new(alloc, ci, key) {
+        Ok(needle) => Ok(needle),
         Err(NoMemory) => Err(PatFault::NoMemory),
     }
 }
@@ -159,18 +168,19 @@ fn made_regex<M: ReMaker>(
     ci: bool,
     text: &[u8],
     maker: &mut M,
-) -> Result<Box<Regex>, PatFault>
-    ensures made { IfOk result (λ re. IsKeyExpression ci text.now re.value) }
+) -> Result<RegularExpression, PatFault>
+    ensures made { IfOk result (IsKeyExpression ci text.now) }
+    ensures none { OnOk result (text_fault By.Reg ci text.now ≡ None) }
     ensures refused { IfErr result
         (MayCome (text_fault By.Reg ci text.now) (AsksMaker By.Reg text.now)) }
     ensures large { PatternCountsLarge result (record { text = text.now; ci = ci })
         (M.state maker.old) (M.state maker.new) }
 {
     match std::str::from_utf8(text) {
-        Ok(text) => match maker.make(alloc, text, ci) {
-            Ok(re) => match Box::new(alloc, re) {
+        Ok(utf8) => match maker.make(alloc, utf8, ci) {
+            Ok(made) => match RegularExpression::new(alloc, text, ci, made) {
                 Ok(re) => Ok(re),
-                Err(_) => Err(PatFault::NoMemory),
+                Err(NoMemory) => Err(PatFault::NoMemory),
             },
             Err(ReFault::BadRegex) => Err(PatFault::BadRegex),
             Err(ReFault::TooLarge) => Err(PatFault::TooLarge),

@@ -8,7 +8,7 @@ ghost use Rattle.hx_match.specs.Read.{range_of_bounds};
 use hx_text::{cut_at, read_i64};
 
 /// The numbers from one bound to the other; without a bound, all on that side.
-#[derive(Clone, Copy, Debug)]
+#[derive(Clone, Copy)]
 pub(crate) struct Bounds {
     pub(crate) least: Option<i64>,
     pub(crate) greatest: Option<i64>,

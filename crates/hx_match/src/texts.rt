@@ -2,7 +2,9 @@ ghost use Rattle.std.specs.Prelude.{◌≡◌, ◌≤◌, length, nat_eq, true, 
 ghost use Rattle.std.specs.List.{ends_with, starts_with};
 ghost use Rattle.std.specs.Str.{bytes_eq};
 ghost use Rattle.hx_sample.specs.Keys.{folded, is_part};
+ghost use Rattle.hx_match.specs.Needles.{HasPeriods};
 
+use crate::needle::Needle;
 use memchr::memmem::Finder;
 
 /// Whether the text and the key have the same bytes. Where `ci` is true, the case of ASCII letters
@@ -50,16 +52,13 @@ pub(crate) fn has_part(text: &[u8], finder: &Finder<'_>) -> bool
     }
 }
 
-/// Whether the key stands somewhere in the text, in whatever case.
-pub(crate) fn has_part_folded(text: &[u8], key: &[u8]) -> bool
-    ensures { result ≡ is_part (folded true key.now) (folded true text.now) }
+/// Whether the needle's key stands somewhere in the text, in whatever case.
+pub(crate) fn has_part_folded(text: &[u8], needle: &Needle) -> bool
+    requires { HasPeriods needle.now }
+    ensures { result ≡ is_part needle.now.bytes.items (folded true text.now) }
 {
-    let mut rest = text;
-    while !begins(true, rest, key) {
-        let [_, after @ ..] = rest else {
-            return false;
-        };
-        rest = after;
+    match needle.next_place(true, text, 0, 0) {
+        Some(_) => true,
+        None => false,
     }
-    true
 }

@@ -3,5 +3,4 @@ use Rattle.hx_match.proofs.hitting.finds.Goals as goal
 
 pub returns : goal.returns
 returns c ci key read =
-    rw (c.is_match.ensures.found, c.in_ok-matcher.ensures.pattern)
-    (found_alike ci key c.args.re.now c.args.text.now (λ k. (c.type_inv.text k).fits) read)
+    found_alike ci key c.args.text.now c.in_ok-hit.hit c.args.re.now read c.in_ok-hit.ensures
