@@ -1,3 +1,12 @@
 pub mod PieceLemmas
 pub mod EndLemmas
+pub mod SpanLemmas
+pub mod LetterLemmas
+pub mod PrintedLemmas
+pub mod UrlLemmas
 pub mod SubstitutionLemmas
+pub mod ReplacementLemmas
+pub mod RowLemmas
+pub mod PartLemmas
+pub mod FieldLemmas
+pub mod WordLemmas

@@ -1,10 +1,11 @@
 -- What replaces the matches of an expression, and that expressions which match the same are
 -- replaced the same.
-use Rattle.std.proofs.Common.{◌≡◌, ℕ, zero, suc, ◌+◌, ◌-◌, ◌*◌, ◌<◌, ◌≤◌, ◌==◌, ◌⊎◌, Bool, true, false, List, [], ◌∷◌, ◌++◌, map, get_or, drop, take, length, Option, Some, None, option_map, refl, sym, ap, ap₂, ◌∙◌, inl, inr, arith, append_assoc, slice_range, if◌then◌else◌}
+use Rattle.std.proofs.Common.{◌≡◌, ℕ, zero, suc, ◌+◌, ◌-◌, ◌*◌, ◌<◌, ◌≤◌, ◌==◌, ◌⊎◌, Bool, true, false, List, [], ◌∷◌, ◌++◌, map, get_or, drop, take, length, Option, Some, None, option_map, refl, sym, ap, ap₂, ◌∙◌, inl, inr, add-one, arith, append_assoc, is_some, slice_range, if◌then◌else◌}
 use Rattle.std.proofs.lemmas.Bool.{ne_eqb}
 use Rattle.std.proofs.lemmas.List.{drop_more, get_or_default}
 use Rattle.std.proofs.lemmas.Option.{same_Some}
 use mathlib.Core.Path.{fun_ext}
+use Rattle.regex_hir.specs.Find.{matches_from}
 use Rattle.regex.specs.Bytes.{IsCapturesOf, captures_span, regex_pattern}
 use Rattle.regex.specs.Patterns.{Re, Match, SameCaptures, find, find_all, span}
 use Rattle.regex.specs.Replace.{IsReplacedBy, bytes_of, group_bytes, replaced_by}
@@ -15,7 +16,9 @@ use Rattle.regex.specs.declared.bytes.regex.Regex.{Regex}
 use Rattle.regex.proofs.ForCallers.{find_all_alike, spans}
 use Rattle.regex_syntax.proofs.CapturesLemmas.{find_alike}
 use Rattle.std.specs.Option.{option_to_list}
-use Rattle.hx_outside.specs.Expressions.{expression, IsExpression}
+use Rattle.hx_outside.specs.Expressions.{expression}
+use Rattle.hx_outside.specs.Makers.{ExpressionText}
+use Rattle.hx_regex.specs.Searches.{IsPatternOf}
 use Rattle.hx_conv_text.specs.Captured.{captured}
 use Rattle.hx_conv_text.specs.Substitution.{expanded_of, expansion, expansion_at, substituted_text}
 
@@ -113,17 +116,17 @@ module _ {a b : Re} (same : SameCaptures a b) (input : List ℕ) (bytes : (k : �
       all_alike sub input 0 (option_to_list (find a input 0)) (option_to_list (find b input 0))
       (spans_alone (find a input 0) (find b input 0) leftmost)
 
--- an expression that was made of a text replaces as that of the text
-pub expanded_is : (ci : Bool) (text sub input : List ℕ) (re : Regex) → ((k : ℕ) → get_or input k 0 < 256)
-    → IsExpression ci text re
-    → option_map (expansion_at sub input) (find (regex_pattern re) input 0) ≡ expanded_of ci text sub input
-expanded_is ci text sub input re bytes is = rw is.is (expanded_alike is.same input bytes sub)
+-- what searches for the expression of a text replaces as that expression
+pub expanded_is : (asked : ExpressionText) (sub input : List ℕ) (searched : Re)
+    → ((k : ℕ) → get_or input k 0 < 256) → IsPatternOf asked searched
+    → option_map (expansion_at sub input) (find searched input 0) ≡ expanded_of asked.ci asked.text sub input
+expanded_is asked sub input searched bytes is = rw is.is (expanded_alike is.same input bytes sub)
 
-pub substituted_is : (ci : Bool) (text sub : List ℕ) (each : Bool) (input : List ℕ) (re : Regex)
-    → ((k : ℕ) → get_or input k 0 < 256) → IsExpression ci text re
-    → Some (substituted_text (regex_pattern re) sub each input)
-    ≡ option_map (λ pattern. substituted_text pattern sub each input) (expression ci text)
-substituted_is ci text sub each input re bytes is =
+pub substituted_is : (asked : ExpressionText) (sub : List ℕ) (each : Bool) (input : List ℕ) (searched : Re)
+    → ((k : ℕ) → get_or input k 0 < 256) → IsPatternOf asked searched
+    → Some (substituted_text searched sub each input)
+    ≡ option_map (λ pattern. substituted_text pattern sub each input) (expression asked.ci asked.text)
+substituted_is asked sub each input searched bytes is =
     rw is.is (ap Some (substituted_alike is.same input bytes sub each))
 
 -- what is written in the place of each match
@@ -143,6 +146,22 @@ whole_span input m c s h e = same_Some _ _ e ∙ h.1.whole_is
 pub none_made : (written : Match → List ℕ) (input : List ℕ) → input ≡ replaced_by written input 0 []
 unfolding replaced_by
 none_made written input = refl
+
+no_matches : (e : Re) (input : List ℕ) → find e input 0 ≡ None → find_all e input ≡ []
+unfolding matches_from
+no_matches e input none = rw (add-one, none) refl
+
+no_find : (found : Option Match) → false ≡ is_some found → found ≡ None
+no_find None none = refl
+no_find (Some m) none = cc
+
+-- nothing is replaced where there is no match
+pub none_replaced : (sub input : List ℕ) (e re : Re) → e ≡ re → false ≡ is_some (find e input 0)
+    → input ≡ replaced_by (expansion_at sub input) input 0 (find_all re input)
+none_replaced sub input e re same none =
+    none_made (expansion_at sub input) input
+    ∙ ap (replaced_by (expansion_at sub input) input 0) (sym (no_matches e input (no_find (find e input 0) none)))
+    ∙ ap (λ (r : Re). replaced_by (expansion_at sub input) input 0 (find_all r input)) same
 
 -- the leftmost match alone is replaced
 pub first_made : (sub input replacement : List ℕ) (m : Match) (s : ℕ × ℕ) → s ≡ span m → replacement ≡ expansion_at sub input m

@@ -1,10 +1,9 @@
 -- How the code keeps a converter that was built: by how its value comes about.
-use Rattle.std.specs.Prelude.{ℕ, ◌-◌, List, [], ◌∷◌, length, drop, take, Option, Some, ⊤}
+use Rattle.std.specs.Prelude.{ℕ, ◌-◌, List, [], ◌∷◌, length, drop, take, Option, Some}
 use Rattle.std.specs.List.{before_first, prefix_len, suffix_len}
 use Rattle.hx_base.specs.Bytes.{ascii}
 use Rattle.hx_ast.specs.declared.conv.Conv.{Conv}
 use Rattle.hx_ast.specs.declared.conv.Conv.TheVariants as conv
-use Rattle.hx_outside.specs.Expressions.{IsExpression}
 use Rattle.hx_sample.specs.declared.sample.Value.{Value}
 use Rattle.hx_sample.specs.declared.sample.Value.TheVariants as value
 use Rattle.hx_conv_text.specs.Pieces.{field_spans, is_in, items_at, text_across, word_spans}
@@ -45,7 +44,7 @@ abbrev pub conv_of_made : Made → Conv
 conv_of_made made.Lower = conv.Lower
 conv_of_made made.Upper = conv.Upper
 conv_of_made (made.Concat start name end) = conv.Concat start name end
-conv_of_made (made.Regsub pattern re sub each ci) = conv.Regsub pattern sub each ci
+conv_of_made (made.Regsub re sub each) = conv.Regsub re.text sub each re.ci
 conv_of_made (made.UrlDec form) = conv.UrlDec form
 
 -- the converter that was built
@@ -54,12 +53,3 @@ conv_of_text built.Length = conv.Length
 conv_of_text (built.Strcmp name) = conv.Strcmp name
 conv_of_text (built.Part part) = conv_of_part part
 conv_of_text (built.Made made) = conv_of_made made
-
--- the expression is that of its text
-abbrev pub IsMade : Made → Type 0
-IsMade (made.Regsub pattern re sub each ci) = IsExpression ci pattern re
-IsMade _ = ⊤
-
-abbrev pub IsBuilt : Built → Type 0
-IsBuilt (built.Made made) = IsMade made
-IsBuilt _ = ⊤

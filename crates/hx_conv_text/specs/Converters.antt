@@ -1,5 +1,5 @@
 -- What each converter of texts makes of a value (HAProxy configuration manual 2.4, section 7.3.1).
-use Rattle.std.specs.Prelude.{ℕ, ◌-◌, Bool, true, false, pos, List, [], ◌∷◌, ◌++◌, length, map, drop, take, Option, Some, None, is_some, option_map, option_and_then, unwrap_or}
+use Rattle.std.specs.Prelude.{◌≡◌, ℕ, ◌-◌, Bool, true, false, pos, List, [], ◌∷◌, ◌++◌, length, map, drop, take, Option, Some, None, is_some, option_map, option_and_then, unwrap_or}
 use Rattle.std.specs.Char.{to_ascii_lowercase, to_ascii_uppercase}
 use Rattle.std.specs.Cmp.Lexicographic.{slice_cmp}
 use Rattle.std.specs.List.{before_first, prefix_len, suffix_len}
@@ -13,7 +13,7 @@ use Rattle.hx_text.specs.declared.kinds.Kind.{Kind}
 use Rattle.hx_text.specs.declared.kinds.Kind.TheVariants as kind
 use Rattle.hx_text.specs.declared.names.VarName.{VarName}
 use Rattle.hx_sample.specs.Cast.{cast_of}
-use Rattle.hx_sample.specs.Seen.{kept_bytes}
+use Rattle.hx_sample.specs.Seen.{bytes_of, kept_bytes}
 use Rattle.hx_sample.specs.Vars.{Scopes, var_of}
 use Rattle.hx_sample.specs.declared.sample.Bytes.{Bytes}
 use Rattle.hx_sample.specs.declared.sample.Bytes.TheVariants.{Lent, Own}
@@ -116,3 +116,8 @@ is_lent (Own octets) = false
 -- the sample has bytes, which are lent
 abbrev pub has_lent_bytes : Sample → Bool
 has_lent_bytes sample = option_map_or is_lent (kept_bytes sample) false
+
+-- bytes that are equal to those of the input are the input's own: lent from the same memory, or
+-- owned as they were
+abbrev pub AreInputWhereEqual : Bytes → Bytes → Type 0
+AreInputWhereEqual input made = bytes_of made ≡ bytes_of input → made ≡ input

@@ -1,8 +1,16 @@
--- How the code finds pieces: from the left, one after the other.
-use Rattle.std.specs.Prelude.{ℕ, nat_le, nat_lt, Bool, true, false, List, [], drop, fold, length, if◌then◌else◌}
+-- How the code finds pieces: from the left, one after the other, each as a span of the text.
+use Rattle.std.specs.Prelude.{ℕ, ◌≤◌, nat_le, nat_lt, Bool, true, false, List, [], drop, fold, length, slice_range, if◌then◌else◌}
 use Rattle.std.specs.List.{filter, slice_split}
 use Rattle.hx_conv_text.specs.Pieces.{is_in, spans_from}
 use Rattle.hx_conv_text.specs.declared.pieces.Pieces.{Pieces}
+
+-- the bytes of a text in a span
+abbrev pub bytes_at : List ℕ → ℕ × ℕ → List ℕ
+bytes_at text span = slice_range text span.0 span.1
+
+-- the span begins and ends in the text
+abbrev pub LiesWithin : List ℕ → ℕ × ℕ → Type 0
+LiesWithin text span = (span.0 ≤ span.1) × (span.1 ≤ length text)
 
 -- the span has a byte
 abbrev pub is_filled : (ℕ × ℕ) → Bool

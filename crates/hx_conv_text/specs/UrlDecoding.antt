@@ -8,11 +8,20 @@ use Rattle.hx_base.specs.Bytes.{ascii}
 use Rattle.hx_sample.specs.Cast.{is_not_zero}
 use Rattle.percent_encoding.specs.Percent.{percent_decode, percent_sign}
 
+abbrev pub space_for_plus : ℕ → ℕ
+space_for_plus b = if b == ascii "+" then ascii " " else b
+
+-- from where on a `+` stands for a space: from the start in a form, and else from the first `?`
+abbrev pub query_start : Bool → List ℕ → ℕ
+query_start is_form text = if is_form then 0 else position_or_len (λ b. b == ascii "?") text
+
+-- the text with a space for each `+` from a position on
+abbrev pub spaced_from : ℕ → List ℕ → List ℕ
+spaced_from query text = take query text ++ map space_for_plus (drop query text)
+
 -- the text with a space for each `+` in a form, or for each after the first `?`
 abbrev pub with_spaces : Bool → List ℕ → List ℕ
-with_spaces is_form text =
-    let query = if is_form then 0 else position_or_len (λ b. b == ascii "?") text in
-    take query text ++ map (λ b. if b == ascii "+" then ascii " " else b) (drop query text)
+with_spaces is_form text = spaced_from (query_start is_form text) text
 
 -- the text begins with two hexadecimal digits
 abbrev pub has_digits : List ℕ → Bool

@@ -1,16 +1,23 @@
-ghost use Rattle.std.specs.Prelude.{◌≡◌, [], IfOk, IfSome, IsOk, Some, true, option_map, option_and_then, unwrap_or};
+ghost use Rattle.std.specs.Prelude.{◌≡◌, [], IfOk, IfSome, IsOk, None, Some, false, true, option_map, option_and_then, unwrap_or};
 ghost use Rattle.std.specs.Cmp.Lexicographic.{slice_cmp};
 ghost use Rattle.std.specs.Ordering.{nat_cmp};
-ghost use Rattle.hx_sample.specs.Seen.{bytes_of, value_of, kept_bytes, occurrence_value};
+ghost use Rattle.hx_sample.specs.Cast.{is_printed};
+ghost use Rattle.hx_sample.specs.Seen.{bytes_of, value_of, kept_bytes, occurrence_value, IsSameWhereBoth};
+ghost use Rattle.hx_ast.specs.declared.conv.Conv.TheVariants as conv;
 ghost use Rattle.hx_sample.specs.declared.sample.Value.TheVariants as value;
-ghost use Rattle.hx_conv_text.specs.Built.{IsBuilt, IsMade, conv_of_text, conv_of_made, part_of, part_value};
-ghost use Rattle.hx_conv_text.specs.Converters.{cast_content, converted_bytes, has_lent_bytes, is_lent, is_part_conv, var_text};
+ghost use Rattle.hx_conv_text.specs.Building.{expression_text};
+ghost use Rattle.hx_conv_text.specs.Built.{conv_of_text, conv_of_made, part_of, part_value};
+ghost use Rattle.hx_conv_text.specs.Converters.{cast_content, content_of, converted_bytes, has_lent_bytes, is_lent, is_part_conv, var_text, AreInputWhereEqual};
+ghost use Rattle.hx_conv_text.specs.Scanning.{bytes_at, LiesWithin};
 ghost use Rattle.hx_conv_text.specs.Texts.{sign_of};
 
 use crate::built::{Built, Made, Part};
+use crate::cutting::cut;
+use crate::joining::concat;
+use crate::letters::{lower, upper};
 use crate::pieces::{field, word};
 use crate::substitution::regsub;
-use crate::texts::{bytes, concat, cut_crlf, given, lower, ltrim, rtrim, strcmp, upper};
+use crate::texts::{bytes, cut_crlf, given, ltrim, rtrim, strcmp};
 use crate::url::url_dec;
 use hx_sample::{Bytes, Sample, Vars, cast, lend};
 use hx_text::{Kind, NoMemory, Octets, VarName};
@@ -27,6 +34,9 @@ pub(crate) fn content<'a>(
     ensures free { has_lent_bytes sample.entry ≡ true → IsOk result }
     ensures lent { has_lent_bytes sample.entry ≡ true →
         IfOk result (λ content. IfSome content (λ bytes. is_lent bytes ≡ true)) }
+    ensures kept { IfOk result (λ content. IfSome content (λ bytes.
+        IsSameWhereBoth (kept_bytes sample.entry) (Some bytes))) }
+    ensures not_printed { is_printed (value_of sample.entry) kind ≡ false → IsOk result }
 {
     let Some(sample) = cast(alloc, sample, kind)? else {
         return Ok(None);
@@ -48,7 +58,9 @@ fn var_text<'v>(
     conn: u32,
     name: &VarName,
 ) -> Result<Option<Bytes<'v>>, NoMemory>
-    ensures { IfOk result (λ text. option_map bytes_of text ≡ var_text vars.now conn name.now) }
+    ensures value { IfOk result (λ text.
+        option_map bytes_of text ≡ var_text vars.now conn name.now) }
+    ensures free { unwrap_or (var_text vars.now conn name.now) [] ≡ [] → IsOk result }
 {
     match vars.get(conn, name) {
         Some(value) => content(alloc, lend(value), Kind::Str),
@@ -57,9 +69,10 @@ fn var_text<'v>(
 }
 
 impl Part {
-    /// The part of the bytes.
-    fn part<'a>(&self, text: &'a [u8]) -> Option<&'a [u8]>
-        ensures { option_map (λ part. part.now) result ≡ part_of self.now text.now }
+    /// Where the part of the bytes lies.
+    fn span(&self, text: &[u8]) -> Option<(usize, usize)>
+        ensures value { option_map (bytes_at text.now) result ≡ part_of self.now text.now }
+        ensures within { IfSome result (LiesWithin text.now) }
     {
         match self {
             Part::Field(index, delims, count) => field(*index, delims.as_slice(), *count, text),
@@ -85,23 +98,17 @@ impl Part {
         }
     }
 
-    /// The part of the bytes as a sample. Lent bytes stay where they are.
-    fn apply<'a>(&self, alloc: Global, text: Bytes<'a>) -> Result<Option<Sample<'a>>, NoMemory>
-        ensures value { IfOk result (λ sample. occurrence_value sample
-            ≡ option_map (part_value self.now) (part_of self.now (bytes_of text.entry))) }
-        ensures free { is_lent text.entry ≡ true → IsOk result }
+    /// The part of the bytes as a sample. Lent bytes stay where they are, and owned ones keep their
+    /// memory.
+    fn apply<'a>(&self, text: Bytes<'a>) -> Option<Sample<'a>>
+        ensures value { occurrence_value result
+            ≡ option_map (part_value self.now) (part_of self.now (bytes_of text.entry)) }
         ensures lent { is_lent text.entry ≡ true →
-            IfOk result (λ made. IfSome made (λ s. has_lent_bytes s ≡ true)) }
+            IfSome result (λ s. has_lent_bytes s ≡ true) }
     {
-        match text {
-            Bytes::Lent(text) => match self.part(text) {
-                Some(part) => Ok(Some(self.sample(Bytes::Lent(part)))),
-                None => Ok(None),
-            },
-            Bytes::Own(text) => match self.part(text.as_slice()) {
-                Some(part) => Ok(Some(self.sample(Bytes::Own(Octets::copy(alloc, part)?)))),
-                None => Ok(None),
-            },
+        match self.span(text.as_slice()) {
+            Some(span) => Some(self.sample(cut(text, span))),
+            None => None,
         }
     }
 }
@@ -113,8 +120,10 @@ fn named_text<'v>(
     conn: u32,
     name: &Option<VarName>,
 ) -> Result<Option<Bytes<'v>>, NoMemory>
-    ensures { IfOk result (λ text.
+    ensures value { IfOk result (λ text.
         option_map bytes_of text ≡ option_and_then (var_text vars.now conn) name.now) }
+    ensures free { unwrap_or (option_and_then (var_text vars.now conn) name.now) [] ≡ []
+        → IsOk result }
 {
     match name {
         Some(name) => var_text(alloc, vars, conn, name),
@@ -132,32 +141,53 @@ fn given_text<'a>(text: &'a Option<Bytes<'_>>) -> &'a [u8]
     }
 }
 
+/// The text, and then START, the text of the variable and END, each if it is there.
+fn concat_of<'a>(
+    alloc: Global,
+    text: Bytes<'a>,
+    start: &Option<Octets>,
+    name: &Option<VarName>,
+    end: &Option<Octets>,
+    conn: u32,
+    vars: &Vars,
+) -> Result<Bytes<'a>, NoMemory>
+    ensures value { IfOk result (λ made. Some (value.Str (bytes_of made)) ≡ converted_bytes
+        (conv.Concat start.now name.now end.now) conn vars.now (bytes_of text.entry)) }
+    ensures kept { IfOk result (AreInputWhereEqual text.entry) }
+    ensures free { converted_bytes (conv.Concat start.now name.now end.now) conn vars.now
+        (bytes_of text.entry) ≡ Some (value.Str (bytes_of text.entry)) → IsOk result }
+{
+    let value = named_text(alloc, vars, conn, name)?;
+    concat(alloc, text, given(start), given_text(&value), given(end))
+}
+
 impl Made {
-    /// The text that the converter makes of one.
-    fn made(
+    /// The text that the converter makes of one. One that stays as it is stays lent or owned, and
+    /// memory is then taken for the search of an expression alone.
+    fn made<'a>(
         &self,
         alloc: Global,
-        text: &[u8],
+        text: Bytes<'a>,
         conn: u32,
         vars: &Vars,
-    ) -> Result<Option<Octets>, NoMemory>
-        requires { IsMade self.now }
-        ensures { IfOk result (λ made. option_map value.Str made
-            ≡ converted_bytes (conv_of_made self.now) conn vars.now text.now) }
+    ) -> Result<Option<Bytes<'a>>, NoMemory>
+        ensures value { IfOk result (λ made. option_map (λ bytes. value.Str (bytes_of bytes)) made
+            ≡ converted_bytes (conv_of_made self.now) conn vars.now (bytes_of text.entry)) }
+        ensures kept { IfOk result (λ made. IfSome made (AreInputWhereEqual text.entry)) }
+        ensures free { expression_text (conv_of_made self.now) ≡ None
+            → converted_bytes (conv_of_made self.now) conn vars.now (bytes_of text.entry)
+            ≡ Some (value.Str (bytes_of text.entry)) → IsOk result }
     {
         match self {
             Made::Lower => Ok(Some(lower(alloc, text)?)),
             Made::Upper => Ok(Some(upper(alloc, text)?)),
             Made::Concat(start, name, end) => {
-                let value = named_text(alloc, vars, conn, name)?;
-                let made = concat(alloc, text, given(start), given_text(&value), given(end))?;
-                Ok(Some(made))
+                Ok(Some(concat_of(alloc, text, start, name, end, conn, vars)?))
             }
-            Made::Regsub(_, re, sub, each, _) => {
-                let made = regsub(alloc, re, sub.as_slice(), *each, text)?;
-                Ok(Some(made))
+            Made::Regsub(re, sub, each) => {
+                Ok(Some(regsub(alloc, re, sub.as_slice(), *each, text)?))
             }
-            Made::UrlDec(form) => Ok(url_dec(alloc, *form, text)?),
+            Made::UrlDec(form) => url_dec(alloc, *form, text),
         }
     }
 }
@@ -188,13 +218,17 @@ impl Built {
         conn: u32,
         vars: &Vars,
     ) -> Result<Option<Sample<'a>>, NoMemory>
-        requires { IsBuilt self.now }
         ensures value { IfOk result (λ sample. occurrence_value sample
             ≡ converted_bytes (conv_of_text self.now) conn vars.now (bytes_of text.entry)) }
-        ensures free { is_part_conv (conv_of_text self.now) ≡ true → is_lent text.entry ≡ true
-            → IsOk result }
+        ensures free { is_part_conv (conv_of_text self.now) ≡ true → IsOk result }
         ensures lent { is_part_conv (conv_of_text self.now) ≡ true → is_lent text.entry ≡ true →
             IfOk result (λ made. IfSome made (λ s. has_lent_bytes s ≡ true)) }
+        ensures same { is_lent text.entry ≡ true → IfOk result (λ made. IfSome made (λ s.
+            content_of (value_of s) ≡ Some (bytes_of text.entry) → has_lent_bytes s ≡ true)) }
+        ensures same_free { expression_text (conv_of_text self.now) ≡ None
+            → option_and_then content_of
+            (converted_bytes (conv_of_text self.now) conn vars.now (bytes_of text.entry))
+            ≡ Some (bytes_of text.entry) → IsOk result }
     {
         match self {
             Built::Length => Ok(Some(Sample::Int(text.as_slice().len() as i64))),
@@ -202,11 +236,11 @@ impl Built {
                 let sign = compared(alloc, text.as_slice(), name, conn, vars)?;
                 Ok(sign.map(|n| Sample::Int(n)))
             }
-            Built::Part(part) => part.apply(alloc, text),
-            Built::Made(made) => {
-                let made = made.made(alloc, text.as_slice(), conn, vars)?;
-                Ok(made.map(|made| Sample::Str(Bytes::Own(made))))
-            }
+            Built::Part(part) => Ok(part.apply(text)),
+            Built::Made(made) => match made.made(alloc, text, conn, vars)? {
+                Some(made) => Ok(Some(Sample::Str(made))),
+                None => Ok(None),
+            },
         }
     }
 }

@@ -1,5 +1,5 @@
+use hx_regex::RegularExpression;
 use hx_text::{Octets, VarName};
-use regex::bytes::Regex;
 
 /// A converter that was built, by how its value comes about.
 #[derive(Drop)]
@@ -21,12 +21,12 @@ pub(crate) enum Part {
     CutCrlf,
 }
 
-/// Converters whose value is a new text. The regular expression stands after its text.
+/// Converters that make a text.
 #[derive(Drop)]
 pub(crate) enum Made {
     Lower,
     Upper,
     Concat(Option<Octets>, Option<VarName>, Option<Octets>),
-    Regsub(Octets, Regex, Octets, bool, bool),
+    Regsub(RegularExpression, Octets, bool),
     UrlDec(Option<i64>),
 }

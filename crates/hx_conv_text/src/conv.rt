@@ -1,15 +1,17 @@
-ghost use Rattle.std.specs.Prelude.{◌≡◌, ◌≤◌, ℕ, IfOk, IfErr, IfSome, IsErrOf, IsNone, IsOk, IsSome, IsSomeAnd, IsUtf8, true, Some, None};
+ghost use Rattle.std.specs.Prelude.{◌≡◌, ◌≤◌, ℕ, IfOk, IfErr, IfSome, IsErrOf, IsNone, IsOk, IsSome, IsSomeAnd, IsUtf8, option_and_then, true, false, Some, None};
 ghost use Rattle.hx_ast.specs.Types.{input_kind};
 ghost use Rattle.hx_ast.specs.declared.conv.Conv.TheVariants as conv;
 ghost use Rattle.hx_outside.specs.Expressions.{expression, IsExpression};
+ghost use Rattle.hx_sample.specs.Cast.{is_printed};
 ghost use Rattle.hx_sample.specs.Seen.{value_of, occurrence_value};
 ghost use Rattle.hx_conv_text.specs.Building.{expression_text, BuildCountsLarge, IsExpressionFault, IsNoRegex, IsRegex};
-ghost use Rattle.hx_conv_text.specs.Converters.{has_lent_bytes, is_part_conv, is_text_conv, text_conv_of};
+ghost use Rattle.hx_conv_text.specs.Converters.{content_of, has_lent_bytes, is_part_conv, is_text_conv, text_conv_of};
 
 use crate::applying::content;
 use crate::built::{Built, Made, Part};
 use hx_ast::Conv;
 use hx_outside::{PatFault, ReFault, ReMaker};
+use hx_regex::RegularExpression;
 use hx_sample::{Sample, Vars};
 use hx_text::{Kind, NoMemory, Octets, VarName};
 use regex::bytes::Regex;
@@ -29,11 +31,9 @@ impl Model for TextConv {
 
     ghost Value = { Syntax };
 
-    ghost use Rattle.hx_conv_text.specs.Built.{conv_of_text, IsBuilt};
+    ghost use Rattle.hx_conv_text.specs.Built.{conv_of_text};
 
     ghost view = { λ conv. conv_of_text conv.built };
-
-    ghost invariant = { λ conv. IsBuilt conv.built };
 }
 
 /// The converter `conv`, built: its regular expression, if it has one, is made by `maker`, and its
@@ -120,10 +120,10 @@ fn regsub_conv(
     requires { IsExpression ci text.now re }
     ensures { IfOk result (λ built. built ≡ conv.Regsub text.now sub.now each ci) }
 {
-    let text = copied(alloc, text)?;
+    let re = RegularExpression::new(alloc, text.as_slice(), ci, re)?;
     let sub = copied(alloc, sub)?;
     Ok(TextConv {
-        built: Built::Made(Made::Regsub(text, re, sub, each, ci)),
+        built: Built::Made(Made::Regsub(re, sub, each)),
     })
 }
 
@@ -196,8 +196,12 @@ pub fn made_regex<M: ReMaker>(
 ///
 /// None exactly where the sample has no such cast or the converter fails: `field` and `word` where
 /// no piece stands at the index, `strcmp` where the variable is unset, `url_dec` where two
-/// hexadecimal digits don't follow a `%`. A part of bytes that are lent is lent on; owned bytes are
-/// copied, and so is what a converter makes. `NoMemory` where memory runs out.
+/// hexadecimal digits don't follow a `%`.
+///
+/// A part of bytes that are lent is lent on, and one of owned bytes keeps their memory. Where the
+/// value has the bytes of the sample, as `lower` of a text in lower case, these are passed on as
+/// well. Then memory is taken only for the search of a regular expression, and to write a number
+/// or an address as a text. `NoMemory` where memory runs out.
 #[tactic(auto, unfolding(crate::specs::Converters::text_conv_of))]
 pub fn apply<'a>(
     alloc: Global,
@@ -212,6 +216,18 @@ pub fn apply<'a>(
         → IsOk result }
     ensures lent { is_part_conv conv.now ≡ true → has_lent_bytes sample.entry ≡ true →
         IfOk result (λ made. IfSome made (λ s. has_lent_bytes s ≡ true)) }
+
+    // A part takes no memory but for a sample that is printed.
+    ensures part { is_part_conv conv.now ≡ true
+        → is_printed (value_of sample.entry) (input_kind conv.now) ≡ false → IsOk result }
+
+    // Where the value has the bytes of the sample and those are lent, they are lent on. No memory
+    // is taken then, but for the search of an expression.
+    ensures same { has_lent_bytes sample.entry ≡ true → IfOk result (λ made. IfSome made (λ s.
+        content_of (value_of s) ≡ content_of (value_of sample.entry) → has_lent_bytes s ≡ true)) }
+    ensures same_free { has_lent_bytes sample.entry ≡ true → expression_text conv.now ≡ None
+        → option_and_then content_of (text_conv_of conv.now (value_of sample.entry) conn vars.now)
+        ≡ content_of (value_of sample.entry) → IsOk result }
 {
     match content(alloc, sample, conv.text_input_kind())? {
         Some(text) => conv.built.converted(alloc, text, conn, vars),
@@ -234,7 +250,7 @@ impl TextConv {
             Built::Made(Made::Lower) => Kind::Str,
             Built::Made(Made::Upper) => Kind::Str,
             Built::Made(Made::Concat(_, _, _)) => Kind::Str,
-            Built::Made(Made::Regsub(_, _, _, _, _)) => Kind::Str,
+            Built::Made(Made::Regsub(_, _, _)) => Kind::Str,
             Built::Made(Made::UrlDec(_)) => Kind::Str,
             Built::Length => Kind::Str,
             Built::Strcmp(_) => Kind::Str,

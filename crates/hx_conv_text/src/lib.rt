@@ -15,10 +15,14 @@
 mod applying;
 mod built;
 mod conv;
+mod cutting;
+mod joining;
+pub mod laws;
+mod letters;
 mod pieces;
 mod substitution;
 mod texts;
 mod url;
 
 pub use conv::{TextConv, apply, build_text, made_regex};
-pub use substitution::expand;
+pub use substitution::{expand, expand_by};

@@ -1,20 +1,21 @@
 ghost use Rattle.std.specs.Prelude.{◌≡◌, ℕ, ◌+◌, ◌-◌, ◌≤◌, ◌<◌, [], ◌∷◌, length, drop, take, false, IfSome, IfNone, option_map};
 ghost use Rattle.std.specs.List.{filter, position_or_len, prefix_len};
 ghost use Rattle.hx_conv_text.specs.Pieces.{field_spans, is_in, first_items, items_at, last_items, piece_count, text_across, word_spans};
-ghost use Rattle.hx_conv_text.specs.Scanning.{fields_after, is_filled, last_end, pieces_left};
+ghost use Rattle.hx_conv_text.specs.Scanning.{bytes_at, fields_after, is_filled, last_end, pieces_left, LiesWithin};
 
-/// The text across the fields that `index` and `count` name, with the delimiters between them.
-/// Where `index` is positive these are so many from the one of that number on, and where it is
-/// negative so many up to the one that is counted from the last, -1: one without a count, and all
-/// for 0. None where there is no field at the index.
-pub(crate) fn field<'a>(
+/// Where the text across the fields that `index` and `count` name begins and ends, with the
+/// delimiters between them. Where `index` is positive these are so many from the one of that number
+/// on, and where it is negative so many up to the one that is counted from the last, -1: one
+/// without a count, and all for 0. None where there is no field at the index.
+pub(crate) fn field(
     index: i64,
     delims: &[u8],
     count: Option<i64>,
-    text: &'a [u8],
-) -> Option<&'a [u8]>
-    ensures { option_map (λ part. part.now) result
+    text: &[u8],
+) -> Option<(usize, usize)>
+    ensures value { option_map (bytes_at text.now) result
         ≡ text_across text.now (items_at index count (field_spans delims.now text.now)) }
+    ensures within { IfSome result (LiesWithin text.now) }
 {
     let pieces = Pieces {
         words: false,
@@ -25,14 +26,15 @@ pub(crate) fn field<'a>(
 }
 
 /// The same of words, the longest runs of bytes that aren't delimiters.
-pub(crate) fn word<'a>(
+pub(crate) fn word(
     index: i64,
     delims: &[u8],
     count: Option<i64>,
-    text: &'a [u8],
-) -> Option<&'a [u8]>
-    ensures { option_map (λ part. part.now) result
+    text: &[u8],
+) -> Option<(usize, usize)>
+    ensures value { option_map (bytes_at text.now) result
         ≡ text_across text.now (items_at index count (word_spans delims.now text.now)) }
+    ensures within { IfSome result (LiesWithin text.now) }
 {
     let pieces = Pieces {
         words: true,
@@ -105,7 +107,7 @@ pub(crate) struct Pieces<'a, 'd> {
     pub text: &'a [u8],
 }
 
-impl<'a> Pieces<'a, '_> {
+impl Pieces<'_, '_> {
     /// The first piece from the position `at` on.
     fn next(&self, at: usize) -> Option<(usize, usize)>
         ensures some { IfSome result (λ s.
@@ -165,32 +167,36 @@ impl<'a> Pieces<'a, '_> {
         last
     }
 
-    /// The text across at most so many pieces after those that are skipped.
-    fn across(&self, skipped: usize, most: usize) -> Option<&'a [u8]>
+    /// The span across at most so many pieces after those that are skipped.
+    fn across(&self, skipped: usize, most: usize) -> Option<(usize, usize)>
         requires { 0 < most }
-        ensures { option_map (λ part. part.now) result
+        ensures value { option_map (bytes_at self.now.text.now) result
             ≡ text_across self.now.text.now (take most (drop skipped (pieces_left self.now 0))) }
+        ensures within { IfSome result (LiesWithin self.now.text.now) }
     {
         let at = self.after(skipped)?;
         let span = self.next(at)?;
         let end = self.end_after(span.1, most - 1);
-        Some(&self.text[span.0..end])
+        Some((span.0, end))
     }
 
-    /// The text across so many pieces after those that are skipped, or all for 0.
-    fn from_first(&self, skipped: usize, most: usize) -> Option<&'a [u8]>
-        ensures { option_map (λ part. part.now) result ≡ text_across self.now.text.now
+    /// The span across so many pieces after those that are skipped, or all for 0.
+    fn from_first(&self, skipped: usize, most: usize) -> Option<(usize, usize)>
+        ensures value { option_map (bytes_at self.now.text.now) result
+            ≡ text_across self.now.text.now
             (first_items most (drop skipped (pieces_left self.now 0))) }
+        ensures within { IfSome result (LiesWithin self.now.text.now) }
     {
         let most = if most == 0 { self.text.len() + 1 } else { most };
         self.across(skipped, most)
     }
 
-    /// The text across so many pieces, or all for 0, up to the one that so many others follow.
-    fn to_last(&self, others: usize, most: usize) -> Option<&'a [u8]>
-        ensures { option_map (λ part. part.now) result ≡ text_across self.now.text.now
-            (let pieces = pieces_left self.now 0 in
+    /// The span across so many pieces, or all for 0, up to the one that so many others follow.
+    fn to_last(&self, others: usize, most: usize) -> Option<(usize, usize)>
+        ensures value { option_map (bytes_at self.now.text.now) result
+            ≡ text_across self.now.text.now (let pieces = pieces_left self.now 0 in
             last_items most (take (length pieces - others) pieces)) }
+        ensures within { IfSome result (LiesWithin self.now.text.now) }
     {
         let pieces = self.count().saturating_sub(others);
         if pieces == 0 {
@@ -204,10 +210,11 @@ impl<'a> Pieces<'a, '_> {
         self.across(skipped, pieces - skipped)
     }
 
-    /// The text across the pieces that an index and a count name.
-    fn part(&self, index: i64, count: Option<i64>) -> Option<&'a [u8]>
-        ensures { option_map (λ part. part.now) result ≡ text_across self.now.text.now
-            (items_at index count (pieces_left self.now 0)) }
+    /// The span across the pieces that an index and a count name.
+    fn part(&self, index: i64, count: Option<i64>) -> Option<(usize, usize)>
+        ensures value { option_map (bytes_at self.now.text.now) result
+            ≡ text_across self.now.text.now (items_at index count (pieces_left self.now 0)) }
+        ensures within { IfSome result (LiesWithin self.now.text.now) }
     {
         let number = index.unsigned_abs() as usize;
         if index >= 0 {

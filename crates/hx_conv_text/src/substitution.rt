@@ -1,13 +1,17 @@
-ghost use Rattle.std.specs.Prelude.{◌≡◌, ℕ, Bool, List, Some, ◌++◌, ◌≤◌, drop, take, length, option_map, option_to_list, IfOk};
-ghost use Rattle.regex.specs.Bytes.{regex_pattern};
+ghost use Rattle.std.specs.Prelude.{◌≡◌, ℕ, Bool, List, Some, ◌++◌, ◌≤◌, drop, take, length, option_map, option_to_list, unwrap_or, IfOk};
+ghost use Rattle.regex.specs.Bytes.{matcher_pattern, regex_pattern};
 ghost use Rattle.regex.specs.Patterns.{find, find_all};
 ghost use Rattle.regex.specs.Replace.{replaced_by};
 ghost use Rattle.hx_outside.specs.Expressions.{expression, IsExpression};
+ghost use Rattle.hx_sample.specs.Seen.{bytes_of};
 ghost use Rattle.hx_conv_text.specs.Captured.{captured};
+ghost use Rattle.hx_conv_text.specs.Converters.{AreInputWhereEqual};
 ghost use Rattle.hx_conv_text.specs.Substitution.{expansion, expansion_at, expanded_of, substituted_text};
 
+use hx_regex::{RegularExpression, Search};
+use hx_sample::Bytes;
 use hx_text::{NoMemory, Octets};
-use regex::bytes::{Captures, Regex};
+use regex::bytes::{Captures, Matcher, Regex};
 use std::alloc::{AllocError, Global};
 
 /// The bytes of a group, or nothing where it took no part.
@@ -46,6 +50,24 @@ fn expansion(alloc: Global, sub: &[u8], captures: &Captures<'_, '_>) -> Result<V
     Ok(made)
 }
 
+/// The replacement `sub` at the leftmost match of what the matcher searches for. None exactly where
+/// nothing matches.
+fn first_expansion(
+    alloc: Global,
+    matcher: &mut Matcher<'_>,
+    sub: &[u8],
+    input: &[u8],
+) -> Result<Option<Octets>, NoMemory>
+    ensures value { IfOk result (λ made. made ≡ option_map (expansion_at sub.now input.now)
+        (find (matcher_pattern matcher.old) input.now 0)) }
+    ensures same { matcher_pattern matcher.new ≡ matcher_pattern matcher.old }
+{
+    match matcher.captures(input) {
+        Some(captures) => Ok(Some(Octets::from_vec(expansion(alloc, sub, &captures)?))),
+        None => Ok(None),
+    }
+}
+
 /// What replaces the leftmost match of `re` in `input`: the bytes of `sub`, in which a backslash
 /// and a digit are the text of the group of that number, 0 for the whole match, and nothing where
 /// it took no part; two backslashes are one; and a backslash before any other byte, or at the end,
@@ -64,9 +86,30 @@ pub fn expand(
         IfOk result (λ made. made ≡ expanded_of ci text sub.now input.now) }
 {
     let mut matcher = re.matcher(alloc)?;
-    match matcher.captures(input) {
-        Some(captures) => Ok(Some(Octets::from_vec(expansion(alloc, sub, &captures)?))),
-        None => Ok(None),
+    let made = first_expansion(alloc, &mut matcher, sub, input)?;
+    Ok(made)
+}
+
+/// The same by an expression that keeps what a search sets up.
+pub fn expand_by(
+    alloc: Global,
+    re: &RegularExpression,
+    sub: &[u8],
+    input: &[u8],
+) -> Result<Option<Octets>, NoMemory>
+    ensures { IfOk result (λ made. made
+        ≡ expanded_of re.now.ci re.now.text sub.now input.now) }
+{
+    match re.search(alloc)? {
+        Search::Fresh(mut matcher) => {
+            let made = first_expansion(alloc, &mut *matcher, sub, input)?;
+            Ok(made)
+        }
+        Search::Kept(mut kept) => {
+            let made = first_expansion(alloc, &mut *kept.matcher, sub, input)?;
+            re.keep(kept);
+            Ok(made)
+        }
     }
 }
 
@@ -83,45 +126,52 @@ fn with_part_replaced(
     ensures { IfOk result (λ made.
         made ≡ take start input.now ++ replacement.now ++ drop end input.now) }
 {
-    let mut made = Octets::copy(alloc, &input[..start])?;
-    made.push_all(replacement)?;
-    made.push_all(&input[end..])?;
-    Ok(made)
+    let kept = start.saturating_add(input.len() - end);
+    let mut made = Vec::with_capacity(alloc, kept.saturating_add(replacement.len()))?;
+    made.extend_from_slice(&input[..start])?;
+    made.extend_from_slice(replacement)?;
+    made.extend_from_slice(&input[end..])?;
+    Ok(Octets::from_vec(made))
 }
 
-/// The input with the leftmost match of `re` replaced, if there is one.
+/// The input with the leftmost match replaced. None where nothing matches.
 fn with_first_replaced(
     alloc: Global,
-    re: &Regex,
+    matcher: &mut Matcher<'_>,
     sub: &[u8],
     input: &[u8],
-) -> Result<Octets, NoMemory>
-    ensures { IfOk result (λ made. made ≡ replaced_by (expansion_at sub.now input.now) input.now 0
-        (option_to_list (find (regex_pattern re.now) input.now 0))) }
+) -> Result<Option<Octets>, NoMemory>
+    ensures value { IfOk result (λ made. unwrap_or made input.now
+        ≡ replaced_by (expansion_at sub.now input.now) input.now 0
+        (option_to_list (find (matcher_pattern matcher.old) input.now 0))) }
+    ensures same { matcher_pattern matcher.new ≡ matcher_pattern matcher.old }
 {
-    let mut matcher = re.matcher(alloc)?;
     match matcher.captures(input) {
         Some(captures) => {
             let found = captures.get_match();
             let replacement = expansion(alloc, sub, &captures)?;
             let made = with_part_replaced(alloc, input, found.start(), found.end(), &replacement)?;
-            Ok(made)
+            Ok(Some(made))
         }
-        None => Octets::copy(alloc, input),
+        None => Ok(None),
     }
 }
 
-/// The input with each match of `re` replaced.
+/// The input with each match replaced. None where nothing matches.
 fn with_each_replaced(
     alloc: Global,
-    re: &Regex,
+    matcher: &mut Matcher<'_>,
     sub: &[u8],
     input: &[u8],
-) -> Result<Octets, NoMemory>
-    ensures { IfOk result (λ made. made ≡ replaced_by (expansion_at sub.now input.now) input.now 0
-        (find_all (regex_pattern re.now) input.now)) }
+) -> Result<Option<Octets>, NoMemory>
+    ensures value { IfOk result (λ made. unwrap_or made input.now
+        ≡ replaced_by (expansion_at sub.now input.now) input.now 0
+        (find_all (matcher_pattern matcher.old) input.now)) }
+    ensures same { matcher_pattern matcher.new ≡ matcher_pattern matcher.old }
 {
-    let mut matcher = re.matcher(alloc)?;
+    if !matcher.is_match(input) {
+        return Ok(None);
+    }
     let made = matcher.replace_all_with(
         alloc,
         input,
@@ -129,24 +179,81 @@ fn with_each_replaced(
             ensures { IfOk result (λ v. v.items ≡ expansion (captured captures.now) sub.entry.now) }
         { expansion(alloc, sub, captures) },
     )?;
-    Ok(Octets::from_vec(made))
+    Ok(Some(Octets::from_vec(made)))
 }
 
-/// The input with the leftmost match of `re`, or each match, replaced.
-pub(crate) fn regsub(
+/// The input with the leftmost match, or each match, replaced. None where nothing matches.
+fn substituted(
     alloc: Global,
-    re: &Regex,
+    matcher: &mut Matcher<'_>,
     sub: &[u8],
     each: bool,
     input: &[u8],
-) -> Result<Octets, NoMemory>
-    ensures { (ci : Bool) (text : List ℕ) → IsExpression ci text re.now →
-        IfOk result (λ made. Some made
-        ≡ option_map (λ re. substituted_text re sub.now each input.now) (expression ci text)) }
+) -> Result<Option<Octets>, NoMemory>
+    ensures value { IfOk result (λ made. unwrap_or made input.now
+        ≡ substituted_text (matcher_pattern matcher.old) sub.now each input.now) }
+    ensures same { matcher_pattern matcher.new ≡ matcher_pattern matcher.old }
 {
     if each {
-        Ok(with_each_replaced(alloc, re, sub, input)?)
+        with_each_replaced(alloc, matcher, sub, input)
     } else {
-        Ok(with_first_replaced(alloc, re, sub, input)?)
+        with_first_replaced(alloc, matcher, sub, input)
+    }
+}
+
+/// The same by an expression that keeps what a search sets up.
+fn substituted_by(
+    alloc: Global,
+    re: &RegularExpression,
+    sub: &[u8],
+    each: bool,
+    input: &[u8],
+) -> Result<Option<Octets>, NoMemory>
+    ensures { IfOk result (λ made. Some (unwrap_or made input.now)
+        ≡ option_map (λ pattern. substituted_text pattern sub.now each input.now)
+        (expression re.now.ci re.now.text)) }
+{
+    match re.search(alloc)? {
+        Search::Fresh(mut matcher) => {
+            let made = substituted(alloc, &mut *matcher, sub, each, input)?;
+            Ok(made)
+        }
+        Search::Kept(mut kept) => {
+            let made = substituted(alloc, &mut *kept.matcher, sub, each, input)?;
+            re.keep(kept);
+            Ok(made)
+        }
+    }
+}
+
+/// What was made of the input, or the input itself where both have the same bytes.
+fn unless_equal<'a>(input: Bytes<'a>, made: Octets) -> Bytes<'a>
+    ensures value { bytes_of result ≡ made }
+    ensures kept { AreInputWhereEqual input.entry result }
+{
+    if input.as_slice() == made.as_slice() {
+        input
+    } else {
+        Bytes::Own(made)
+    }
+}
+
+/// The input with the leftmost match of `re`, or each match, replaced. Where that leaves its bytes
+/// as they are the input stays, lent or owned.
+pub(crate) fn regsub<'a>(
+    alloc: Global,
+    re: &RegularExpression,
+    sub: &[u8],
+    each: bool,
+    input: Bytes<'a>,
+) -> Result<Bytes<'a>, NoMemory>
+    ensures value { IfOk result (λ made. Some (bytes_of made)
+        ≡ option_map (λ pattern. substituted_text pattern sub.now each (bytes_of input.entry))
+        (expression re.now.ci re.now.text)) }
+    ensures kept { IfOk result (AreInputWhereEqual input.entry) }
+{
+    match substituted_by(alloc, re, sub, each, input.as_slice())? {
+        Some(made) => Ok(unless_equal(input, made)),
+        None => Ok(input),
     }
 }

@@ -1,5 +1,5 @@
 //! Laws: what the definitions of converters imply.
-ghost use Rattle.std.specs.Prelude.{◌≡◌, ◌-◌, ◌≢◌, ◌↔◌, ◌≤◌, ◌<◌, ◌^◌, ℕ, ℤ, pos, negsuc, None, Some, ◌+ℤ◌, ◌*ℤ◌, int_div, unsigned_abs, FitsSigned};
+ghost use Rattle.std.specs.Prelude.{◌≡◌, ◌-◌, ◌≢◌, ◌↔◌, ◌≤◌, ◌<◌, ◌≤ℤ◌, ◌^◌, ℕ, ℤ, pos, negsuc, None, Some, ◌+ℤ◌, ◌*ℤ◌, int_div, unsigned_abs, FitsSigned};
 ghost use Rattle.std.specs.Int.{w64, saturate_signed};
 ghost use Rattle.hx_conv_val.specs.Addresses.{masked_address};
 ghost use Rattle.hx_conv_val.specs.Encodings.{base64_text, base64_bytes, base64url_text, base64url_bytes};
@@ -16,11 +16,14 @@ pub fn saturation_is_nearest()
 {}
 
 /// The quotient times the divisor, and the remainder, are the dividend, where the divisor isn't 0
-/// and the exact quotient is an integer of 64 bits. The remainder is nearer to 0 than the divisor.
+/// and the exact quotient is an integer of 64 bits. The remainder is nearer to 0 than the divisor,
+/// and has the sign of the dividend where it isn't 0, so the quotient is rounded toward zero.
 pub fn quotient_and_remainder(n: i64, m: i64)
     ensures whole { m ≢ pos 0 → FitsSigned w64 (int_div n m)
         → quotient_of n m *ℤ m +ℤ remainder_of n m ≡ n }
     ensures rest { m ≢ pos 0 → unsigned_abs (remainder_of n m) < unsigned_abs m }
+    ensures not_negative { m ≢ pos 0 → pos 0 ≤ℤ n → pos 0 ≤ℤ remainder_of n m }
+    ensures not_positive { m ≢ pos 0 → n ≤ℤ pos 0 → remainder_of n m ≤ℤ pos 0 }
 {}
 
 /// A text is decoded to bytes exactly where it is their base64 encoding.

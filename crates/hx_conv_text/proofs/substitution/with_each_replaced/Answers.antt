@@ -1,14 +1,18 @@
-use Rattle.std.proofs.Common.{◌≡◌, ◌∙◌}
+use Rattle.std.proofs.Common.{◌≡◌, ◌∙◌, refl}
 use Rattle.hx_conv_text.specs.Captured.{captured}
 use Rattle.hx_conv_text.specs.Substitution.{expansion, expansion_at}
-use Rattle.hx_conv_text.proofs.SubstitutionLemmas.{expansion-captured, replaced_as}
+use Rattle.hx_conv_text.proofs.SubstitutionLemmas.{expansion-captured, none_replaced, replaced_as}
 use Rattle.hx_conv_text.proofs.substitution.with_each_replaced.Goals as goal
 
-pub returns : goal.returns
-returns c =
+pub returns-then-not-is_match-clause-value : goal.returns-then-not-is_match-clause-value
+returns-then-not-is_match-clause-value c =
+    none_replaced c.args.sub.now c.args.input.now _ _ refl c.if-not-is_match.ensures.found
+
+pub returns-clause-value : goal.returns-clause-value
+returns-clause-value c =
     let sub = c.args.sub.now in
     let input = c.args.input.now in
-    let value = rw c.in_ok-matcher.ensures.pattern at c.in_ok-made.ensures.value in
+    let value = rw c.is_match.ensures.same at c.in_ok-made.ensures.value in
     c.from_vec.ensures
     ∙ replaced_as (expansion_at sub input) _
     (λ m w h.

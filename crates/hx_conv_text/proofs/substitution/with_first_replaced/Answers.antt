@@ -1,15 +1,13 @@
 use Rattle.std.proofs.Common.{◌≡◌, ◌++◌, take, drop, sym, ap, ◌∙◌}
-use Rattle.std.proofs.lemmas.Result.{IfOk-weaker}
 use Rattle.regex.specs.Bytes.{match_span}
-use Rattle.regex.specs.Patterns.{Re, find}
 use Rattle.std.specs.Option.{option_to_list}
 use Rattle.regex.specs.Replace.{replaced_by}
 use Rattle.hx_conv_text.specs.Substitution.{expansion_at}
 use Rattle.hx_conv_text.proofs.SubstitutionLemmas.{expansion-captured, first_made, none_made, whole_span}
 use Rattle.hx_conv_text.proofs.substitution.with_first_replaced.Goals as goal
 
-pub returns-in-Some : goal.returns-in-Some
-returns-in-Some c =
+pub returns-in_ok-made-in-Some-clause-value : goal.returns-in_ok-made-in-Some-clause-value
+returns-in_ok-made-in-Some-clause-value c =
     let sub = c.args.sub.now in
     let input = c.args.input.now in
     let captures = c.in-Some.captures in
@@ -25,13 +23,10 @@ returns-in-Some c =
     ∙ ap (λ n. take found.start input ++ replacement ++ drop n input) c.end.ensures
     ∙ first_made sub input replacement m (match_span found) whole (c.deref.ensures.value ∙ written)
     ∙ ap (λ o. replaced_by (expansion_at sub input) input 0 (option_to_list o)) (sym is)
-    ∙ ap (λ (re : Re). replaced_by (expansion_at sub input) input 0 (option_to_list (find re input 0))) c.in_ok-matcher.ensures.pattern
 
-pub returns : goal.returns
-returns c =
+pub returns-in-None-clause-value : goal.returns-in-None-clause-value
+returns-in-None-clause-value c =
     let sub = c.args.sub.now in
     let input = c.args.input.now in
-    let none = none_made (expansion_at sub input) input
+    none_made (expansion_at sub input) input
     ∙ ap (λ o. replaced_by (expansion_at sub input) input 0 (option_to_list o)) (sym c.in-None.ensures.found)
-    ∙ ap (λ (re : Re). replaced_by (expansion_at sub input) input 0 (option_to_list (find re input 0))) c.in_ok-matcher.ensures.pattern in
-    IfOk-weaker c.copy.result _ _ (λ made h. h ∙ none) c.copy.ensures

@@ -1,9 +1,7 @@
-use Rattle.std.proofs.Common.{◌≡◌, ◌==◌, ◌++◌, drop, map, if◌then◌else◌}
-use Rattle.hx_base.specs.Bytes.{ascii}
-use Rattle.hx_conv_text.specs.UrlDecoding.{with_spaces}
+use Rattle.std.proofs.Common.{◌≡◌, ◌++◌, drop, map}
+use Rattle.hx_conv_text.specs.UrlDecoding.{space_for_plus, spaced_from}
 use Rattle.hx_conv_text.proofs.url.with_spaces.Given as goal
 
 abbrev pub invariant-loop-b : goal.invariant-loop-b
 invariant-loop-b l =
-    l.made.items ++ map (λ b. if b == ascii "+" then ascii " " else b) (drop l.b-index l.query)
-    ≡ with_spaces l.form l.text
+    l.made.items ++ map space_for_plus (drop l.b-index l.after) ≡ spaced_from l.query l.text

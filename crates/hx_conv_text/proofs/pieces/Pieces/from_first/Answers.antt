@@ -5,8 +5,8 @@ use Rattle.hx_conv_text.proofs.PieceLemmas.{first_all, first_some, length-pieces
 use Rattle.hx_conv_text.proofs.pieces.Pieces.from_first.Goals as goal
 use Rattle.hx_conv_text.proofs.pieces.Pieces.from_first.Goals.{then-most-eq0, else-most-eq0}
 
-pub returns : goal.returns
-returns c =
+pub returns-clause-value : goal.returns-clause-value
+returns-clause-value c =
     let pieces = c.args.self.now in
     let text = pieces.text.now in
     let spans = pieces_left pieces 0 in
@@ -18,4 +18,4 @@ returns c =
       | then-most-eq0 w ↦ ap (λ n. take n rest) w.most-is ∙ first_all c.args.most (length text + 1) rest w.if-most-eq0.true size
       | else-most-eq0 w ↦ ap (λ n. take n rest) w.most-is ∙ first_some c.args.most rest w.if-most-eq0.false
     ] in
-    c.across.ensures ∙ ap (text_across text) same
+    c.across.ensures.value ∙ ap (text_across text) same

@@ -6,8 +6,8 @@ use Rattle.hx_conv_text.proofs.PieceLemmas.{last_all, last_some, take_last}
 use Rattle.hx_conv_text.proofs.pieces.Pieces.to_last.Goals as goal
 use Rattle.hx_conv_text.proofs.pieces.Pieces.to_last.Goals.{then-most-eq0, else-most-eq0}
 
-pub returns : goal.returns
-returns c =
+pub returns-clause-value : goal.returns-clause-value
+returns-clause-value c =
     let pieces = c.args.self.now in
     let text = pieces.text.now in
     let spans = pieces_left pieces 0 in
@@ -26,6 +26,6 @@ returns c =
       | else-most-eq0 w ↦ last_some c.args.most skipped (take size spans) w.if-most-eq0.false
           (omega (arith, w.skipped-is, w.saturating_sub-skipped.ensures, count, few))
     ] in
-    c.across.ensures
+    c.across.ensures.value
     ∙ ap (λ n. text_across text (take (n - skipped) (drop skipped spans))) count
     ∙ ap (text_across text) (take_last spans size skipped within ∙ same)
