@@ -1,6 +1,6 @@
 -- The values of expressions from one occurrence and from all.
-use Rattle.std.proofs.Common.{◌≡◌, Bool, true, false, List, [], ◌∷◌, map, reverse, Option, None, refl, ap, sym, ◌∙◌, ◌==◌, length, ne_eqb, arith}
-use Rattle.std.proofs.lemmas.List.{map-append, map-id}
+use Rattle.std.proofs.Common.{◌≡◌, Bool, true, false, List, [], ◌∷◌, map, reverse, Option, None, refl, ap, ◌∙◌, arith}
+use Rattle.std.proofs.lemmas.List.{map-append}
 use mathlib.Core.List.{reverse-cons}
 use Rattle.hx_ast.specs.declared.conv.Conv.{Conv}
 use Rattle.hx_fetch.specs.Picks.{end_of, first_of}
@@ -28,10 +28,3 @@ mapped_back f (x ∷ xs) = grind (arith, reverse-cons, map-append, mapped_back f
 pub end_mapped : (f : Option Value → Option Value) → f None ≡ None → (last : Bool) (xs : List (Option Value)) → f (end_of last xs) ≡ end_of last (map f xs)
 end_mapped f none true xs = first_mapped f none (reverse xs) ∙ ap first_of (mapped_back f xs)
 end_mapped f none false xs = first_mapped f none xs
-
--- where there are no converters, the values are the occurrences
-pub bare_values : (context : Context) (heads : List TableHead) (lists : List (List Entry)) (convs : List Conv) (xs : List (Option Value)) → true ≡ (length convs == 0) → xs ≡ map (λ occurrence. value_after context heads lists convs occurrence) xs
-bare_values context heads lists [] xs none = sym (map-id xs)
-bare_values context heads lists (c ∷ convs) xs none =
-    let some : length (c ∷ convs) == 0 ≡ false = ne_eqb (length (c ∷ convs)) 0 (λ e. absurd (omega (arith, e))) in
-    absurd (cc (none, some))

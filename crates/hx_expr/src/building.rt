@@ -5,8 +5,8 @@ ghost use Rattle.hx_conv_val.specs.Converters.{is_value_conv};
 ghost use Rattle.hx_expr.specs.Faults.{CompileCountsLarge};
 ghost use Rattle.hx_expr.specs.Expressions.{has_expression, texts_of};
 
-use crate::copying::copied_text;
 use crate::fault::PlanFault;
+use crate::map_default::read_default;
 use crate::plan::{Built, PlanConv};
 use hx_ast::{Conv, Items};
 use hx_conv_text::{TextConv, build_text};
@@ -64,7 +64,7 @@ fn build<M: ReMaker>(alloc: Global, conv: &Conv, maker: &mut M) -> Result<PlanCo
     }
     let built = match conv {
         Conv::Map(head, by, out, default) => {
-            Built::Map(*head, *by, *out, copied_text(alloc, default)?)
+            Built::Map(*head, *by, *out, read_default(alloc, *out, default)?)
         }
         conv => Built::Val(build_val(alloc, conv)?),
     };

@@ -1,37 +1,21 @@
-ghost use Rattle.std.specs.Prelude.{◌≡◌, IfOk, None, map};
-ghost use Rattle.std.specs.Option.{option_copied};
+ghost use Rattle.std.specs.Prelude.{◌≡◌, IfOk, None};
+ghost use Rattle.hx_fetch.specs.Fetches.{occurrences_of};
 ghost use Rattle.hx_fetch.specs.World.{context_of};
 ghost use Rattle.hx_sample.specs.Seen.{occurrence_value, value_of};
+ghost use Rattle.hx_expr.specs.Built.{default_text, default_value};
 ghost use Rattle.hx_expr.specs.Values.{HasTableHead, HasTableHeads, IsHeadBy, converted_value, expr_value, expr_values, map_value, mapped_value, value_after};
 
+use crate::map_default::MapDefault;
 use crate::plan::{Built, Plan, PlanConv};
 use hx_ast::{Conv, kind_out};
 use hx_conv_text::apply as apply_text;
 use hx_conv_val::apply as apply_val;
-use hx_fetch::{World, chosen, occurrences};
+use hx_fetch::{OccurrenceReader, World, chosen};
 use hx_pool::Steps;
 use hx_sample::{Bytes, Sample, Samples, Tables, cast};
-use hx_text::{By, NoMemory, Octets, Out};
+use hx_text::{By, NoMemory, Out};
 use std::alloc::Global;
 use std::sync::ledger::Ledger;
-
-/// A map's text as the type of its values.
-fn read_value<'w>(
-    alloc: Global,
-    text: Option<&[u8]>,
-    out: Out,
-) -> Result<Option<Sample<'w>>, NoMemory>
-    ensures { IfOk result (λ value. occurrence_value value
-        ≡ mapped_value out (option_copied text.entry) None) }
-{
-    match text {
-        Some(text) => {
-            let text = Octets::copy(alloc, text)?;
-            cast(alloc, Sample::Str(Bytes::Own(text)), kind_out(out))
-        }
-        None => Ok(None),
-    }
-}
 
 /// What the map of the head gives for a sample.
 fn look_up<'w, T: Tables, L: Ledger>(
@@ -39,25 +23,24 @@ fn look_up<'w, T: Tables, L: Ledger>(
     head: u32,
     by: By,
     out: Out,
-    default: &Option<Octets>,
+    default: &MapDefault,
     sample: Sample<'w>,
     tables: &'w T,
     steps: &mut Steps<L>,
 ) -> Result<Option<Sample<'w>>, NoMemory>
-    requires { IsHeadBy (T.heads (T.state tables.now)) head by }
+    requires head { IsHeadBy (T.heads (T.state tables.now)) head by }
+    requires read { default_value default.now
+        ≡ mapped_value out (default_text default.now) None }
     ensures { IfOk result (λ value. occurrence_value value
         ≡ map_value (T.heads (T.state tables.now)) (T.lists (T.state tables.now))
-        (Conv.Map head by out default.now) (value_of sample.entry)) }
+        (Conv.Map head by out (default_text default.now)) (value_of sample.entry)) }
 {
     let Some(input) = cast(alloc, sample, by.kind())? else {
         return Ok(None);
     };
     match tables.find(alloc, head, &input, steps)? {
         Some(hit) => cast(alloc, Sample::Str(Bytes::Lent(hit.value)), kind_out(out)),
-        None => match default {
-            Some(text) => read_value(alloc, Some(text.as_slice()), out),
-            None => Ok(None),
-        },
+        None => default.value(alloc),
     }
 }
 
@@ -113,6 +96,44 @@ fn convert<'w, T: Tables, L: Ledger>(
     Ok(value)
 }
 
+impl Plan {
+    /// The occurrences of the expression's fetch in `world`, in their order, for
+    /// `eval_occurrence` to make a value of each. It fails only where memory runs out.
+    pub fn occurrences<'p, 'w>(
+        &'p self,
+        alloc: Global,
+        world: &World<'w>,
+    ) -> Result<OccurrenceReader<'p, 'w>, NoMemory>
+        ensures { IfOk result (λ occurrences.
+            occurrences ≡ occurrences_of self.now.fetch (context_of world.now)) }
+    {
+        OccurrenceReader::new(alloc, &self.fetch, world)
+    }
+}
+
+/// What the converters of the expression make of an occurrence of its fetch in `world`, one after
+/// the other (HAProxy configuration manual 2.4, section 7.3.1): none where it is none, or a
+/// converter fails. Otherwise as `eval`, which takes one occurrence, as `eval_all` takes all.
+pub fn eval_occurrence<'w, T: Tables, L: Ledger>(
+    alloc: Global,
+    plan: &Plan,
+    occurrence: Option<Sample<'w>>,
+    world: &World<'w>,
+    tables: &'w T,
+    steps: &mut Steps<L>,
+) -> Result<Option<Sample<'w>>, NoMemory>
+    requires heads { HasTableHeads (T.heads (T.state tables.now)) plan.now.convs }
+    ensures { IfOk result (λ value. occurrence_value value
+        ≡ value_after (context_of world.now) (T.heads (T.state tables.now))
+        (T.lists (T.state tables.now)) plan.now.convs (occurrence_value occurrence.entry)) }
+{
+    let convs = plan.convs.as_slice();
+    if convs.is_empty() {
+        return Ok(occurrence);
+    }
+    convert(alloc, convs, occurrence, world, tables, steps)
+}
+
 /// The value of the expression in `world` (HAProxy configuration manual 2.4, section 7.3): the
 /// occurrence of its fetch that expressions take, as its converters make it, one after the other.
 /// None where the fetch finds none, or a converter fails. Maps are looked up in `tables`, whose
@@ -134,38 +155,13 @@ pub fn eval<'w, T: Tables, L: Ledger>(
         (T.lists (T.state tables.now)) plan.now) }
 {
     let occurrence = chosen(alloc, &plan.fetch, world)?;
-    let convs = plan.convs.as_slice();
-    if convs.is_empty() {
-        return Ok(occurrence);
-    }
-    convert(alloc, convs, occurrence, world, tables, steps)
-}
-
-/// What the converters make of each occurrence.
-fn convert_all<'w, T: Tables, L: Ledger>(
-    alloc: Global,
-    convs: &[PlanConv],
-    mut found: Samples<'w>,
-    world: &World<'w>,
-    tables: &'w T,
-    steps: &mut Steps<L>,
-) -> Result<Samples<'w>, NoMemory>
-    requires { HasTableHeads (T.heads (T.state tables.now)) convs.now }
-    ensures { IfOk result (λ values. values
-        ≡ map (value_after (context_of world.now) (T.heads (T.state tables.now))
-        (T.lists (T.state tables.now))
-        convs.now) found.entry) }
-{
-    let mut values = Samples::new(alloc);
-    while let Some(occurrence) = found.take() {
-        values.push(convert(alloc, convs, occurrence, world, tables, steps)?)?;
-    }
-    Ok(values)
+    eval_occurrence(alloc, plan, occurrence, world, tables, steps)
 }
 
 /// The values of the expression in `world`, one for each occurrence of its fetch, in their order,
 /// as an ACL tries them (HAProxy configuration manual 2.4, section 7.1). An occurrence that is
-/// none, or for which a converter fails, keeps its position, as none. Otherwise as `eval`.
+/// none, or for which a converter fails, keeps its position, as none. Otherwise as `eval`. Whoever
+/// needs one value at a time takes `Plan::occurrences` and `eval_occurrence`, which keep no list.
 pub fn eval_all<'w, T: Tables, L: Ledger>(
     alloc: Global,
     plan: &Plan,
@@ -178,10 +174,9 @@ pub fn eval_all<'w, T: Tables, L: Ledger>(
         ≡ expr_values (context_of world.now) (T.heads (T.state tables.now))
         (T.lists (T.state tables.now)) plan.now) }
 {
-    let found = occurrences(alloc, &plan.fetch, world)?;
-    let convs = plan.convs.as_slice();
-    if convs.is_empty() {
-        return Ok(found);
+    let mut values = Samples::new(alloc);
+    for occurrence in plan.occurrences(alloc, world)? {
+        values.push(eval_occurrence(alloc, plan, occurrence, world, tables, steps)?)?;
     }
-    convert_all(alloc, convs, found, world, tables, steps)
+    Ok(values)
 }

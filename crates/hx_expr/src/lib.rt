@@ -18,11 +18,12 @@ mod copying;
 mod evaluating;
 mod fault;
 pub mod laws;
+mod map_default;
 mod plan;
 mod typing;
 
 pub use compiling::compile;
-pub use evaluating::{eval, eval_all};
+pub use evaluating::{eval, eval_all, eval_occurrence};
 pub use fault::PlanFault;
 pub use plan::Plan;
 pub use typing::{can_cast, is_typed};

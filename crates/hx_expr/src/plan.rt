@@ -1,7 +1,8 @@
+use crate::map_default::MapDefault;
 use hx_ast::{Conv, Fetch, Items};
 use hx_conv_text::TextConv;
 use hx_conv_val::ValConv;
-use hx_text::{By, Octets, Out};
+use hx_text::{By, Out};
 use std::marker::Model;
 
 /// A built converter: of texts, of values, or one that looks a value up by a head, with the match
@@ -10,7 +11,7 @@ use std::marker::Model;
 pub(crate) enum Built {
     Text(TextConv),
     Val(ValConv),
-    Map(u32, By, Out, Option<Octets>),
+    Map(u32, By, Out, MapDefault),
 }
 
 /// A converter of a plan. Contracts see it as the converter that it was built from.

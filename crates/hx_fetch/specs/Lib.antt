@@ -5,3 +5,4 @@ pub mod Picks
 pub mod World
 -- views of the code, for the contracts of private functions
 pub mod Views
+pub mod ReaderView

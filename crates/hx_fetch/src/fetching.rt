@@ -4,10 +4,10 @@ ghost use Rattle.hx_fetch.specs.Fetches.{occurrences_of, chosen_of, is_copied, t
 ghost use Rattle.hx_fetch.specs.World.{context_of};
 
 use crate::lookup::{Found, look_up};
-use crate::walks::{list, lone, pick, pick_end};
+use crate::walks::{list, lone, pick, pick_end, read_text};
 use crate::world::World;
 use hx_ast::Fetch;
-use hx_sample::{Bytes, Sample, Samples, cast};
+use hx_sample::{Sample, Samples};
 use hx_text::NoMemory;
 use std::alloc::Global;
 
@@ -56,7 +56,7 @@ pub fn occurrences<'w>(
     match look_up(alloc, fetch, world)? {
         Found::One(occurrence) => Ok(Samples::lone(alloc, occurrence)),
         Found::Texts(source, None, kind) => list(alloc, source, kind),
-        Found::Texts(source, Some(at), kind) => lone(alloc, pick(source, at), kind),
+        Found::Texts(source, Some(at), kind) => Ok(lone(alloc, pick(source, at), kind)),
     }
 }
 
@@ -77,7 +77,7 @@ pub fn chosen<'w>(
     match look_up(alloc, fetch, world)? {
         Found::One(occurrence) => Ok(occurrence),
         Found::Texts(source, at, kind) => match pick_end(source, at, takes_last(fetch)) {
-            Some(text) => cast(alloc, Sample::Str(Bytes::Lent(text)), kind),
+            Some(text) => Ok(read_text(alloc, text, kind)),
             None => Ok(None),
         },
     }

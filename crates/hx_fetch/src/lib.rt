@@ -13,9 +13,11 @@
 mod fetching;
 mod lines;
 mod lookup;
+mod occurrence_reader;
 mod texts;
 mod walks;
 mod world;
 
 pub use fetching::{chosen, occurrences};
+pub use occurrence_reader::OccurrenceReader;
 pub use world::{Conn, World};

@@ -1,7 +1,9 @@
 ghost use Rattle.std.specs.Prelude.{◌≡◌, ◌+◌, ◌-◌, ◌^◌, ◌≤◌, ◌<◌, ◌↔◌, min, pos, Some, IsOk, IsTrue, IfOk, length, drop, reverse, slice_get};
 ghost use Rattle.std.specs.Bool.{OnTrue};
 ghost use Rattle.std.specs.Option.{option_copied, option_to_list};
-ghost use Rattle.hx_sample.specs.Seen.{value_of};
+ghost use Rattle.hx_sample.specs.Cast.{cast_of};
+ghost use Rattle.hx_sample.specs.Seen.{occurrence_value, value_of};
+ghost use Rattle.hx_sample.specs.declared.sample.Value.TheVariants as value;
 ghost use Rattle.hx_fetch.specs.Fetches.{text_occurrences, count_of};
 ghost use Rattle.hx_fetch.specs.Picks.{occurrence_at, selection_end};
 ghost use Rattle.hx_fetch.specs.Views.{source_texts};
@@ -118,22 +120,24 @@ pub(crate) fn count<'w>(source: TextSource<'_, '_>) -> Sample<'w>
     Sample::Int(text_count(source).min(i64::MAX as u64) as i64)
 }
 
-/// The text as a value of the kind, or none where it writes none, if there is a text.
-pub(crate) fn lone<'w>(
-    alloc: Global,
-    text: Option<&'w [u8]>,
-    kind: Kind,
-) -> Result<Samples<'w>, NoMemory>
-    ensures value { IfOk result (λ occurrences.
-        occurrences ≡ text_occurrences kind (option_to_list (option_copied text.entry))) }
-    ensures no_memory { IsOk result }
+/// The text as a value of the kind, or none where it writes none. No memory is taken, neither of
+/// `alloc` nor else.
+pub(crate) fn read_text<'w>(alloc: Global, text: &'w [u8], kind: Kind) -> Option<Sample<'w>>
+    ensures { occurrence_value result ≡ cast_of (value.Str text.now) kind }
+{
+    match cast(alloc, Sample::Str(Bytes::Lent(text)), kind) {
+        Ok(value) => value,
+        Err(_) => unreachable!(),
+    }
+}
+
+/// The occurrence that the text is, if there is a text.
+pub(crate) fn lone<'w>(alloc: Global, text: Option<&'w [u8]>, kind: Kind) -> Samples<'w>
+    ensures { result ≡ text_occurrences kind (option_to_list (option_copied text.entry)) }
 {
     match text {
-        Some(text) => {
-            let value = cast(alloc, Sample::Str(Bytes::Lent(text)), kind)?;
-            Ok(Samples::lone(alloc, value))
-        }
-        None => Ok(Samples::new(alloc)),
+        Some(text) => Samples::lone(alloc, read_text(alloc, text, kind)),
+        None => Samples::new(alloc),
     }
 }
 
@@ -150,7 +154,7 @@ pub(crate) fn list<'w>(
 {
     let count = text_count(source);
     if count <= 1 {
-        return lone(alloc, nth(source, 0), kind);
+        return Ok(lone(alloc, nth(source, 0), kind));
     }
     let mut occurrences = Samples::for_texts(alloc, kind, count as usize)?;
     for text in TextReader::new(source) {

@@ -3,7 +3,7 @@ use hx_sample::Vars;
 use hx_text::Ip;
 
 /// A connection: its number, and the addresses and ports that it comes from and goes to.
-#[derive(Clone, Copy, Debug, PartialEq, Eq)]
+#[derive(Clone, Copy, PartialEq, Eq)]
 pub struct Conn {
     pub id: u32,
     pub src: Ip,

@@ -1,6 +1,5 @@
 use Rattle.std.proofs.Common.{◌∙◌, ap, sym, Some, None}
 use Rattle.std.specs.Option.{option_copied}
-use Rattle.std.proofs.lemmas.Result.{IfOk-weaker}
 use Rattle.hx_fetch.specs.Fetches.{takes_last, occurrences_of}
 use Rattle.hx_fetch.specs.Picks.{selection_end}
 use Rattle.hx_fetch.specs.Views.{source_texts}
@@ -15,7 +14,7 @@ returns-in-Some-clause-value c =
     let last = takes_last c.args.fetch.now in
     let text = sym (ap option_copied c.in-Some.is) ∙ c.pick_end.ensures ∙ ap (λ b. selection_end b c.in-Texts.at texts) c.takes_last.ensures in
     let end = end_is last c.in-Texts.at c.in-Texts.kind texts occurrences (Some c.in-Some.text.now) (rw c.in-Texts.is at c.in_ok-occurrence.ensures.value) text in
-    IfOk-weaker c.cast.result _ _ (λ occurrence h. h ∙ end) c.cast.ensures.value
+    c.read_text.ensures ∙ end
 
 pub returns-in-None-clause-value : goal.returns-in-None-clause-value
 returns-in-None-clause-value c =
