@@ -1,9 +1,7 @@
 -- Samples that are missing, and names that are declared once more.
-use Rattle.std.proofs.Common.{◌≡◌, ◌||◌, ◌&&◌, Bool, true, false, ℕ, List, [], ◌∷◌, ◌++◌, Option, None, Some, refl, ap, sym, ◌∙◌, ◌≤◌, is_some, length, rules}
-use Rattle.std.specs.Prelude.{drop}
+use Rattle.std.proofs.Common.{◌≡◌, ◌||◌, ◌&&◌, Bool, true, false, ℕ, List, [], ◌∷◌, ◌++◌, Option, None, Some, refl, ap, ◌∙◌, is_some, rules}
 use Rattle.std.specs.List.{list_any}
 use Rattle.std.specs.Str.{bytes_eq}
-use Rattle.std.proofs.lemmas.List.{at_drop_all}
 use Rattle.std.proofs.lemmas.List.Folds.{list_any-append}
 use Rattle.hx_ast.specs.declared.statement.Decl.{Decl}
 use Rattle.hx_fetch.specs.World.{Context}
@@ -17,13 +15,6 @@ use Rattle.hx_acl.specs.Matching.{occurrence_matches, test_matches}
 -- a declaration of the ACL of this name
 abbrev is_of : List ℕ → List ℕ × Decl → Bool
 is_of name declared = bytes_eq declared.0 name
-
--- a name that is declared doesn't hold where none of its declarations is left to match
-pub none_matched : (context : Context) (heads : List TableHead) (lists : List (List Entry)) (acls : List (List ℕ × Decl)) (name : List ℕ) (i : ℕ) → length acls ≤ i → is_declared acls name ≡ true → declared_matches context heads lists (drop i acls) name ≡ declared_matches context heads lists acls name → false ≡ name_holds context heads lists acls name
-none_matched context heads lists acls name i all declared rest =
-    let none : declared_matches context heads lists (drop i acls) name ≡ false =
-    at_drop_all (λ (xs : List (List ℕ × Decl)). declared_matches context heads lists xs name) acls i all in
-    rw declared (sym none ∙ rest)
 
 -- no occurrence that is missing matches
 pub none_match : (by : By) (is_hit : Value → Bool) (values : List (Option Value)) → list_any is_some values ≡ false → list_any (occurrence_matches by is_hit) values ≡ false
@@ -40,7 +31,7 @@ or_true : (a : Bool) → (a || (true || false)) ≡ true
 or_true true = refl
 or_true false = refl
 
-same_bytes : (name : List ℕ) → bytes_eq name name ≡ true
+pub same_bytes : (name : List ℕ) → bytes_eq name name ≡ true
 same_bytes name = search rules
 
 -- a further declaration of a name

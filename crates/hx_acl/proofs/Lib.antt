@@ -4,3 +4,4 @@ pub mod HeadLemmas
 pub mod LocalLemmas
 pub mod PredefinedLemmas
 pub mod TextLemmas
+pub mod AclSetLemmas

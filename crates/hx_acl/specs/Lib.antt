@@ -8,3 +8,4 @@ pub mod Expressions
 -- views of the code, for the contracts of private functions
 pub mod PredefinedView
 pub mod TermView
+pub mod AclSetView

@@ -1,4 +1,5 @@
 ghost use Rattle.std.specs.Prelude.{◌≡◌, ◌↔◌, [], ◌∷◌, ◌++◌, Contains, OnOk, OnErr, IfOk, IsErrOf, true, false};
+ghost use Rattle.hx_acl.specs.AclSetView.{IsLast};
 ghost use Rattle.hx_acl.specs.Expressions.{has_expressions};
 ghost use Rattle.hx_acl.specs.Holds.{HasAclsHeads, name_holds};
 ghost use Rattle.hx_acl.specs.Typing.{is_decl_typed};
@@ -9,7 +10,7 @@ ghost use Rattle.hx_fetch.specs.World.{context_of};
 use crate::predefined::predefined_matches;
 use crate::test::{Test, build_test};
 use crate::typing::is_decl_typed;
-use hx_ast::{Decl, Items};
+use hx_ast::Decl;
 use hx_expr::PlanFault;
 use hx_fetch::World;
 use hx_outside::ReMaker;
@@ -17,17 +18,30 @@ use hx_pool::Steps;
 use hx_sample::Tables;
 use hx_text::{NoMemory, Octets};
 use std::alloc::Global;
+use std::collections::BTreeMap;
 use std::marker::Model;
 use std::sync::ledger::Ledger;
+
+/// A declaration of an ACL: the name, what is tested, and the position of the declaration of the
+/// same name before it, if there is one.
+#[derive(Drop)]
+struct Declared {
+    name: Octets,
+    test: Test,
+    earlier: Option<usize>,
+}
 
 /// The ACLs that are declared (HAProxy configuration manual 2.4, section 7.1). Contracts see them
 /// as the list of the declarations, in their order, each with the name of its ACL.
 ///
-/// A name is looked for by going through the list.
+/// The last declaration of each name is kept in an ordered map, and each declaration knows the one
+/// of its name before it. So what a name costs at a request grows with its own declarations, and
+/// with the logarithm of the number of names.
 #[derive(Drop)]
 pub struct AclSet {
     alloc: Global,
-    tests: Items<(Octets, Test)>,
+    tests: Vec<Declared>,
+    positions: BTreeMap<Octets, usize>,
 }
 
 impl Model for AclSet {
@@ -36,7 +50,11 @@ impl Model for AclSet {
 
     ghost Value = { List (List ℕ × Decl) };
 
-    ghost view = { λ acls. acls.tests };
+    ghost use Rattle.hx_acl.specs.AclSetView.{AreIndexed, declarations};
+
+    ghost view = { λ acls. declarations acls.tests.items };
+
+    ghost invariant = { λ acls. AreIndexed acls.tests.items acls.positions.entries };
 }
 
 impl AclSet {
@@ -46,7 +64,8 @@ impl AclSet {
     {
         AclSet {
             alloc,
-            tests: Items::new(alloc),
+            tests: Vec::new(alloc),
+            positions: BTreeMap::new(alloc),
         }
     }
 
@@ -78,16 +97,43 @@ impl AclSet {
             return Err(PlanFault::BadType);
         }
         let test = build_test(self.alloc, decl, maker)?;
-        let name = Octets::copy(self.alloc, name)?;
-        self.tests.push((name, test))?;
+        self.append(name, test)?;
         Ok(())
     }
 
-    /// Whether the ACL of this name holds in `world`.
+    /// Appends a declaration. Where memory runs out the ACLs are as before.
+    fn append(&mut self, name: &[u8], test: Test) -> Result<(), NoMemory>
+        ensures ok { OnOk result (self.new ≡ self.old ++ (name.now, test) ∷ []) }
+        ensures err { OnErr result (self.new ≡ self.old) }
+    {
+        let key = Octets::copy(self.alloc, name)?;
+        let name = Octets::copy(self.alloc, name)?;
+        self.tests.reserve(1)?;
+        let earlier = self.positions.insert(key, self.tests.len())?;
+        let declared = Declared {
+            name,
+            test,
+            earlier,
+        };
+        match self.tests.push(declared) {
+            Ok(()) => Ok(()),
+            Err(_) => unreachable!(),
+        }
+    }
+
+    /// The position of the last declaration of the ACL of this name, if it is declared.
+    fn last_of(&self, name: &Octets) -> Option<usize>
+        ensures { IsLast self.now name.now result }
+    {
+        self.positions.get(name).copied()
+    }
+
+    /// Whether the ACL of this name holds in `world`. Its declarations are tried from the last one
+    /// on.
     pub(crate) fn name_holds<'w, T: Tables, L: Ledger>(
         &self,
         alloc: Global,
-        name: &[u8],
+        name: &Octets,
         world: &World<'w>,
         tables: &'w T,
         steps: &mut Steps<L>,
@@ -98,19 +144,18 @@ impl AclSet {
             (T.lists (T.state tables.now))
             self.now name.now) }
     {
-        let mut is_declared = false;
-        for item in self.tests.as_slice() {
-            let (declared, test) = item;
-            if declared.as_slice() == name {
-                if test.matches(alloc, world, tables, steps)? {
-                    return Ok(true);
-                }
-                is_declared = true;
+        let mut left = self.last_of(name);
+        if left.is_none() {
+            return Ok(predefined_matches(name.as_slice(), world));
+        }
+        let tests = self.tests.as_slice();
+        while let Some(at) = left {
+            let declared = &tests[at];
+            if declared.test.matches(alloc, world, tables, steps)? {
+                return Ok(true);
             }
+            left = declared.earlier;
         }
-        if is_declared {
-            return Ok(false);
-        }
-        Ok(predefined_matches(name, world))
+        Ok(false)
     }
 }

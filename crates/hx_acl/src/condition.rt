@@ -166,7 +166,7 @@ fn acl_holds<'w, T: Tables, L: Ledger>(
         (use_of acl.now)) }
 {
     match acl {
-        TermAcl::Named(name) => acls.name_holds(alloc, name.as_slice(), world, tables, steps),
+        TermAcl::Named(name) => acls.name_holds(alloc, name, world, tables, steps),
         TermAcl::Own(test) => test.matches(alloc, world, tables, steps),
     }
 }

@@ -11,7 +11,7 @@ ghost use Rattle.hx_sample.specs.Seen.{occurrence_value, value_of};
 ghost use Rattle.hx_sample.specs.declared.sample.Value.{Value};
 
 use crate::test::Test;
-use hx_expr::eval_all;
+use hx_expr::eval_occurrence;
 use hx_fetch::World;
 use hx_pool::Steps;
 use hx_sample::{Sample, Tables, cast};
@@ -101,7 +101,9 @@ impl Test {
         }
     }
 
-    /// Whether some occurrence of the expression matches. The rest are left once one does.
+    /// Whether some occurrence of the expression matches. Each is looked for, converted and tried
+    /// before the next, and those after the first that matches are left: the memory that is held
+    /// doesn't grow with their number.
     pub(crate) fn matches<'w, T: Tables, L: Ledger>(
         &self,
         alloc: Global,
@@ -115,9 +117,9 @@ impl Test {
             (T.lists (T.state tables.now))
             self.now) }
     {
-        let mut values = eval_all(alloc, &self.plan, world, tables, steps)?;
-        while let Some(occurrence) = values.take() {
-            if self.accepts(alloc, occurrence, tables, steps)? {
+        for occurrence in self.plan.occurrences(alloc, world)? {
+            let value = eval_occurrence(alloc, &self.plan, occurrence, world, tables, steps)?;
+            if self.accepts(alloc, value, tables, steps)? {
                 return Ok(true);
             }
         }
