@@ -1,11 +1,15 @@
 -- Laws of the lines that answer a request.
-use Rattle.std.proofs.Common.{◌≡◌, ℕ, Bool, true, false, ◌&&◌, ◌==◌, List, [], ◌∷◌, refl, sym, ◌∙◌, ap}
+use Rattle.std.proofs.Common.{◌≡◌, ℕ, Bool, true, false, ◌&&◌, ◌==◌, List, [], ◌∷◌, ◌++◌, refl, sym, ◌∙◌, ap, append_assoc}
+use Rattle.std.specs.Fmt.{decimal}
 use Rattle.std.specs.Str.{bytes_eq}
 use Rattle.std.proofs.lemmas.Bool.{and_from, and_parts, false≢true}
 use Rattle.std.proofs.lemmas.Bool.Decides.{Decides-eqb}
 use Rattle.std.proofs.lemmas.Slice.Eq.{bytes_eq-Decides}
 use Rattle.hx_http.specs.Parts.{Parts}
-use Rattle.hx_core.specs.Answers.{are_same_lines, changed_text, head_text, is_same_head}
+use Rattle.hx_rules.specs.declared.Verdict.{Verdict}
+use Rattle.hx_rules.specs.declared.Verdict.TheVariants.{Deny, Error, Pass, Redirect}
+use Rattle.hx_core.specs.Answers.{are_same_lines, changed_text, head_text, is_same_head, verdict_text}
+use Rattle.hx_core.specs.AnswerView.{verdict_without_head}
 
 abbrev pair : List ℕ → List ℕ → List ℕ × List ℕ
 pair name value = (name, value)
@@ -65,3 +69,45 @@ changed_by read made false is changed = rw is refl
 
 pub new_text : (read made : Parts) → ¬ (read ≡ made) → changed_text read made ≡ head_text made
 new_text read made changed = changed_by read made (is_same_head read made) refl changed
+
+-- ---- verdicts
+
+-- no head follows the verdict on a request whose head stays
+text_of_same_head : (verdict : Verdict) (read made : Parts) → made ≡ read → verdict_without_head verdict ≡ verdict_text verdict read made
+text_of_same_head (Pass backend) read made same = rw (unchanged_text read made (sym same)) refl
+text_of_same_head (Deny code) read made same = refl
+text_of_same_head (Redirect code location) read made same = refl
+text_of_same_head Error read made same = refl
+
+pub answer_of_same_head : (before after : List ℕ) (requests number : ℕ) (given verdict : Verdict) (read made : Parts) → before ≡ [] → requests ≡ number → given ≡ verdict → made ≡ read → after ≡ before ++ (decimal requests ++ verdict_without_head given) → after ≡ decimal number ++ verdict_text verdict read made
+answer_of_same_head before after requests number given verdict read made none count is same text =
+    text ∙ rw (none, count, is, text_of_same_head verdict read made same) refl
+
+-- one that doesn't pass the request is followed by no head
+abbrev pub passes : Verdict → Bool
+passes (Pass backend) = true
+passes _ = false
+
+text_without_head : (verdict : Verdict) (read made : Parts) → passes verdict ≡ false → verdict_without_head verdict ≡ verdict_text verdict read made
+text_without_head (Pass backend) read made is = absurd (false≢true (sym is))
+text_without_head (Deny code) read made is = refl
+text_without_head (Redirect code location) read made is = refl
+text_without_head Error read made is = refl
+
+pub answer_without_head : (before after number : List ℕ) (verdict : Verdict) (read made : Parts) → passes verdict ≡ false → after ≡ before ++ (number ++ verdict_without_head verdict) → after ≡ before ++ (number ++ verdict_text verdict read made)
+answer_without_head before after number verdict read made is text =
+    text ∙ ap (λ words. before ++ (number ++ words)) (text_without_head verdict read made is)
+
+-- and one that passes it by the head, where it was changed
+text_with_head : (verdict : Verdict) (read made : Parts) → passes verdict ≡ true → verdict_without_head verdict ++ changed_text read made ≡ verdict_text verdict read made
+text_with_head (Pass backend) read made is = simp append_assoc
+text_with_head (Deny code) read made is = absurd (false≢true is)
+text_with_head (Redirect code location) read made is = absurd (false≢true is)
+text_with_head Error read made is = absurd (false≢true is)
+
+pub answer_with_head : (before between after number : List ℕ) (verdict : Verdict) (read made : Parts) → passes verdict ≡ true → between ≡ before ++ (number ++ verdict_without_head verdict) → after ≡ between ++ changed_text read made → after ≡ before ++ (number ++ verdict_text verdict read made)
+answer_with_head before between after number verdict read made is text head =
+    let words = verdict_without_head verdict in
+    let changed = changed_text read made in
+    head ∙ ap (λ t. t ++ changed) text ∙ append_assoc before (number ++ words) changed
+    ∙ ap (λ t. before ++ t) (append_assoc number words changed ∙ ap (λ t. number ++ t) (text_with_head verdict read made is))

@@ -4,5 +4,6 @@ pub mod Answers
 pub mod Steps
 pub mod Unseen
 -- views of the code, for the contracts of private functions
+pub mod AnswerView
 pub mod Faults
 pub mod StepView

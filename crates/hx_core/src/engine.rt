@@ -5,6 +5,7 @@ ghost use Rattle.hx_core.specs.World.{first_world, FitRules, running};
 
 use crate::answer::Answer;
 use crate::fault::StepFault;
+use crate::heads::Heads;
 use crate::world::KeptWorld;
 use hx_outside::ReMaker;
 use hx_record::Event;
@@ -24,6 +25,8 @@ pub struct Engine {
     stopped: Option<StepFault>,
     // the memory of an answer that was given back
     room: Vec<u8>,
+    // the memory of the head of a request
+    heads: Heads,
 }
 
 impl Model for Engine {
@@ -63,6 +66,7 @@ impl Engine {
             world: KeptWorld::new(alloc, program, refs),
             stopped: None,
             room: Vec::new(alloc),
+            heads: Heads::new(alloc),
         }
     }
 
@@ -115,7 +119,7 @@ impl Engine {
             return Err(fault);
         }
         let room = emptied(self.alloc, &mut self.room);
-        match self.world.step(event, room, maker) {
+        match self.world.step(event, room, &mut self.heads, maker) {
             Ok(answer) => {
                 self.world.tidy();
                 Ok(answer)

@@ -1,6 +1,7 @@
-ghost use Rattle.std.specs.Prelude.{◌≡◌, ◌<◌, length, IfErr, IfOk, OnOk};
+ghost use Rattle.std.specs.Prelude.{◌≡◌, ◌<◌, length, false, IfErr, IfOk, OnOk};
 ghost use Rattle.hx_refs.specs.References.{searched_lists};
 ghost use Rattle.hx_rules.specs.Failures.{RulesAskFor};
+ghost use Rattle.hx_rules.specs.Rewriting.{may_rewrite};
 ghost use Rattle.hx_rules.specs.Verdicts.{evaluation, start};
 ghost use Rattle.hx_core.specs.Steps.{IsRefusal, StepCountsLarge};
 ghost use Rattle.hx_core.specs.World.{FitRules, refs_view};
@@ -44,6 +45,7 @@ pub(crate) fn evaluated<M: ReMaker, L: Ledger>(
     ensures refs { OnOk result (refs.new.content
         ≡ (evaluation refs_view conn.now rules.now
         (start message.old vars.old refs.old.content)).state.tables) }
+    ensures unchanged { may_rewrite rules.now ≡ false → message.new ≡ message.old }
     ensures kind { IfErr result (λ fault. ¬ (IsRefusal fault)) }
     ensures heads { refs.new.content.heads ≡ refs.old.content.heads }
     ensures lists { length (searched_lists refs.new.content) ≡ length

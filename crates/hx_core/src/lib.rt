@@ -15,6 +15,7 @@ mod connections;
 mod engine;
 mod evaluating;
 mod fault;
+mod heads;
 pub mod laws;
 mod replies;
 mod requests;

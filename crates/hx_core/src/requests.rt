@@ -1,23 +1,25 @@
-ghost use Rattle.std.specs.Prelude.{◌≡◌, [], ◌++◌, codes, IfErr, IfOk, OnOk};
+ghost use Rattle.std.specs.Prelude.{◌≡◌, [], ◌++◌, codes, false, IfErr, IfOk, OnOk};
 ghost use Rattle.std.specs.Fmt.{decimal};
 ghost use Rattle.hx_http.specs.Head.{head_of};
 ghost use Rattle.hx_rules.specs.Failures.{RulesAskFor};
+ghost use Rattle.hx_rules.specs.Rewriting.{may_rewrite};
 ghost use Rattle.hx_rules.specs.Verdicts.{start};
-ghost use Rattle.hx_sample.specs.Vars.{after_request};
 ghost use Rattle.hx_core.specs.Answers.{verdict_text};
-ghost use Rattle.hx_core.specs.StepView.{DoesStep};
+ghost use Rattle.hx_core.specs.StepView.{after_parts, DoesStep};
 ghost use Rattle.hx_core.specs.Steps.{after_head, after_number, EventAsksFor, HeadAsksFor, head_answer, IsRefusal, next_number, request_evaluation, StepCountsLarge};
 ghost use Rattle.hx_core.specs.World.{refs_view};
 
 use crate::answer::Answer;
 use crate::evaluating::evaluated;
 use crate::fault::StepFault;
-use crate::verdicts::{append_answer, append_bad};
+use crate::heads::Heads;
+use crate::verdicts::{append_answer, append_bad, append_verdict};
 use crate::world::KeptWorld;
 use hx_fetch::Conn;
-use hx_http::{HeadFault, Message, read_head};
+use hx_http::{HeadFault, Message};
 use hx_outside::ReMaker;
 use hx_record::Event;
+use hx_rules::Verdict;
 use hx_text::NoMemory;
 use std::marker::Brand;
 use std::sync::ledger::Blank;
@@ -29,6 +31,7 @@ impl KeptWorld {
         id: u32,
         bytes: &[u8],
         room: Vec<u8>,
+        heads: &mut Heads,
         maker: &mut M,
     ) -> Result<Answer, StepFault>
         requires { room.items ≡ [] }
@@ -41,7 +44,7 @@ impl KeptWorld {
             return Err(StepFault::UnknownConn);
         };
         let conn = *conn;
-        self.answer(&conn, bytes, room, maker)
+        self.answer(&conn, bytes, room, heads, maker)
     }
 
     /// Answers a request of an open connection.
@@ -50,6 +53,7 @@ impl KeptWorld {
         conn: &Conn,
         bytes: &[u8],
         room: Vec<u8>,
+        heads: &mut Heads,
         maker: &mut M,
     ) -> Result<Answer, StepFault>
         requires { room.items ≡ [] }
@@ -62,8 +66,8 @@ impl KeptWorld {
             (HeadAsksFor self.old.world conn.now (head_of bytes.now))
             (M.state maker.old) (M.state maker.new) }
     {
-        match read_head(self.alloc, bytes) {
-            Ok((read, _)) => self.answer_head(conn, &read, room, maker),
+        match heads.read.read(bytes) {
+            Ok(_) => self.answer_head(conn, room, heads, maker),
             Err(HeadFault::NotAHead) => Ok(self.answer_bad(room)?),
             Err(HeadFault::TooManyHeaders) => Ok(self.answer_bad(room)?),
             Err(HeadFault::NoMemory) => Err(StepFault::NoMemory),
@@ -82,36 +86,90 @@ impl KeptWorld {
         Ok(Answer { bytes: room })
     }
 
-    /// Answers a request with this head.
+    /// Answers a request with the head that was read. It is copied only where a rule may rewrite
+    /// it.
     fn answer_head<M: ReMaker>(
         &mut self,
         conn: &Conn,
-        read: &Message,
         mut room: Vec<u8>,
+        heads: &mut Heads,
         maker: &mut M,
     ) -> Result<Answer, StepFault>
         requires { room.items ≡ [] }
-        ensures world { OnOk result (self.new.world ≡ record (after_number self.old.world) {
-          vars = after_request (request_evaluation self.old.world conn.now read.now).state.vars;
-          refs = (request_evaluation self.old.world conn.now read.now).state.tables;
-        }) }
+        ensures world { OnOk result
+            (self.new.world ≡ after_parts self.old.world conn.now heads.old.read) }
         ensures text { IfOk result (λ text. text
             ≡ decimal (next_number self.old.world.requests)
-            ++ verdict_text (request_evaluation self.old.world conn.now read.now).verdict read.now
-            (request_evaluation self.old.world conn.now read.now).state.message) }
+            ++ verdict_text
+            (request_evaluation self.old.world conn.now heads.old.read).verdict heads.old.read
+            (request_evaluation self.old.world conn.now heads.old.read).state.message) }
         ensures kind { IfErr result (λ fault. ¬ (IsRefusal fault)) }
         ensures large { StepCountsLarge result (RulesAskFor refs_view conn.now self.old.world.rules
-            (start read.now self.old.world.vars self.old.world.refs))
+            (start heads.old.read self.old.world.vars self.old.world.refs))
             (M.state maker.old) (M.state maker.new) }
     {
-        let mut made = read.copy()?;
+        if self.rules.may_rewrite() {
+            return self.answer_rewritten(conn, room, heads, maker);
+        }
+        let verdict = self.judge(conn, &mut heads.read, maker)?;
+        append_verdict(&mut room, self.requests, &verdict)?;
+        Ok(Answer { bytes: room })
+    }
+
+    /// Answers a request with the head that was read, of which the rules are given a copy.
+    fn answer_rewritten<M: ReMaker>(
+        &mut self,
+        conn: &Conn,
+        mut room: Vec<u8>,
+        heads: &mut Heads,
+        maker: &mut M,
+    ) -> Result<Answer, StepFault>
+        requires { room.items ≡ [] }
+        ensures world { OnOk result
+            (self.new.world ≡ after_parts self.old.world conn.now heads.old.read) }
+        ensures text { IfOk result (λ text. text
+            ≡ decimal (next_number self.old.world.requests)
+            ++ verdict_text
+            (request_evaluation self.old.world conn.now heads.old.read).verdict heads.old.read
+            (request_evaluation self.old.world conn.now heads.old.read).state.message) }
+        ensures kind { IfErr result (λ fault. ¬ (IsRefusal fault)) }
+        ensures large { StepCountsLarge result (RulesAskFor refs_view conn.now self.old.world.rules
+            (start heads.old.read self.old.world.vars self.old.world.refs))
+            (M.state maker.old) (M.state maker.new) }
+    {
+        heads.made.copy_from(&heads.read)?;
+        let verdict = self.judge(conn, &mut heads.made, maker)?;
+        append_answer(&mut room, self.requests, &verdict, &heads.read, &heads.made)?;
+        Ok(Answer { bytes: room })
+    }
+
+    /// The verdict of the rules on a request, whose head they change in `message`. The request is
+    /// counted, and its variables end.
+    fn judge<M: ReMaker>(
+        &mut self,
+        conn: &Conn,
+        message: &mut Message,
+        maker: &mut M,
+    ) -> Result<Verdict, StepFault>
+        ensures world { OnOk result
+            (self.new.world ≡ after_parts self.old.world conn.now message.old) }
+        ensures verdict { IfOk result (λ verdict. verdict
+            ≡ (request_evaluation self.old.world conn.now message.old).verdict) }
+        ensures message { OnOk result (message.new
+            ≡ (request_evaluation self.old.world conn.now message.old).state.message) }
+        ensures unchanged { may_rewrite self.old.world.rules ≡ false → message.new ≡ message.old }
+        ensures kind { IfErr result (λ fault. ¬ (IsRefusal fault)) }
+        ensures large { StepCountsLarge result (RulesAskFor refs_view conn.now self.old.world.rules
+            (start message.old self.old.world.vars self.old.world.refs))
+            (M.state maker.old) (M.state maker.new) }
+    {
         let rules = &self.rules;
         let vars = &mut self.vars;
         let refs = &mut self.refs;
         let verdict = evaluated::<M, Brand>(
             self.alloc,
             rules,
-            &mut made,
+            message,
             conn,
             vars,
             refs,
@@ -120,7 +178,6 @@ impl KeptWorld {
         )?;
         self.vars.end_request();
         self.requests = self.requests.saturating_add(1);
-        append_answer(&mut room, self.requests, &verdict, read, &made)?;
-        Ok(Answer { bytes: room })
+        Ok(verdict)
     }
 }

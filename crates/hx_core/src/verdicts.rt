@@ -3,6 +3,7 @@ ghost use Rattle.std.specs.Fmt.{decimal};
 ghost use Rattle.std.specs.List.{flat_map};
 ghost use Rattle.std.specs.Option.{option_map_or};
 ghost use Rattle.hx_core.specs.Answers.{changed_text, head_text, header_text, verdict_text};
+ghost use Rattle.hx_core.specs.AnswerView.{verdict_without_head};
 
 use hx_http::Message;
 use hx_rules::Verdict;
@@ -21,6 +22,21 @@ pub(crate) fn append_bad(bytes: &mut Vec<u8>, number: u64) -> Result<(), NoMemor
     Ok(())
 }
 
+/// Appends the lines that answer the request with this number, whose head the rules left as it was
+/// read; where memory runs out, perhaps the first bytes of them.
+pub(crate) fn append_verdict(
+    bytes: &mut Vec<u8>,
+    number: u64,
+    verdict: &Verdict,
+) -> Result<(), NoMemory>
+    ensures { OnOk result (bytes.new.items ≡ bytes.old.items
+        ++ (decimal number ++ verdict_without_head verdict.now)) }
+{
+    let mut digits = Buffer::new();
+    bytes.extend_from_slice(digits.format(number).as_bytes())?;
+    append_words(bytes, verdict)
+}
+
 /// Appends the lines that answer the request with this number, whose head was read as `read` and
 /// which the rules made `made`; where memory runs out, perhaps the first bytes of them.
 pub(crate) fn append_answer(
@@ -34,20 +50,22 @@ pub(crate) fn append_answer(
         ≡ bytes.old.items
         ++ (decimal number ++ verdict_text verdict.now read.now made.now)) }
 {
-    let mut digits = Buffer::new();
-    bytes.extend_from_slice(digits.format(number).as_bytes())?;
-    append_verdict(bytes, verdict, read, made)
+    append_verdict(bytes, number, verdict)?;
+    match verdict {
+        Verdict::Pass { .. } => {
+            append_changed(bytes, read, made)?;
+            Ok(())
+        }
+        Verdict::Deny { .. } => Ok(()),
+        Verdict::Redirect { .. } => Ok(()),
+        Verdict::Error => Ok(()),
+    }
 }
 
-/// Appends what follows the number of a request.
-fn append_verdict(
-    bytes: &mut Vec<u8>,
-    verdict: &Verdict,
-    read: &Message,
-    made: &Message,
-) -> Result<(), NoMemory>
+/// Appends what follows the number of a request, without the head.
+fn append_words(bytes: &mut Vec<u8>, verdict: &Verdict) -> Result<(), NoMemory>
     ensures { OnOk result (bytes.new.items
-        ≡ bytes.old.items ++ verdict_text verdict.now read.now made.now) }
+        ≡ bytes.old.items ++ verdict_without_head verdict.now) }
 {
     match verdict {
         Verdict::Pass { backend } => {
@@ -58,7 +76,7 @@ fn append_verdict(
             bytes.extend_from_slice(b" pass ")?;
             bytes.extend_from_slice(name)?;
             bytes.extend_from_slice(b"\n")?;
-            append_changed(bytes, read, made)
+            Ok(())
         }
         Verdict::Deny { code } => append_denied(bytes, *code),
         Verdict::Redirect { code, location } => append_redirect(bytes, *code, location.as_slice()),

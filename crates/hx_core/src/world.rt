@@ -7,6 +7,7 @@ ghost use Rattle.hx_core.specs.World.{first_world, FitRules};
 use crate::answer::Answer;
 use crate::connections::Connections;
 use crate::fault::StepFault;
+use crate::heads::Heads;
 use crate::replies::append_reply;
 use hx_cli::Sessions;
 use hx_fetch::Conn;
@@ -100,11 +101,13 @@ impl KeptWorld {
         self.refs.tidy(TIDY);
     }
 
-    /// Goes on to the world after an event, and gives its answer in the memory of `room`.
+    /// Goes on to the world after an event, and gives its answer in the memory of `room`. The head
+    /// of a request is kept in `heads`.
     pub(crate) fn step<M: ReMaker>(
         &mut self,
         event: &Event,
         room: Vec<u8>,
+        heads: &mut Heads,
         maker: &mut M,
     ) -> Result<Answer, StepFault>
         requires { room.items ≡ [] }
@@ -131,7 +134,7 @@ impl KeptWorld {
                 };
                 self.open(conn, room)
             }
-            Event::Req { id, bytes } => self.request(*id, bytes.as_slice(), room, maker),
+            Event::Req { id, bytes } => self.request(*id, bytes.as_slice(), room, heads, maker),
             Event::Close { id } => self.close(*id, room),
             Event::Cli { session, text } => self.line(*session, text.as_slice(), room, maker),
         }

@@ -1,12 +1,13 @@
 -- A span that lies in a prefix of a text covers the same bytes of both.
 use Rattle.std.proofs.Common.{◌≡◌, ℕ, ◌+◌, ◌-◌, ◌≤◌, List, [], ◌∷◌, take, drop, map, ap, ◌∙◌, refl, arith}
 use Rattle.std.proofs.lemmas.List.{drop-take, take-take}
-use Rattle.std.proofs.lemmas.List.Elements.{All-head, All-tail, All-weaker}
+use Rattle.std.proofs.lemmas.List.Elements.{All-head, All-nil, All-tail, All-weaker}
 use Rattle.std.specs.List.{All, slice_range}
 use Rattle.httparse.specs.Spans.{span_bytes, header_bytes, IsWithin, IsHeaderWithin}
 use Rattle.httparse.specs.declared.spans.Span.{Span}
 use Rattle.httparse.specs.declared.spans.HeaderSpan.{HeaderSpan}
-use Rattle.hx_http.specs.Spans.{parts_at, AreWithin}
+use Rattle.hx_http.specs.Parts.{no_parts}
+use Rattle.hx_http.specs.Spans.{parts_at, AreWithin, HasNoBytes}
 use Rattle.hx_http.specs.declared.spans.HeadSpans.{HeadSpans}
 
 range_in_prefix : (text : List ℕ) (n i j : ℕ) → i ≤ j → j ≤ n
@@ -51,3 +52,16 @@ AreWithin-more a b spans le within = record {
   lines = All-weaker (IsHeaderWithin a) (IsHeaderWithin b)
       (λ line here. (within_more a b line.name le here.0, within_more a b line.value le here.1)) spans.lines.items within.lines;
 }
+
+-- spans without bytes lie in any text
+pub no_bytes_within : (n : ℕ) (spans : HeadSpans) → HasNoBytes spans → AreWithin n spans
+no_bytes_within n spans none = record {
+  method = rw none.method (omega arith, omega arith);
+  target = rw none.target (omega arith, omega arith);
+  version = omega (arith, none.version);
+  lines = rw none.lines (All-nil (IsHeaderWithin n));
+}
+
+-- and their parts are empty
+pub no_bytes_parts : (bytes : List ℕ) (spans : HeadSpans) → HasNoBytes spans → parts_at bytes spans ≡ no_parts
+no_bytes_parts bytes spans none = rw (none.method, none.target, none.version, none.lines) refl

@@ -1,5 +1,5 @@
 -- What contracts see of the head of a request.
-use Rattle.std.specs.Prelude.{ℕ, List, map}
+use Rattle.std.specs.Prelude.{ℕ, List, [], map}
 use Rattle.httparse.specs.Grammar.{RequestHead}
 use Rattle.httparse.specs.Spans.{name_and_value}
 
@@ -17,3 +17,7 @@ abbrev pub parts : RequestHead → Parts
 parts h =
     let headers = map name_and_value h.fields in
     record { method = h.method; target = h.target; minor = h.minor; headers = headers }
+
+-- Empty parts. No head has them.
+abbrev pub no_parts : Parts
+no_parts = record { method = []; target = []; minor = 0; headers = [] }

@@ -1,6 +1,7 @@
 -- A view of the code, for private contracts: the parts of a head by the spans at which they lie.
-use Rattle.std.specs.Prelude.{◌≡◌, ℕ, ◌≤◌, List, ◌++◌, not, map, filter, All}
+use Rattle.std.specs.Prelude.{◌≡◌, ℕ, ◌≤◌, List, [], ◌++◌, not, map, filter, All}
 use Rattle.httparse.specs.declared.spans.HeaderSpan.{HeaderSpan}
+use Rattle.httparse.specs.declared.spans.Span.{Span}
 use Rattle.httparse.specs.Spans.{span_bytes, header_bytes, IsWithin, IsHeaderWithin}
 use Rattle.hx_http.specs.Edits.{has_name}
 use Rattle.hx_http.specs.Parts.{Parts}
@@ -26,6 +27,16 @@ pub record AreWithin (count : ℕ) (spans : HeadSpans) : Type 0 where
   pub target : IsWithin count spans.head.path
   pub version : spans.head.version ≤ 1
   pub lines : All (IsHeaderWithin count) spans.lines.items
+
+abbrev pub no_span : Span
+no_span = record { start = 0; end = 0 }
+
+-- the spans have no bytes, and no header lines
+pub record HasNoBytes (spans : HeadSpans) : Type 0 where
+  pub method : spans.head.method ≡ no_span
+  pub target : spans.head.path ≡ no_span
+  pub version : spans.head.version ≡ 0
+  pub lines : spans.lines.items ≡ []
 
 -- the bytes that the new text begins with are the old text
 pub record Extends (old new : List ℕ) : Type 0 where

@@ -3,14 +3,13 @@ ghost use Rattle.std.specs.Prelude.{◌≡◌, ◌<◌, ◌↔◌, None, length,
 ghost use Rattle.httparse.specs.Grammar.{is_token};
 ghost use Rattle.hx_http.specs.Edits.{with_header, without_header, with_only_header, with_value, value_fault, add_header_fault, set_header_fault, MayFail};
 
-use crate::buffer::{append, append_line, append_parts};
+use crate::buffer::{append, append_line};
 use crate::fault::EditFault;
 use crate::lines::{count_others, remove_named, replace_named, same_lines};
-use crate::message::{Message, limit_after};
-use crate::spans::{HeadSpans, MAX_HEADERS};
+use crate::message::Message;
+use crate::spans::MAX_HEADERS;
 use httparse::spans::HeaderSpan;
 use hx_text::{NoMemory, has_bad_value_byte};
-use std::alloc::Global;
 
 impl Message {
     /// An equal message, with bytes of its own, from where this one has its memory. Bytes that are
@@ -19,35 +18,9 @@ impl Message {
     pub fn copy(&self) -> Result<Message, NoMemory>
         ensures { IfOk result (λ copied. copied ≡ self.now) }
     {
-        let alloc = *self.bytes.allocator();
-        if self.bytes.len() / 2 <= self.spans.total_len() {
-            return self.copy_whole(alloc);
-        }
-        let mut bytes = Vec::with_capacity(alloc, self.spans.total_len())?;
-        let spans = append_parts(alloc, &mut bytes, self.bytes.as_slice(), &self.spans)?;
-        let limit = limit_after(bytes.len());
-        Ok(Message {
-            bytes,
-            spans,
-            limit,
-        })
-    }
-
-    /// An equal message with all bytes of this one: two blocks are copied, and no part by itself.
-    fn copy_whole(&self, alloc: Global) -> Result<Message, NoMemory>
-        ensures { IfOk result (λ copied. copied ≡ self.now) }
-    {
-        let bytes = Vec::from_slice(alloc, self.bytes.as_slice())?;
-        let lines = Vec::from_slice(alloc, self.spans.lines.as_slice())?;
-        let limit = limit_after(bytes.len());
-        Ok(Message {
-            bytes,
-            spans: HeadSpans {
-                head: self.spans.head,
-                lines,
-            },
-            limit,
-        })
+        let mut copied = Message::empty(*self.bytes.allocator());
+        copied.copy_from(self)?;
+        Ok(copied)
     }
 
     /// Whether both messages have the same method, the same target, the same minor number of the

@@ -3,7 +3,7 @@ ghost use Rattle.hx_http.specs.Head.{message, many, none, header_limit, head_of}
 
 use crate::fault::HeadFault;
 use crate::message::Message;
-use crate::spans::read_spans;
+use crate::spans::{HeadSpans, read_spans};
 use hx_text::Octets;
 use std::alloc::Global;
 
@@ -24,10 +24,9 @@ pub fn read_head(alloc: Global, bytes: &[u8]) -> Result<(Message, usize), HeadFa
     ensures within { IfOk result (λ read. read.1 ≤ length bytes.now) }
     ensures few { IfOk result (λ read. length read.0.headers ≤ header_limit) }
 {
-    let spans = read_spans(alloc, bytes)?;
-    let len = spans.head.len;
-    let head = Octets::copy(alloc, &bytes[..len])?;
-    Ok((Message::new(head, spans), len))
+    let mut message = Message::empty(alloc);
+    let len = message.read(bytes)?;
+    Ok((message, len))
 }
 
 /// Reads the head of a request as `read_head` does, and takes `bytes` over: the message keeps all
@@ -39,7 +38,8 @@ pub fn read_head_in(alloc: Global, bytes: Octets) -> Result<(Message, usize), He
     ensures within { IfOk result (λ read. read.1 ≤ length bytes) }
     ensures few { IfOk result (λ read. length read.0.headers ≤ header_limit) }
 {
-    let spans = read_spans(alloc, bytes.as_slice())?;
+    let mut spans = HeadSpans::empty(alloc);
+    read_spans(&mut spans, bytes.as_slice())?;
     let len = spans.head.len;
     Ok((Message::new(bytes, spans), len))
 }

@@ -24,6 +24,7 @@ mod head;
 pub mod laws;
 mod lines;
 mod message;
+mod reading;
 mod spans;
 mod target;
 mod target_edits;

@@ -10,7 +10,7 @@ use std::marker::Model;
 
 /// The head of a request. Contracts see its parts: method, target, minor number of the version,
 /// and header lines. Each part is lent from the bytes that the message owns.
-#[derive(Debug, Drop)]
+#[derive(Drop)]
 pub struct Message {
     pub(crate) bytes: Vec<u8>,
     pub(crate) spans: HeadSpans,

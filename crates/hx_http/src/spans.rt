@@ -1,7 +1,7 @@
-ghost use Rattle.std.specs.Prelude.{◌≡◌, ◌*◌, ◌<◌, ◌≤◌, ◌↔◌, length, IfOk, IfSome, IfNone, IsErrOf, IsTrue};
+ghost use Rattle.std.specs.Prelude.{◌≡◌, ◌*◌, ◌<◌, ◌≤◌, ◌↔◌, length, IfOk, IfSome, IfNone, IsErrOf, IsFalse, IsTrue, OnErr, OnOk};
 ghost use Rattle.httparse.specs.Spans.{RequestOverflows};
 ghost use Rattle.hx_http.specs.Head.{message, many, none, header_limit, IsHead, HasHead};
-ghost use Rattle.hx_http.specs.Spans.{parts_at, AreWithin};
+ghost use Rattle.hx_http.specs.Spans.{parts_at, AreWithin, HasNoBytes};
 
 use crate::fault::HeadFault;
 use httparse::spans::{EMPTY_HEADER_SPAN, HeaderSpan, RequestSpans, Span, parse_request};
@@ -11,17 +11,44 @@ use std::alloc::{AllocError, Global};
 /// The most header lines that a message may have.
 pub(crate) const MAX_HEADERS: usize = 101;
 
-/// How many header lines most heads have at most. Slots for so many are cleared for each head.
+/// How many header lines most heads have at most. They are read by slots for so many.
 const COMMON_HEADERS: usize = 16;
 
+/// Spans without bytes, and no header lines.
+const NO_SPANS: RequestSpans = RequestSpans {
+    method: Span { start: 0, end: 0 },
+    path: Span { start: 0, end: 0 },
+    version: 0,
+    headers: 0,
+    len: 0,
+};
+
 /// Where in a text the parts of a head lie.
-#[derive(Debug, Drop)]
+#[derive(Drop)]
 pub(crate) struct HeadSpans {
     pub head: RequestSpans,
     pub lines: Vec<HeaderSpan>,
 }
 
 impl HeadSpans {
+    /// Spans without bytes. They take no memory; those of header lines are kept in `alloc`'s.
+    pub(crate) fn empty(alloc: Global) -> HeadSpans
+        ensures { HasNoBytes result }
+    {
+        HeadSpans {
+            head: NO_SPANS,
+            lines: Vec::new(alloc),
+        }
+    }
+
+    /// Makes them spans without bytes, and keeps their memory.
+    pub(crate) fn clear(&mut self)
+        ensures { HasNoBytes self.new }
+    {
+        self.head = NO_SPANS;
+        self.lines.clear();
+    }
+
     /// How many bytes the spans have, which says how much memory a copy of them takes.
     pub(crate) fn total_len(&self) -> usize {
         let mut len = len_of(self.head.method).saturating_add(len_of(self.head.path));
@@ -38,73 +65,76 @@ fn len_of(span: Span) -> usize {
     span.end.saturating_sub(span.start)
 }
 
-/// The spans of the head that `bytes` begin with. Memory is taken for the header lines alone.
-pub(crate) fn read_spans(alloc: Global, bytes: &[u8]) -> Result<HeadSpans, HeadFault>
-    ensures found { IfOk result (λ spans.
-        IsHead bytes.now (message (parts_at bytes.now spans) spans.head.len)) }
+/// Makes them the spans of the head that `bytes` begin with, in the memory that they have. After a
+/// fault they have no bytes.
+pub(crate) fn read_spans(spans: &mut HeadSpans, bytes: &[u8]) -> Result<(), HeadFault>
+    ensures found { OnOk result
+        (IsHead bytes.now (message (parts_at bytes.now spans.new) spans.new.head.len)) }
     ensures not_a_head { IsErrOf result HeadFault.NotAHead → IsHead bytes.now none }
     ensures too_many { IsErrOf result HeadFault.TooManyHeaders → IsHead bytes.now many }
-    ensures spans { IfOk result (λ spans. AreWithin spans.head.len spans) }
-    ensures within { IfOk result (λ spans. spans.head.len ≤ length bytes.now) }
-    ensures few { IfOk result (λ spans. length spans.lines.items ≤ header_limit) }
+    ensures spans { OnOk result (AreWithin spans.new.head.len spans.new) }
+    ensures within { OnOk result (spans.new.head.len ≤ length bytes.now) }
+    ensures few { OnOk result (length spans.new.lines.items ≤ header_limit) }
+    ensures fault { OnErr result (HasNoBytes spans.new) }
 {
-    let mut slots = [EMPTY_HEADER_SPAN; COMMON_HEADERS];
-    match spans_within(alloc, bytes, &mut slots)? {
-        Some(spans) => Ok(spans),
-        None => read_many_spans(alloc, bytes),
+    let read = read_any_spans(spans, bytes);
+    if read.is_err() {
+        spans.clear();
     }
+    read
 }
 
-/// The spans of the head that `bytes` begin with, which may have more header lines than most.
-fn read_many_spans(alloc: Global, bytes: &[u8]) -> Result<HeadSpans, HeadFault>
-    ensures found { IfOk result (λ spans.
-        IsHead bytes.now (message (parts_at bytes.now spans) spans.head.len)) }
+/// The same; after a fault they are some spans.
+fn read_any_spans(spans: &mut HeadSpans, bytes: &[u8]) -> Result<(), HeadFault>
+    ensures found { OnOk result
+        (IsHead bytes.now (message (parts_at bytes.now spans.new) spans.new.head.len)) }
     ensures not_a_head { IsErrOf result HeadFault.NotAHead → IsHead bytes.now none }
     ensures too_many { IsErrOf result HeadFault.TooManyHeaders → IsHead bytes.now many }
-    ensures spans { IfOk result (λ spans. AreWithin spans.head.len spans) }
-    ensures within { IfOk result (λ spans. spans.head.len ≤ length bytes.now) }
-    ensures few { IfOk result (λ spans. length spans.lines.items ≤ header_limit) }
+    ensures spans { OnOk result (AreWithin spans.new.head.len spans.new) }
+    ensures within { OnOk result (spans.new.head.len ≤ length bytes.now) }
+    ensures few { OnOk result (length spans.new.lines.items ≤ header_limit) }
 {
-    let mut slots = [EMPTY_HEADER_SPAN; MAX_HEADERS];
-    match spans_within(alloc, bytes, &mut slots)? {
-        Some(spans) => Ok(spans),
-        None => {
-            if has_head(alloc, bytes)? {
-                Err(HeadFault::TooManyHeaders)
-            } else {
-                Err(HeadFault::NotAHead)
-            }
-        }
+    if spans_within(spans, bytes, COMMON_HEADERS)? {
+        return Ok(());
     }
+    if spans_within(spans, bytes, MAX_HEADERS)? {
+        return Ok(());
+    }
+    if has_head(*spans.lines.allocator(), bytes)? {
+        return Err(HeadFault::TooManyHeaders);
+    }
+    Err(HeadFault::NotAHead)
 }
 
-/// The spans of the head that `bytes` begin with, and `None` where the slots are too few to tell.
-fn spans_within(
-    alloc: Global,
-    bytes: &[u8],
-    slots: &mut [HeaderSpan],
-) -> Result<Option<HeadSpans>, HeadFault>
-    requires { length slots.old ≤ header_limit }
-    ensures found { IfOk result (λ read. IfSome read (λ spans.
-        IsHead bytes.now (message (parts_at bytes.now spans) spans.head.len))) }
-    ensures unknown { IfOk result (λ read.
-        IfNone read (RequestOverflows (length slots.old) bytes.now)) }
+/// Makes them the spans of the head that `bytes` begin with, by slots for so many header lines.
+/// Answers whether these are enough to tell. Where they aren't, and after a fault, they are some
+/// spans.
+fn spans_within(spans: &mut HeadSpans, bytes: &[u8], room: usize) -> Result<bool, HeadFault>
+    requires { room ≤ header_limit }
+    ensures found { IfOk result (λ enough. IsTrue enough
+        → IsHead bytes.now (message (parts_at bytes.now spans.new) spans.new.head.len)) }
+    ensures unknown { IfOk result (λ enough. IsFalse enough → RequestOverflows room bytes.now) }
     ensures not_a_head { IsErrOf result HeadFault.NotAHead → IsHead bytes.now none }
     ensures too_many { ¬ (IsErrOf result HeadFault.TooManyHeaders) }
-    ensures spans { IfOk result (λ read. IfSome read (λ spans. AreWithin spans.head.len spans)) }
-    ensures within { IfOk result (λ read. IfSome read (λ spans.
-        spans.head.len ≤ length bytes.now)) }
-    ensures few { IfOk result (λ read. IfSome read (λ spans.
-        length spans.lines.items ≤ header_limit)) }
+    ensures spans { IfOk result (λ enough. IsTrue enough
+        → AreWithin spans.new.head.len spans.new) }
+    ensures within { IfOk result (λ enough. IsTrue enough
+        → spans.new.head.len ≤ length bytes.now) }
+    ensures few { IfOk result (λ enough. IsTrue enough
+        → length spans.new.lines.items ≤ header_limit) }
 {
-    match parse_request(bytes, slots) {
+    spans.lines.resize(room, EMPTY_HEADER_SPAN)?;
+    match parse_request(bytes, spans.lines.as_mut_slice()) {
         Ok(Status::Complete(head)) => {
-            let lines = Vec::from_slice(alloc, &slots[..head.headers])?;
-            Ok(Some(HeadSpans { head, lines }))
+            spans.lines.truncate(head.headers);
+            spans.head = head;
+            Ok(true)
         }
-        Err(Error::TooManyHeaders) => Ok(None),
         Ok(Status::Partial) => Err(HeadFault::NotAHead),
-        Err(_) => Err(HeadFault::NotAHead),
+        Err(error) => match error {
+            Error::TooManyHeaders => Ok(false),
+            _ => Err(HeadFault::NotAHead),
+        },
     }
 }
 

@@ -7,3 +7,5 @@ pub mod PieceLemmas
 pub mod RewriteLemmas
 pub mod RequestLemmas
 pub mod RuleLemmas
+pub mod RewritingLemmas
+pub mod LawLemmas

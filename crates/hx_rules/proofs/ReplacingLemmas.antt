@@ -1,5 +1,6 @@
 -- The replacement of the values of a head, line by line.
-use Rattle.std.proofs.Common.{◌≡◌, ℕ, ◌+◌, ◌≤◌, suc, zero, Bool, true, false, List, [], ◌∷◌, Some, None, Ok, Err, Result, cond, length, drop, map, refl, ap, sym, ◌∙◌, arith, add-one}
+use Rattle.std.proofs.Common.{◌≡◌, ℕ, ◌+◌, ◌≤◌, suc, zero, Bool, true, false, List, [], ◌∷◌, Some, None, Ok, Err, Result, cond, length, drop, map, refl, ap, sym, ◌∙◌, inl, inr, arith, add-one}
+use Rattle.std.proofs.lemmas.Bool.{cases_Bool}
 use Rattle.std.proofs.lemmas.List.{length-set}
 use Rattle.std.specs.Prelude.{IfErr, OnOk, Option, slice_get, slice_set, ◌||◌}
 use Rattle.std.specs.List.{list_any}
@@ -9,7 +10,7 @@ use Rattle.hx_http.specs.declared.fault.EditFault.{EditFault}
 use Rattle.hx_http.specs.declared.fault.EditFault.TheVariants.{BadBytes, TooMany, NoPath, NoMemory}
 use Rattle.hx_http.specs.Edits.{has_name, MayFail, value_fault, with_value}
 use Rattle.hx_http.specs.Parts.{Parts}
-use Rattle.hx_rules.specs.ReplacingView.{map_from, replacing_from}
+use Rattle.hx_rules.specs.ReplacingView.{map_from, replacing_from, IsNewValue}
 use Rattle.hx_rules.specs.Rewrites.{Edit, is_badly_replaced, line_after, Replacement}
 
 -- ---- lists
@@ -43,7 +44,7 @@ any_after test (z ∷ xs) zero x y at not_hit =
     sym (ap (λ is. is || list_any test xs) (ap test same ∙ not_hit))
 any_after test (z ∷ xs) (suc k) x y at not_hit = any_after test xs k x y at not_hit
 
-any_here : {A : Type 0} (test : A → Bool) (xs : List A) (k : ℕ) (x : A) → slice_get xs k ≡ Some x → test x ≡ true
+pub any_here : {A : Type 0} (test : A → Bool) (xs : List A) (k : ℕ) (x : A) → slice_get xs k ≡ Some x → test x ≡ true
     → list_any test (drop k xs) ≡ true
 any_here test [] k x at hit = cc
 any_here test (z ∷ xs) zero x at hit =
@@ -56,6 +57,13 @@ set_same : {A : Type 0} (xs : List A) (k : ℕ) (x : A) → slice_get xs k ≡ S
 set_same [] k x at = refl
 set_same (z ∷ xs) zero x at = cc
 set_same (z ∷ xs) (suc k) x at = ap (λ rest. z ∷ rest) (set_same xs k x at)
+
+-- an item that is no hit is passed over, and it stays
+pub any_passed : {A : Type 0} (test : A → Bool) (xs : List A) (k : ℕ) (x : A) → slice_get xs k ≡ Some x → test x ≡ false
+    → list_any test (drop (k + 1) xs) ≡ list_any test (drop k xs)
+any_passed test xs k x at not_hit =
+    rw add-one
+    (ap (λ ys. list_any test (drop (suc k) ys)) (sym (set_same xs k x at)) ∙ any_after test xs k x x at not_hit)
 
 -- ---- heads
 
@@ -173,3 +181,37 @@ pub line_refused_err : {T : Type 0} (r : Result T EditFault) (name : List ℕ) (
 line_refused_err (Ok x) name replacement head at line value is_at named some may = tt
 line_refused_err (Err e) name replacement head at line value is_at named some may =
     line_refused name replacement head at line value e is_at named some may
+
+-- ---- what the value of a line becomes
+
+-- a line without a new value stays
+pub line_stays : (name : List ℕ) (replacement : Replacement) (head : Parts) (at : ℕ) → IsNewValue name replacement head at None
+    → replacing_from (at + 1) name replacement head ≡ replacing_from at name replacement head
+line_stays name replacement head at new =
+    elim (cases_Bool (has_name name new.line)) [
+      | inl named ↦ line_unchanged name replacement head at new.line new.is named (sym (rw named at new.value))
+      | inr other ↦ other_line name replacement head at new.line new.is other
+    ]
+
+-- a line with a new value has the name, and the value is the replacement of its own
+named_line : (name : List ℕ) (replacement : Replacement) (head : Parts) (at : ℕ) (value : List ℕ) (new : IsNewValue name replacement head at (Some value))
+    → (has_name name new.line ≡ true) × (replacement new.line.1 ≡ Some value)
+named_line name replacement head at value new =
+    elim (cases_Bool (has_name name new.line)) [
+      | inl named ↦ (named, sym (rw named at new.value))
+      | inr other ↦ absurd (let no : Some value ≡ None = rw other at new.value in cc)
+    ]
+
+pub new_line_ok : {T : Type 0} (r : Result T EditFault) (name : List ℕ) (replacement : Replacement) (head after : Parts) (at : ℕ) (value : List ℕ)
+    → IsNewValue name replacement head at (Some value) → OnOk r (after ≡ with_value at value head) → OnOk r (value_fault value ≡ None)
+    → OnOk r (replacing_from (at + 1) name replacement after ≡ replacing_from at name replacement head)
+new_line_ok r name replacement head after at value new changed good =
+    let line = named_line name replacement head at value new in
+    line_changed_ok r name replacement head after at new.line value new.is line.0 line.1 changed good
+
+pub new_line_refused : {T : Type 0} (r : Result T EditFault) (name : List ℕ) (replacement : Replacement) (head : Parts) (at : ℕ) (value : List ℕ)
+    → IsNewValue name replacement head at (Some value) → IfErr r (MayFail (value_fault value))
+    → IfErr r (MayFail (replacing_from at name replacement head).fault)
+new_line_refused r name replacement head at value new may =
+    let line = named_line name replacement head at value new in
+    line_refused_err r name replacement head at new.line value new.is line.0 line.1 may

@@ -31,7 +31,7 @@ if_then rest true done state = refl
 if_then rest false done state = refl
 
 -- a first rule, and what the others make of where it comes to
-effect_first : {S : Type 0} (view : TableView S) (conn : Conn) (acls : Acls) (rule : Rule) (rules : List Rule) (state : State S) → rules_effect view conn acls (rule ∷ rules) state ≡ then_rules (rules_effect view conn acls rules) (rule_effect view conn acls rule state)
+pub effect_first : {S : Type 0} (view : TableView S) (conn : Conn) (acls : Acls) (rule : Rule) (rules : List Rule) (state : State S) → rules_effect view conn acls (rule ∷ rules) state ≡ then_rules (rules_effect view conn acls rules) (rule_effect view conn acls rule state)
 effect_first view conn acls rule rules state =
     if_then (rules_effect view conn acls rules) (is_taken_in view conn acls state rule.unless rule.cond) (action_effect view conn rule.action state) state
 
@@ -40,7 +40,7 @@ then_then whole first last is (Goes state) = is state
 then_then whole first last is (Stops state) = refl
 then_then whole first last is (Ends given state) = refl
 
-effect_joined : {S : Type 0} (view : TableView S) (conn : Conn) (acls : Acls) (xs ys : List Rule) (state : State S) → rules_effect view conn acls (xs ++ ys) state ≡ then_rules (rules_effect view conn acls ys) (rules_effect view conn acls xs state)
+pub effect_joined : {S : Type 0} (view : TableView S) (conn : Conn) (acls : Acls) (xs ys : List Rule) (state : State S) → rules_effect view conn acls (xs ++ ys) state ≡ then_rules (rules_effect view conn acls ys) (rules_effect view conn acls xs state)
 effect_joined view conn acls [] ys state = refl
 effect_joined view conn acls (x ∷ xs) ys state =
     effect_first view conn acls x (xs ++ ys) state

@@ -4,13 +4,16 @@ pub mod Building
 pub mod State
 pub mod Formats
 pub mod Rewrites
+pub mod Rewriting
 pub mod Locations
 pub mod Verdicts
 pub mod Tables
 pub mod Failures
+pub mod Reached
 -- views of the code, for the contracts of private functions
 pub mod ProgramView
 pub mod RedirectView
+pub mod RewriteView
 pub mod RequestView
 pub mod EffectView
 pub mod ActionView

@@ -1,3 +1,6 @@
+ghost use Rattle.std.specs.Prelude.{◌≡◌};
+ghost use Rattle.hx_rules.specs.RewriteView.{is_kept_rewrite};
+
 use crate::format::BuiltFormat;
 use crate::pattern::Pattern;
 use hx_ast::RedirectKind;
@@ -49,4 +52,16 @@ pub(crate) enum BuiltAction {
     Change(TableChange),
     Redirect(BuiltRedirect),
     StrictMode(bool),
+}
+
+impl BuiltAction {
+    /// Whether it rewrites the head of a request.
+    pub(crate) fn is_rewrite(&self) -> bool
+        ensures { result ≡ is_kept_rewrite self.now }
+    {
+        match self {
+            BuiltAction::Rewrite(_) => true,
+            _ => false,
+        }
+    }
 }

@@ -1,20 +1,22 @@
-ghost use Rattle.std.specs.Prelude.{◌≡◌, ◌&&◌, Contains, IfOk, OnOk, IsErrOf, true, false};
+ghost use Rattle.std.specs.Prelude.{◌≡◌, ◌&&◌, ◌++◌, Contains, IfOk, OnOk, IsErrOf, Some, true, false};
 ghost use Rattle.std.specs.List.{list_all};
 ghost use Rattle.std.specs.Option.{option_map_or};
 ghost use Rattle.hx_acl.specs.Expressions.{cond_has_expressions, has_expressions};
 ghost use Rattle.hx_acl.specs.Typing.{is_cond_typed};
+ghost use Rattle.hx_ast.specs.declared.action.Action.TheVariants as action;
 ghost use Rattle.hx_expr.specs.Faults.{CompileCountsLarge};
 ghost use Rattle.hx_expr.specs.Types.{is_typed};
-ghost use Rattle.hx_rules.specs.ActionView.{are_expressions, is_change, is_rewrite};
+ghost use Rattle.hx_rules.specs.ActionView.{are_expressions, change_key, edit_format, is_change, replacing_action};
 ghost use Rattle.hx_rules.specs.Building.{action_exprs, action_texts, are_typed, backend_rule, backend_texts, exprs_texts, format_exprs, part_exprs, rule_has_expressions, rule_texts, when_texts};
-ghost use Rattle.hx_rules.specs.ProgramView.{action_of_built};
+ghost use Rattle.hx_rules.specs.ProgramView.{action_of_built, action_of_change, action_of_rewrite};
+ghost use Rattle.hx_rules.specs.Rewriting.{is_rewrite};
 
 use crate::action::{BuiltAction, BuiltRedirect, Rewrite, TableChange};
 use crate::format::{BuiltFormat, BuiltPart, PartPlan};
 use crate::pattern::Pattern;
 use crate::program::{BuiltBackend, BuiltRule};
 use hx_acl::Condition;
-use hx_ast::{Action, Cond, Format, Items, Part, Rule};
+use hx_ast::{Action, Cond, Expr, Format, Items, Part, RedirectKind, Rule};
 use hx_expr::{PlanFault, compile};
 use hx_outside::ReMaker;
 use hx_text::{NoMemory, Octets, VarName};
@@ -79,6 +81,88 @@ fn build_format<M: ReMaker>(
     Ok(built)
 }
 
+/// What is kept of an action that rewrites the head by a format alone, with the format built.
+fn rewrite_with_format(
+    alloc: Global,
+    action: &Action,
+    format: BuiltFormat,
+) -> Result<Rewrite, NoMemory>
+    requires { edit_format action.now ≡ Some format }
+    ensures { IfOk result (λ built. action_of_rewrite built ≡ action.now) }
+{
+    match action {
+        Action::SetHeader(name, _) => Ok(Rewrite::SetHeader(copied(alloc, name)?, format)),
+        Action::AddHeader(name, _) => Ok(Rewrite::AddHeader(copied(alloc, name)?, format)),
+        Action::SetMethod(_) => Ok(Rewrite::SetMethod(format)),
+        Action::SetUri(_) => Ok(Rewrite::SetUri(format)),
+        Action::SetPath(_) => Ok(Rewrite::SetPath(format)),
+        Action::SetQuery(_) => Ok(Rewrite::SetQuery(format)),
+        _ => unreachable!(),
+    }
+}
+
+/// An action that rewrites the head by a format alone, built.
+fn build_edit<M: ReMaker>(
+    alloc: Global,
+    action: &Action,
+    format: &Format,
+    maker: &mut M,
+) -> Result<BuiltAction, PlanFault>
+    requires format { edit_format action.now ≡ Some format.now }
+    requires typed { list_all is_typed (format_exprs format.now) ≡ true }
+    ensures built { IfOk result (λ built. action_of_built built ≡ action.now) }
+    ensures expressions { OnOk result
+        (list_all has_expressions (format_exprs format.now) ≡ true) }
+    ensures typed { ¬ (IsErrOf result PlanFault.BadType) }
+    ensures bad { IsErrOf result PlanFault.BadPattern
+        → list_all has_expressions (format_exprs format.now) ≡ false }
+    ensures large { CompileCountsLarge result (Contains (exprs_texts (format_exprs format.now)))
+        (M.state maker.old) (M.state maker.new) }
+{
+    let format = build_format(alloc, format, maker)?;
+    let rewrite = rewrite_with_format(alloc, action, format)?;
+    Ok(BuiltAction::Rewrite(rewrite))
+}
+
+/// What is kept of an action that replaces values, with its parts built.
+fn replacement(name: Octets, pattern: Pattern, format: BuiltFormat, each: bool) -> Rewrite
+    ensures { action_of_rewrite result ≡ replacing_action each name pattern format }
+{
+    if each {
+        Rewrite::ReplaceValue(name, pattern, format)
+    } else {
+        Rewrite::ReplaceHeader(name, pattern, format)
+    }
+}
+
+/// An action that replaces values, each of those between commas or the whole of a line, built. Both
+/// read the same texts.
+fn build_replacement<M: ReMaker>(
+    alloc: Global,
+    name: &Octets,
+    pattern: &Octets,
+    format: &Format,
+    each: bool,
+    maker: &mut M,
+) -> Result<BuiltAction, PlanFault>
+    requires { list_all is_typed (format_exprs format.now) ≡ true }
+    ensures built { IfOk result (λ built.
+        action_of_built built ≡ replacing_action each name.now pattern.now format.now) }
+    ensures expressions { OnOk result
+        (are_expressions (replacing_action true name.now pattern.now format.now) ≡ true) }
+    ensures typed { ¬ (IsErrOf result PlanFault.BadType) }
+    ensures bad { IsErrOf result PlanFault.BadPattern
+        → are_expressions (replacing_action true name.now pattern.now format.now) ≡ false }
+    ensures large { CompileCountsLarge result
+        (Contains (action_texts (replacing_action true name.now pattern.now format.now)))
+        (M.state maker.old) (M.state maker.new) }
+{
+    let pattern = Pattern::build(alloc, pattern.as_slice(), maker)?;
+    let format = build_format(alloc, format, maker)?;
+    let name = copied(alloc, name)?;
+    Ok(BuiltAction::Rewrite(replacement(name, pattern, format, each)))
+}
+
 /// An action that rewrites the head of the request, built.
 fn build_rewrite<M: ReMaker>(
     alloc: Global,
@@ -95,41 +179,85 @@ fn build_rewrite<M: ReMaker>(
         (M.state maker.old) (M.state maker.new) }
 {
     match action {
-        Action::SetHeader(name, format) => {
-            let format = build_format(alloc, format, maker)?;
-            Ok(BuiltAction::Rewrite(Rewrite::SetHeader(copied(alloc, name)?, format)))
+        Action::SetHeader(_, format) | Action::AddHeader(_, format) => {
+            build_edit(alloc, action, format, maker)
         }
-        Action::AddHeader(name, format) => {
-            let format = build_format(alloc, format, maker)?;
-            Ok(BuiltAction::Rewrite(Rewrite::AddHeader(copied(alloc, name)?, format)))
+        Action::SetMethod(format) | Action::SetUri(format) => {
+            build_edit(alloc, action, format, maker)
+        }
+        Action::SetPath(format) | Action::SetQuery(format) => {
+            build_edit(alloc, action, format, maker)
         }
         Action::DelHeader(name) => {
             Ok(BuiltAction::Rewrite(Rewrite::DelHeader(copied(alloc, name)?)))
         }
         Action::ReplaceHeader(name, pattern, format) => {
-            let pattern = Pattern::build(alloc, pattern.as_slice(), maker)?;
-            let format = build_format(alloc, format, maker)?;
-            Ok(BuiltAction::Rewrite(Rewrite::ReplaceHeader(copied(alloc, name)?, pattern, format)))
+            build_replacement(alloc, name, pattern, format, false, maker)
         }
         Action::ReplaceValue(name, pattern, format) => {
-            let pattern = Pattern::build(alloc, pattern.as_slice(), maker)?;
-            let format = build_format(alloc, format, maker)?;
-            Ok(BuiltAction::Rewrite(Rewrite::ReplaceValue(copied(alloc, name)?, pattern, format)))
-        }
-        Action::SetMethod(format) => {
-            Ok(BuiltAction::Rewrite(Rewrite::SetMethod(build_format(alloc, format, maker)?)))
-        }
-        Action::SetUri(format) => {
-            Ok(BuiltAction::Rewrite(Rewrite::SetUri(build_format(alloc, format, maker)?)))
-        }
-        Action::SetPath(format) => {
-            Ok(BuiltAction::Rewrite(Rewrite::SetPath(build_format(alloc, format, maker)?)))
-        }
-        Action::SetQuery(format) => {
-            Ok(BuiltAction::Rewrite(Rewrite::SetQuery(build_format(alloc, format, maker)?)))
+            build_replacement(alloc, name, pattern, format, true, maker)
         }
         _ => unreachable!(),
     }
+}
+
+/// What is kept of an action that changes a list by a key alone, with the key built.
+fn change_by(action: &Action, key: BuiltFormat) -> TableChange
+    requires { change_key action.now ≡ Some key }
+    ensures { action_of_change result ≡ action.now }
+{
+    match action {
+        Action::AddAcl(table, _) => TableChange::AddAcl(*table, key),
+        Action::DelAcl(table, _) => TableChange::DelAcl(*table, key),
+        Action::DelMap(table, _) => TableChange::DelMap(*table, key),
+        _ => unreachable!(),
+    }
+}
+
+/// An action that changes a list by a key alone, built.
+fn build_key_change<M: ReMaker>(
+    alloc: Global,
+    action: &Action,
+    key: &Format,
+    maker: &mut M,
+) -> Result<BuiltAction, PlanFault>
+    requires key { change_key action.now ≡ Some key.now }
+    requires typed { list_all is_typed (format_exprs key.now) ≡ true }
+    ensures built { IfOk result (λ built. action_of_built built ≡ action.now) }
+    ensures expressions { OnOk result (list_all has_expressions (format_exprs key.now) ≡ true) }
+    ensures typed { ¬ (IsErrOf result PlanFault.BadType) }
+    ensures bad { IsErrOf result PlanFault.BadPattern
+        → list_all has_expressions (format_exprs key.now) ≡ false }
+    ensures large { CompileCountsLarge result (Contains (exprs_texts (format_exprs key.now)))
+        (M.state maker.old) (M.state maker.new) }
+{
+    let key = build_format(alloc, key, maker)?;
+    Ok(BuiltAction::Change(change_by(action, key)))
+}
+
+/// An action that gives a key of a map a value, built.
+fn build_map_change<M: ReMaker>(
+    alloc: Global,
+    table: u32,
+    key: &Format,
+    value: &Format,
+    maker: &mut M,
+) -> Result<BuiltAction, PlanFault>
+    requires { list_all is_typed (format_exprs key.now ++ format_exprs value.now) ≡ true }
+    ensures built { IfOk result (λ built.
+        action_of_built built ≡ action.SetMap table key.now value.now) }
+    ensures expressions { OnOk result
+        (are_expressions (action.SetMap table key.now value.now) ≡ true) }
+    ensures typed { ¬ (IsErrOf result PlanFault.BadType) }
+    ensures bad { IsErrOf result PlanFault.BadPattern
+        → are_expressions (action.SetMap table key.now value.now) ≡ false }
+    ensures large { CompileCountsLarge result
+        (Contains (action_texts (action.SetMap table key.now value.now)))
+        (M.state maker.old) (M.state maker.new) }
+{
+    let key = build_format(alloc, key, maker)?;
+    let value = build_format(alloc, value, maker)?;
+    Ok(BuiltAction::Change(TableChange::SetMap(table, key, value)))
 }
 
 /// An action that changes a list, built.
@@ -148,25 +276,66 @@ fn build_change<M: ReMaker>(
         (M.state maker.old) (M.state maker.new) }
 {
     match action {
-        Action::AddAcl(table, key) => {
-            let key = build_format(alloc, key, maker)?;
-            Ok(BuiltAction::Change(TableChange::AddAcl(*table, key)))
+        Action::AddAcl(_, key) | Action::DelAcl(_, key) => {
+            build_key_change(alloc, action, key, maker)
         }
-        Action::DelAcl(table, key) => {
-            let key = build_format(alloc, key, maker)?;
-            Ok(BuiltAction::Change(TableChange::DelAcl(*table, key)))
-        }
-        Action::DelMap(table, key) => {
-            let key = build_format(alloc, key, maker)?;
-            Ok(BuiltAction::Change(TableChange::DelMap(*table, key)))
-        }
-        Action::SetMap(table, key, value) => {
-            let key = build_format(alloc, key, maker)?;
-            let value = build_format(alloc, value, maker)?;
-            Ok(BuiltAction::Change(TableChange::SetMap(*table, key, value)))
-        }
+        Action::DelMap(_, key) => build_key_change(alloc, action, key, maker),
+        Action::SetMap(table, key, value) => build_map_change(alloc, *table, key, value, maker),
         _ => unreachable!(),
     }
+}
+
+/// An action that sets a variable, built.
+fn build_set_var<M: ReMaker>(
+    alloc: Global,
+    name: &VarName,
+    expr: &Expr,
+    maker: &mut M,
+) -> Result<BuiltAction, PlanFault>
+    requires { is_typed expr.now ≡ true }
+    ensures built { IfOk result (λ built.
+        action_of_built built ≡ action.SetVar name.now expr.now) }
+    ensures expressions { OnOk result
+        (are_expressions (action.SetVar name.now expr.now) ≡ true) }
+    ensures typed { ¬ (IsErrOf result PlanFault.BadType) }
+    ensures bad { IsErrOf result PlanFault.BadPattern
+        → are_expressions (action.SetVar name.now expr.now) ≡ false }
+    ensures large { CompileCountsLarge result
+        (Contains (action_texts (action.SetVar name.now expr.now)))
+        (M.state maker.old) (M.state maker.new) }
+{
+    let plan = compile(alloc, expr, maker)?;
+    let name = copied_name(alloc, name)?;
+    Ok(BuiltAction::SetVar(name, plan))
+}
+
+/// An action that sends the client elsewhere, built.
+fn build_redirect<M: ReMaker>(
+    alloc: Global,
+    kind: RedirectKind,
+    format: &Format,
+    status: Option<u16>,
+    drop_query: bool,
+    maker: &mut M,
+) -> Result<BuiltAction, PlanFault>
+    requires { list_all is_typed (format_exprs format.now) ≡ true }
+    ensures built { IfOk result (λ built.
+        action_of_built built ≡ action.Redirect kind format.now status drop_query) }
+    ensures expressions { OnOk result
+        (list_all has_expressions (format_exprs format.now) ≡ true) }
+    ensures typed { ¬ (IsErrOf result PlanFault.BadType) }
+    ensures bad { IsErrOf result PlanFault.BadPattern
+        → list_all has_expressions (format_exprs format.now) ≡ false }
+    ensures large { CompileCountsLarge result (Contains (exprs_texts (format_exprs format.now)))
+        (M.state maker.old) (M.state maker.new) }
+{
+    let format = build_format(alloc, format, maker)?;
+    Ok(BuiltAction::Redirect(BuiltRedirect {
+        kind,
+        format,
+        status,
+        drop_query,
+    }))
 }
 
 /// An action, built.
@@ -192,21 +361,12 @@ fn build_action<M: ReMaker>(
         Action::ReplaceValue(_, _, _) => build_rewrite(alloc, action, maker),
         Action::SetMethod(_) | Action::SetUri(_) => build_rewrite(alloc, action, maker),
         Action::SetPath(_) | Action::SetQuery(_) => build_rewrite(alloc, action, maker),
-        Action::SetVar(name, expr) => {
-            let plan = compile(alloc, expr, maker)?;
-            Ok(BuiltAction::SetVar(copied_name(alloc, name)?, plan))
-        }
+        Action::SetVar(name, expr) => build_set_var(alloc, name, expr, maker),
         Action::UnsetVar(name) => Ok(BuiltAction::UnsetVar(copied_name(alloc, name)?)),
         Action::AddAcl(_, _) | Action::DelAcl(_, _) => build_change(alloc, action, maker),
         Action::DelMap(_, _) | Action::SetMap(_, _, _) => build_change(alloc, action, maker),
         Action::Redirect(kind, format, status, drop_query) => {
-            let format = build_format(alloc, format, maker)?;
-            Ok(BuiltAction::Redirect(BuiltRedirect {
-                kind: *kind,
-                format,
-                status: *status,
-                drop_query: *drop_query,
-            }))
+            build_redirect(alloc, *kind, format, *status, *drop_query, maker)
         }
         Action::StrictMode(on) => Ok(BuiltAction::StrictMode(*on)),
     }

@@ -39,18 +39,18 @@ impl<T: Tables> Request<'_, T> {
     {
         match asked {
             TableChange::AddAcl(table, key) => {
-                let key = self.text(key, steps)?;
+                let key = self.lent_text(key, steps)?;
                 let key = key.as_slice();
                 self.tables.change(*table, Change::Add { key }, maker)
             }
             TableChange::DelAcl(table, key) | TableChange::DelMap(table, key) => {
-                let key = self.text(key, steps)?;
+                let key = self.lent_text(key, steps)?;
                 let key = key.as_slice();
                 self.tables.change(*table, Change::Del { key }, maker)
             }
             TableChange::SetMap(table, key, value) => {
-                let key = self.text(key, steps)?;
-                let value = self.text(value, steps)?;
+                let key = self.lent_text(key, steps)?;
+                let value = self.lent_text(value, steps)?;
                 let change = Change::SetMap {
                     key: key.as_slice(),
                     value: value.as_slice(),

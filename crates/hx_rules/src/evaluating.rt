@@ -1,9 +1,10 @@
-ghost use Rattle.std.specs.Prelude.{◌≡◌, length, IfOk, OnErr, OnOk};
+ghost use Rattle.std.specs.Prelude.{◌≡◌, length, false, IfOk, OnErr, OnOk};
 ghost use Rattle.hx_acl.specs.Holds.{HasAclsHeads};
 ghost use Rattle.hx_sample.specs.Changes.{ChangeCountsLarge};
 ghost use Rattle.hx_rules.specs.Failures.{RulesAskFor, StandsAt};
 ghost use Rattle.hx_rules.specs.EffectView.{evaluation_of, effect_of, rule_effect, RuleAsksFor};
 ghost use Rattle.hx_rules.specs.RequestView.{IsSameRequest, state_of};
+ghost use Rattle.hx_rules.specs.Rewriting.{may_rewrite};
 ghost use Rattle.hx_rules.specs.State.{in_state, table_view};
 ghost use Rattle.hx_rules.specs.Tables.{ChangesOneOf, HasHeads, HasLists, HasRuleHeads};
 ghost use Rattle.hx_rules.specs.Verdicts.{evaluation, start, verdict_at};
@@ -149,7 +150,8 @@ impl<T: Tables> Request<'_, T> {
 ///
 /// A rewrite that is refused changes nothing; in strict mode, which is on at first, the verdict is
 /// `Error`. A change of a table that is refused changes nothing. Regular expressions that a change
-/// reads are made by `maker`. Steps of searches are counted in `steps`.
+/// reads are made by `maker`. Steps of searches are counted in `steps`. Where no rule rewrites the
+/// head, which `Program::may_rewrite` tells, the message stays, whatever comes of the rules.
 ///
 /// `TooLarge` only where the maker's count of texts that were too large rose; the last such text is
 /// then the key of a change for which a rule asks. `NoMemory` where memory runs out. Message,
@@ -184,6 +186,7 @@ pub fn evaluate<T: Tables, M: ReMaker, L: Ledger>(
     ensures stands { OnErr result (StandsAt (table_view T.heads T.lists T.after_change) conn.now
         program.now (start message.old vars.old (T.state tables.old)) message.new vars.new
         (T.state tables.new)) }
+    ensures unchanged { may_rewrite program.now ≡ false → message.new ≡ message.old }
     ensures heads { T.heads (T.state tables.new) ≡ T.heads (T.state tables.old) }
     ensures lists { length (T.lists (T.state tables.new)) ≡ length (T.lists (T.state tables.old)) }
     ensures large { ChangeCountsLarge result

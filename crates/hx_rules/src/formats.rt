@@ -1,5 +1,6 @@
-ghost use Rattle.std.specs.Prelude.{◌≡◌, ◌++◌, IfOk, OnOk, OnErr};
-ghost use Rattle.hx_sample.specs.Seen.{occurrence_value};
+ghost use Rattle.std.specs.Prelude.{◌≡◌, ◌++◌, ◌∷◌, [], IfOk, IfSome, OnOk, OnErr};
+ghost use Rattle.hx_ast.specs.declared.action.Part.TheVariants as part;
+ghost use Rattle.hx_sample.specs.Seen.{bytes_of, occurrence_value};
 ghost use Rattle.hx_rules.specs.Formats.{part_text, string_of, text_in};
 ghost use Rattle.hx_rules.specs.RequestView.{state_of};
 ghost use Rattle.hx_rules.specs.State.{in_state, table_view};
@@ -9,7 +10,7 @@ use crate::format::{BuiltFormat, BuiltPart, PartPlan};
 use crate::request::Request;
 use hx_expr::eval;
 use hx_pool::Steps;
-use hx_sample::{Sample, Tables, cast};
+use hx_sample::{Bytes, Sample, Tables, cast};
 use hx_text::{Kind, NoMemory, Octets};
 use std::alloc::Global;
 use std::sync::ledger::Ledger;
@@ -24,6 +25,19 @@ fn push_value(alloc: Global, text: &mut Octets, value: Option<Sample<'_>>) -> Re
     match cast(alloc, sample, Kind::Str)? {
         Some(Sample::Str(bytes)) => text.push_all(bytes.as_slice()),
         _ => Ok(()),
+    }
+}
+
+/// The bytes of a format that has no other part. None for any other format.
+fn static_text(format: &BuiltFormat) -> Option<&[u8]>
+    ensures { IfSome result (λ bytes. format.now ≡ part.Text bytes.now ∷ []) }
+{
+    match format.as_slice() {
+        [only] => match &only.plan {
+            PartPlan::Text(bytes) => Some(bytes.as_slice()),
+            PartPlan::Value(_) => None,
+        },
+        _ => None,
     }
 }
 
@@ -66,5 +80,21 @@ impl<T: Tables> Request<'_, T> {
             self.push_part(&mut text, part, steps)?;
         }
         Ok(text)
+    }
+    /// The same, and lent where the format is bytes that stand for themselves.
+    pub(crate) fn lent_text<'f, L: Ledger>(
+        &self,
+        format: &'f BuiltFormat,
+        steps: &mut Steps<L>,
+    ) -> Result<Bytes<'f>, NoMemory>
+        requires { HasFormatHeads (T.heads (T.state self.now.tables.now)) format.now }
+        ensures { IfOk result (λ text. bytes_of text
+            ≡ text_in (table_view T.heads T.lists T.after_change) self.now.conn.now
+            (state_of T.state self.now) format.now) }
+    {
+        match static_text(format) {
+            Some(bytes) => Ok(Bytes::Lent(bytes)),
+            None => Ok(Bytes::Own(self.text(format, steps)?)),
+        }
     }
 }

@@ -21,6 +21,7 @@ mod changes;
 mod evaluating;
 mod format;
 mod formats;
+pub mod laws;
 mod locations;
 mod pattern;
 mod program;

@@ -3,30 +3,28 @@ ghost use Rattle.hx_conv_text.specs.Substitution.{expanded_of};
 ghost use Rattle.hx_expr.specs.Faults.{CompileCountsLarge};
 ghost use Rattle.hx_sample.specs.Keys.{key_expression};
 
-use hx_conv_text::{expand, made_regex};
+use hx_conv_text::{expand_by, made_regex};
 use hx_expr::PlanFault;
 use hx_outside::{PatFault, ReMaker};
+use hx_regex::RegularExpression;
 use hx_text::{NoMemory, Octets};
-use regex::bytes::Regex;
 use std::alloc::Global;
 use std::marker::Model;
 
 /// The regular expression of an action. Contracts see it as its text.
 #[derive(Drop)]
 pub(crate) struct Pattern {
-    text: Octets,
-    regex: Regex,
+    regex: RegularExpression,
 }
 
 impl Model for Pattern {
-    ghost use Rattle.std.specs.Prelude.{ℕ, List, false};
-    ghost use Rattle.hx_outside.specs.Expressions.{IsExpression};
+    ghost use Rattle.std.specs.Prelude.{◌≡◌, ℕ, List, false};
 
     ghost Value = { List ℕ };
 
-    ghost view = { λ pattern. pattern.text };
+    ghost view = { λ pattern. pattern.regex.text };
 
-    ghost invariant = { λ pattern. IsExpression false pattern.text pattern.regex };
+    ghost invariant = { λ pattern. pattern.regex.ci ≡ false };
 }
 
 impl Pattern {
@@ -55,8 +53,8 @@ impl Pattern {
             Err(PatFault::NoMemory) => return Err(PlanFault::NoMemory),
             Err(_) => unreachable!(),
         };
-        let text = Octets::copy(alloc, text)?;
-        Ok(Pattern { text, regex })
+        let regex = RegularExpression::new(alloc, text, false, regex)?;
+        Ok(Pattern { regex })
     }
 
     /// What `sub` makes of the leftmost match in `value`. None exactly where nothing matches.
@@ -68,6 +66,6 @@ impl Pattern {
     ) -> Result<Option<Octets>, NoMemory>
         ensures { IfOk result (λ made. made ≡ expanded_of false self.now sub.now value.now) }
     {
-        expand(alloc, &self.regex, sub, value)
+        expand_by(alloc, &self.regex, sub, value)
     }
 }

@@ -1,7 +1,8 @@
-ghost use Rattle.std.specs.Prelude.{◌≡◌, ◌↔◌, Contains, OnOk, OnErr, IsErrOf, true, false};
+ghost use Rattle.std.specs.Prelude.{◌≡◌, ◌↔◌, ◌∷◌, ◌++◌, ◌+◌, ◌<◌, ◌^◌, [], Contains, OnOk, OnErr, IsErrOf, true, false};
 ghost use Rattle.hx_expr.specs.Faults.{CompileCountsLarge};
 ghost use Rattle.hx_rules.specs.Building.{is_statement_typed, statement_has_expressions, statement_texts, with_statement};
 ghost use Rattle.hx_rules.specs.Programs.{no_rules, rule_count};
+ghost use Rattle.hx_rules.specs.Rewriting.{is_rewrite, may_rewrite};
 
 use crate::action::BuiltAction;
 use crate::building::{build_backend, build_rule};
@@ -11,7 +12,7 @@ use hx_acl::{AclSet, Condition};
 use hx_ast::{Items, Statement};
 use hx_expr::PlanFault;
 use hx_outside::ReMaker;
-use hx_text::Octets;
+use hx_text::{NoMemory, Octets};
 use std::alloc::Global;
 use std::marker::Model;
 
@@ -38,6 +39,15 @@ impl Model for BuiltRule {
       unless = rule.unless;
       cond = rule.cond;
     } };
+}
+
+impl BuiltRule {
+    /// Whether it rewrites the head of a request, where it is taken.
+    fn is_rewrite(&self) -> bool
+        ensures { result ≡ is_rewrite self.now.action }
+    {
+        self.action.is_rewrite()
+    }
 }
 
 /// A rule of `use_backend`: what makes the backend's name, and when it is taken. Contracts see it
@@ -72,11 +82,15 @@ pub struct Program {
     pub(crate) redirects: Items<BuiltRule>,
     pub(crate) backends: Items<BuiltBackend>,
     pub(crate) fallback: Option<Octets>,
+    /// Whether one of `rules` rewrites the head of a request.
+    rewrites: bool,
 }
 
 impl Model for Program {
-    ghost use Rattle.std.specs.Prelude.{◌+◌, ◌<◌, ◌^◌, length};
+    ghost use Rattle.std.specs.Prelude.{◌≡◌, ◌+◌, ◌<◌, ◌^◌, length};
+    ghost use Rattle.std.specs.List.{list_any};
     ghost use Rattle.hx_rules.specs.Programs.{Rules};
+    ghost use Rattle.hx_rules.specs.Rewriting.{is_rewrite};
 
     ghost Value = { Rules };
 
@@ -88,9 +102,10 @@ impl Model for Program {
       fallback = program.fallback;
     } };
 
-    // how many rules there are is a `u64`
+    // how many rules there are is a `u64`, and whether one rewrites is known
     ghost invariant = { λ program.
-        length program.rules + length program.redirects + length program.backends < 2 ^ 64 };
+        (length program.rules + length program.redirects + length program.backends < 2 ^ 64)
+        × (program.rewrites ≡ list_any (λ rule. is_rewrite rule.action) program.rules) };
 }
 
 impl Program {
@@ -105,6 +120,7 @@ impl Program {
             redirects: Items::new(alloc),
             backends: Items::new(alloc),
             fallback: None,
+            rewrites: false,
         }
     }
 
@@ -166,7 +182,7 @@ impl Program {
             Statement::Acl { name, decl, .. } => self.acls.declare(name.as_slice(), decl, maker),
             Statement::Rule(rule) => {
                 let rule = build_rule(alloc, rule, maker)?;
-                self.rules.push(rule)?;
+                self.push_rule(rule)?;
                 Ok(())
             }
             Statement::Redirect(rule) => {
@@ -189,6 +205,27 @@ impl Program {
                 Ok(())
             }
         }
+    }
+
+    /// Adds a rule of `http-request` after those that are there, or nothing where memory runs out.
+    fn push_rule(&mut self, rule: BuiltRule) -> Result<(), NoMemory>
+        requires { rule_count self.old + 1 < 2 ^ 64 }
+        ensures ok { OnOk result
+            (self.new ≡ record self.old { rules = self.old.rules ++ rule ∷ [] }) }
+        ensures err { OnErr result (self.new ≡ self.old) }
+    {
+        let rewrites = rule.is_rewrite();
+        self.rules.push(rule)?;
+        self.rewrites = self.rewrites || rewrites;
+        Ok(())
+    }
+
+    /// Whether a rule of `http-request` rewrites the head of requests, where it is taken. Where none
+    /// does, `evaluate` leaves each message as it is.
+    pub fn may_rewrite(&self) -> bool
+        ensures { result ≡ may_rewrite self.now }
+    {
+        self.rewrites
     }
 
     /// How many statements of `http-request`, `redirect` and `use_backend` were pushed.

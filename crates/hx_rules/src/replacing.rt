@@ -1,9 +1,10 @@
-ghost use Rattle.std.specs.Prelude.{◌≡◌, ◌+◌, ◌<◌, ◌++◌, length, is_some, IfOk, IfErr, OnOk, OnErr, None, false};
+ghost use Rattle.std.specs.Prelude.{◌≡◌, ◌+◌, ◌<◌, ◌++◌, length, is_some, IfOk, IfErr, IfSome, IfNone, IsOk, OnOk, OnErr, None, false};
+ghost use Rattle.std.specs.List.{list_any};
 ghost use Rattle.hx_conv_text.specs.Substitution.{expanded_of};
-ghost use Rattle.hx_http.specs.Edits.{MayFail};
+ghost use Rattle.hx_http.specs.Edits.{has_name, MayFail};
 ghost use Rattle.hx_lists.specs.Blanks.{trim_blanks};
-ghost use Rattle.hx_rules.specs.ReplacingView.{replacement_by, replacement_of, replacing_from};
-ghost use Rattle.hx_rules.specs.Rewrites.{each_replaced, piece_after, replacing_edit};
+ghost use Rattle.hx_rules.specs.ReplacingView.{replacement_by, replacement_of, replacing_from, BeginsAt, IsNewValue};
+ghost use Rattle.hx_rules.specs.Rewrites.{each_replaced, piece_after, replacing_edit, Replacement};
 
 use crate::pattern::Pattern;
 use hx_http::{EditFault, Message};
@@ -90,6 +91,45 @@ impl Replacer<'_> {
         }
     }
 
+    /// The new value of the header line at the position `at`. None where the line hasn't the name,
+    /// and where its value stays.
+    fn new_value(
+        &self,
+        message: &Message,
+        at: usize,
+        name: &[u8],
+    ) -> Result<Option<Octets>, NoMemory>
+        requires { at < length message.now.headers }
+        ensures { IfOk result (IsNewValue name.now (replacement_by self.now) message.now at) }
+    {
+        let Some((line_name, value)) = message.header(at) else {
+            return Ok(None);
+        };
+        if !line_name.eq_ignore_ascii_case(name) {
+            return Ok(None);
+        }
+        self.replaced(value)
+    }
+
+    /// The position of the first header line whose value is replaced, from `from` on.
+    fn first_replaced(
+        &self,
+        message: &Message,
+        from: usize,
+        name: &[u8],
+    ) -> Result<Option<usize>, NoMemory>
+        ensures { IfOk result (BeginsAt name.now (replacement_by self.now) message.now from) }
+    {
+        'lines: for at in from..message.len() {
+            let new = self.new_value(message, at, name)?;
+            match new {
+                Some(_) => return Ok(Some(at)),
+                None => {}
+            }
+        }
+        Ok(None)
+    }
+
     /// Replaces the value of the header line at the position `at`, where it has the name.
     fn replace_line(&self, message: &mut Message, at: usize, name: &[u8]) -> Result<(), EditFault>
         requires { at < length message.old.headers }
@@ -99,22 +139,61 @@ impl Replacer<'_> {
         ensures refused { IfErr result (MayFail (replacing_from at name.now
             (replacement_by self.now) message.old).fault) }
     {
-        let Some((line_name, value)) = message.header(at) else {
-            return Ok(());
-        };
-        if !line_name.eq_ignore_ascii_case(name) {
-            return Ok(());
-        }
-        match self.replaced(value)? {
+        match self.new_value(message, at, name)? {
             Some(new) => message.replace_value(at, new.as_slice()),
             None => Ok(()),
         }
     }
 
+    /// A copy of the message with the values of the lines of the name replaced, from the position
+    /// `first` on.
+    fn replaced_copy(
+        &self,
+        message: &Message,
+        first: usize,
+        name: &[u8],
+    ) -> Result<Message, EditFault>
+        ensures ok { IfOk result (λ edited.
+            edited ≡ (replacing_from first name.now (replacement_by self.now) message.now).head) }
+        ensures none { OnOk result
+            ((replacing_from first name.now (replacement_by self.now) message.now).fault ≡ None) }
+        ensures refused { IfErr result (MayFail
+            (replacing_from first name.now (replacement_by self.now) message.now).fault) }
+    {
+        let mut edited = message.copy()?;
+        'lines: for at in first..message.len() {
+            self.replace_line(&mut edited, at, name)?;
+        }
+        Ok(edited)
+    }
+}
+
+/// The position of the first header line of the name.
+fn first_named(message: &Message, name: &[u8]) -> Option<usize>
+    ensures some { IfSome result (λ at. (replacement : Replacement) →
+        replacing_from at name.now replacement message.now
+        ≡ replacing_from 0 name.now replacement message.now) }
+    ensures none { IfNone result ((replacement : Replacement) →
+        replacing_edit name.now replacement message.now
+        ≡ record { fault = None; head = message.now }) }
+    ensures named { is_some result ≡ list_any (has_name name.now) message.now.headers }
+{
+    'lines: for at in 0..message.len() {
+        let Some((line_name, _value)) = message.header(at) else {
+            return None;
+        };
+        if line_name.eq_ignore_ascii_case(name) {
+            return Some(at);
+        }
+    }
+    None
+}
+
+impl Replacer<'_> {
     /// Replaces the values of the header lines of a name.
     ///
     /// `BadBytes` exactly where one of the new values has CR, LF or NUL. `NoMemory` where memory
-    /// runs out. No value is replaced then.
+    /// runs out, and not where no line has the name. No value is replaced then.
     pub(crate) fn replace_values(&self, message: &mut Message, name: &[u8]) -> Result<(), EditFault>
         ensures ok { OnOk result (message.new
             ≡ (replacing_edit name.now (replacement_by self.now) message.old).head) }
@@ -123,13 +202,16 @@ impl Replacer<'_> {
         ensures refused { IfErr result
             (MayFail (replacing_edit name.now (replacement_by self.now) message.old).fault) }
         ensures kept { OnErr result (message.new ≡ message.old) }
+        ensures free { list_any (has_name name.now) message.old.headers ≡ false → IsOk result }
     {
+        let Some(from) = first_named(message, name) else {
+            return Ok(());
+        };
+        let Some(first) = self.first_replaced(message, from, name)? else {
+            return Ok(());
+        };
         // All values are replaced or none is, so they are replaced in a copy.
-        let mut edited = message.copy()?;
-        for at in 0..message.len() {
-            self.replace_line(&mut edited, at, name)?;
-        }
-        *message = edited;
+        *message = self.replaced_copy(message, first, name)?;
         Ok(())
     }
 }

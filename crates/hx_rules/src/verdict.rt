@@ -1,7 +1,7 @@
 use hx_text::Octets;
 
 /// What is to be done with a request (HAProxy configuration manual 2.4, section 4.2).
-#[derive(Debug, Drop, PartialEq, Eq)]
+#[derive(Drop, PartialEq, Eq)]
 pub enum Verdict {
     /// it goes to this backend, and to none where there is no name
     Pass { backend: Option<Octets> },

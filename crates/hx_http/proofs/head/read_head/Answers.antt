@@ -1,28 +1,16 @@
-use Rattle.std.proofs.Common.{◌≡◌, Err, ap, sym, ◌∙◌}
+use Rattle.std.proofs.Common.{◌≡◌, Err, ap}
 use Rattle.std.proofs.lemmas.Result.{err_from_is_err_and}
 use Rattle.hx_http.specs.declared.fault.HeadFault.TheVariants.{NotAHead, TooManyHeaders}
-use Rattle.hx_http.specs.Head.{message, many, none}
-use Rattle.hx_http.specs.Spans.{parts_at}
-use Rattle.hx_http.proofs.HeadLemmas.{only_head_is}
-use Rattle.hx_http.proofs.SpanLemmas.{parts_in_prefix}
 use Rattle.hx_http.proofs.head.read_head.Goals as goal
 
-pub returns-in_err-spans-clause-not_a_head : goal.returns-in_err-spans-clause-not_a_head
-returns-in_err-spans-clause-not_a_head c is =
+pub returns-in_err-len-clause-not_a_head : goal.returns-in_err-len-clause-not_a_head
+returns-in_err-len-clause-not_a_head c is =
     let p = err_from_is_err_and c.from_residual.result c.from_residual.ensures.1 in
-    let same : c.in_err-spans.field-0.0 ≡ NotAHead = cc (p.1, p.2, is) in
-    only_head_is c.args.bytes.now none (c.in_err-spans.ensures.not_a_head (ap Err same))
+    let same : c.in_err-len.field-0.0 ≡ NotAHead = cc (p.1, p.2, is) in
+    c.in_err-len.ensures.not_a_head (ap Err same)
 
-pub returns-in_err-spans-clause-too_many : goal.returns-in_err-spans-clause-too_many
-returns-in_err-spans-clause-too_many c is =
+pub returns-in_err-len-clause-too_many : goal.returns-in_err-len-clause-too_many
+returns-in_err-len-clause-too_many c is =
     let p = err_from_is_err_and c.from_residual.result c.from_residual.ensures.1 in
-    let same : c.in_err-spans.field-0.0 ≡ TooManyHeaders = cc (p.1, p.2, is) in
-    only_head_is c.args.bytes.now many (c.in_err-spans.ensures.too_many (ap Err same))
-
-pub returns-clause-found : goal.returns-clause-found
-returns-clause-found c =
-    let bytes = c.args.bytes.now in
-    let spans = c.in_ok-spans.spans in
-    only_head_is bytes (message (parts_at bytes spans) spans.head.len) c.in_ok-spans.ensures.found
-    ∙ ap (λ parts. message parts spans.head.len)
-    (sym (c.new.ensures ∙ ap (λ prefix. parts_at prefix spans) c.in_ok-head.ensures ∙ parts_in_prefix bytes spans c.in_ok-spans.ensures.spans))
+    let same : c.in_err-len.field-0.0 ≡ TooManyHeaders = cc (p.1, p.2, is) in
+    c.in_err-len.ensures.too_many (ap Err same)

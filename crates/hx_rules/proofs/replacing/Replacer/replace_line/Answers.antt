@@ -1,41 +1,32 @@
-use Rattle.std.proofs.Common.{rules}
-use Rattle.hx_rules.specs.ReplacingView.{replacement_by}
-use Rattle.hx_rules.proofs.ReplacingLemmas.{line_changed_ok, line_refused_err, line_unchanged, other_line}
+use Rattle.std.proofs.Common.{ℕ, List, Option, Some, sym, ap, subst, ◌∙◌}
+use Rattle.hx_rules.specs.ReplacingView.{replacement_by, IsNewValue}
+use Rattle.hx_rules.proofs.ReplacingLemmas.{line_stays, new_line_ok, new_line_refused}
 use Rattle.hx_rules.proofs.replacing.Replacer.replace_line.Goals as goal
 
-pub returns-then-not-eq_ignore_ascii_case-clause-ok :
-    goal.returns-then-not-eq_ignore_ascii_case-clause-ok
-returns-then-not-eq_ignore_ascii_case-clause-ok c =
-    let line = c.in-Some.ensures.line in
-    let other = c.if-not-eq_ignore_ascii_case.ensures.test in
-    other_line c.args.name.now (replacement_by c.args.self.now) c.args.message.now
-    c.args.at (c.in-Some.line_name.now, c.in-Some.value.now) (search rules) (search rules)
+pub returns-in-Some-clause-ok : goal.returns-in-Some-clause-ok
+returns-in-Some-clause-ok c =
+    let name = c.args.name.now in
+    let head = c.args.message.now in
+    let replacement = replacement_by c.args.self.now in
+    let OfNew : Option (List ℕ) → Type 0 = λ new. IsNewValue name replacement head c.args.at new in
+    let new = subst OfNew (c.in-Some.is ∙ ap Some (sym c.as_slice.ensures)) c.in_ok-new.ensures in
+    new_line_ok c.replace_value.result name replacement head c.replace_value.new.self c.args.at c.as_slice.result.now new
+    c.replace_value.ensures.ok c.replace_value.ensures.none
+
+pub returns-in-Some-clause-refused : goal.returns-in-Some-clause-refused
+returns-in-Some-clause-refused c =
+    let name = c.args.name.now in
+    let head = c.args.message.now in
+    let replacement = replacement_by c.args.self.now in
+    let OfNew : Option (List ℕ) → Type 0 = λ new. IsNewValue name replacement head c.args.at new in
+    let new = subst OfNew (c.in-Some.is ∙ ap Some (sym c.as_slice.ensures)) c.in_ok-new.ensures in
+    new_line_refused c.replace_value.result name replacement head c.args.at c.as_slice.result.now new
+    c.replace_value.ensures.refused
 
 pub returns-in-None-clause-ok : goal.returns-in-None-clause-ok
 returns-in-None-clause-ok c =
-    let line = c.in-Some.ensures.line in
-    let named = c.if-not-eq_ignore_ascii_case.ensures.test in
-    let made = c.in_ok-new.ensures in
-    let none = c.in-None.is in
-    line_unchanged c.args.name.now (replacement_by c.args.self.now) c.args.message.now
-    c.args.at (c.in-Some.line_name.now, c.in-Some.value.now) (search rules) (search rules) (search rules)
-
-pub returns-in-Some-2-clause-ok : goal.returns-in-Some-2-clause-ok
-returns-in-Some-2-clause-ok c =
-    let line = c.in-Some.ensures.line in
-    let named = c.if-not-eq_ignore_ascii_case.ensures.test in
-    let made = c.in_ok-new.ensures in
-    let some = c.in-Some-2.is in
-    line_changed_ok c.replace_value.result c.args.name.now (replacement_by c.args.self.now) c.args.message.now
-    c.replace_value.new.self c.args.at (c.in-Some.line_name.now, c.in-Some.value.now) c.as_slice.result.now
-    (search rules) (search rules) (search rules) c.replace_value.ensures.ok c.replace_value.ensures.none
-
-pub returns-in-Some-2-clause-refused : goal.returns-in-Some-2-clause-refused
-returns-in-Some-2-clause-refused c =
-    let line = c.in-Some.ensures.line in
-    let named = c.if-not-eq_ignore_ascii_case.ensures.test in
-    let made = c.in_ok-new.ensures in
-    let some = c.in-Some-2.is in
-    line_refused_err c.replace_value.result c.args.name.now (replacement_by c.args.self.now) c.args.message.now
-    c.args.at (c.in-Some.line_name.now, c.in-Some.value.now) c.as_slice.result.now
-    (search rules) (search rules) (search rules) c.replace_value.ensures.refused
+    let name = c.args.name.now in
+    let head = c.args.message.now in
+    let replacement = replacement_by c.args.self.now in
+    let OfNew : Option (List ℕ) → Type 0 = λ new. IsNewValue name replacement head c.args.at new in
+    line_stays name replacement head c.args.at (subst OfNew c.in-None.is c.in_ok-new.ensures)
