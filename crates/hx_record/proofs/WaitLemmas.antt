@@ -1,6 +1,7 @@
 -- What is known of bytes that decide nothing.
 use Rattle.std.proofs.Common.{◌≡◌, ℕ, ◌+◌, ◌-◌, ◌<◌, ◌≤◌, List, ◌++◌, length, take, drop, Result, Ok, Err, refl, sym, ap, subst, ◌∙◌, arith, inl, inr, length-append}
 use Rattle.std.specs.Prelude.{IfOk}
+use Rattle.std.specs.Io.BufRead.{strip_last}
 use Rattle.std.proofs.lemmas.Bool.{cases_lt}
 use Rattle.std.proofs.Math.Seq.{take-append-add}
 use Rattle.std.proofs.lemmas.List.{take-append-le}
@@ -11,12 +12,12 @@ use Rattle.hx_record.specs.declared.piece.Piece.TheVariants as pieces
 use Rattle.hx_record.specs.declared.piece.Wait.{Wait}
 use Rattle.hx_record.specs.declared.piece.Wait.TheVariants as waits
 use Rattle.hx_record.specs.Beginning.{Continuation, Open, Undecided, request_beginning, line_beginning, beginning_of}
-use Rattle.hx_record.specs.Line.{LineMeaning, Nothing, Says, Announces}
+use Rattle.hx_record.specs.Line.{LineMeaning, Nothing, Says, Announces, line_meaning}
 use Rattle.hx_record.specs.LineView.{SaysEvent}
 use Rattle.hx_record.specs.PieceView.{AnnouncesRequest, line_length, meaning_without_cr, piece_beginning, IsWait, KnowsWait, WantsRequest}
 use Rattle.hx_record.specs.Parts.{IsFound}
 use Rattle.hx_record.proofs.WindowLemmas.{take_all}
-use Rattle.hx_record.proofs.PieceLemmas.{Takes, takes, piece_whole, line_length-append, line_length-grows}
+use Rattle.hx_record.proofs.PieceLemmas.{Takes, takes, line_first, piece_whole, line_length-append, line_length-grows}
 
 -- a line that says an event begins with it
 pub says_found : (next : Continuation) (meaning : Result LineMeaning RecordRefusal) (used : ℕ) (rest : List ℕ) → SaysEvent meaning → IsFound (line_beginning next meaning used rest)
@@ -29,6 +30,13 @@ says_found next (Err refusal) used rest says = absurd says
 pub request_first : (next : Continuation) (seen : List ℕ) (id len used : ℕ) (rest : List ℕ) → AnnouncesRequest seen id len used → rest ≡ drop used seen → request_beginning next id len used rest ≡ beginning_of next seen
 request_first next seen id len used rest a after_it =
     rw (piece_whole next seen a.short a.whole, a.meaning, after_it, a.line) refl
+
+-- the same where the line was cut off
+pub announced_first : (next : Continuation) (bytes : List ℕ) (len : ℕ) (line short_line rest : List ℕ) (id size : ℕ) → len ≡ line_length bytes → len ≤ 65536 → len < length bytes → line ≡ take len bytes → short_line ≡ strip_last 13 line → rest ≡ drop 1 (drop len bytes)
+    → Ok (Announces id size) ≡ line_meaning short_line → request_beginning next id size (len + 1) rest ≡ beginning_of next bytes
+announced_first next bytes len line short_line rest id size first short inside cut without after_it says =
+    ap (λ meaning. line_beginning next meaning (len + 1) rest) (says ∙ ap line_meaning without)
+    ∙ line_first next bytes len line rest first short inside cut after_it
 
 -- what a first line leaves undecided
 pub line_waits : (bytes : List ℕ) (meaning : Result LineMeaning RecordRefusal) (p : Piece) → line_length bytes ≤ 65536 → line_length bytes < length bytes → meaning_without_cr (take (line_length bytes) bytes) ≡ meaning

@@ -12,8 +12,10 @@ use Rattle.hx_record.specs.declared.piece.Wait.{Wait}
 use Rattle.hx_record.specs.declared.piece.Wait.TheVariants as waits
 use Rattle.hx_record.specs.declared.piece.Tail.{Tail}
 use Rattle.hx_record.specs.declared.piece.Tail.TheVariants as tails
+use Rattle.hx_record.specs.declared.events.Event.TheVariants.{Req}
 use Rattle.hx_record.specs.declared.piece.Piece.{Piece}
 use Rattle.hx_record.specs.declared.piece.Piece.TheVariants as pieces
+use Rattle.hx_record.specs.declared.piece.FoundRequest.{FoundRequest}
 
 abbrev pub continuation : Tail → Continuation
 continuation tails.Ends = beginnings.Ends
@@ -65,3 +67,8 @@ abbrev pub WantsRequest : Piece → Result LineMeaning RecordRefusal → ℕ →
 WantsRequest (pieces.Undecided wait) (Ok (Announces id len)) used = wait ≡ waits.Request id len used
 WantsRequest (pieces.Undecided wait) _ used = ⊥
 WantsRequest _ meaning used = ⊤
+
+-- bytes that begin so begin with this request
+abbrev pub BeginsWith : Beginning → FoundRequest → Type 0
+BeginsWith beginning request =
+    beginning ≡ beginnings.Found request.used (Req request.id request.bytes)

@@ -1,7 +1,7 @@
 use hx_text::{Ip, Octets};
 
 /// One event of a record.
-#[derive(Debug, Drop)]
+#[derive(Drop)]
 pub enum Event {
     /// Connection `id` opens, between these two addresses.
     Conn {
@@ -28,14 +28,14 @@ pub enum Event {
 }
 
 /// An event, and the offset in the record at which its line begins.
-#[derive(Debug, Drop)]
+#[derive(Drop)]
 pub struct Placed {
     pub offset: u64,
     pub event: Event,
 }
 
 /// What a reader answers without reading its source.
-#[derive(Debug, Drop)]
+#[derive(Drop)]
 pub enum Next {
     /// The next event.
     Event(Placed),

@@ -30,6 +30,7 @@ mod fault;
 mod find;
 pub mod laws;
 mod line;
+mod memory;
 mod piece;
 mod reader;
 mod refusal;

@@ -7,9 +7,9 @@ ghost use Rattle.hx_record.specs.declared.events.Event.TheVariants.{Cli};
 ghost use Rattle.hx_record.specs.LineView.{result_meaning, request_meaning, line_words, words_after, IsSomeWords, SaysEvent};
 
 use crate::events::Event;
+use crate::memory::copied;
 use crate::refusal::RecordRefusal;
-use hx_text::{Ip, NoMemory, Octets, cut_at, read_ip};
-use std::alloc::Global;
+use hx_text::{Ip, NoMemory, cut_at, read_ip};
 
 /// How many bytes a request has at most.
 const REQUEST_MAX: u32 = 1_048_576;
@@ -167,7 +167,10 @@ fn cli_words(rest: Option<&[u8]>) -> Result<(u32, &[u8]), RecordRefusal>
     Ok((session, text.unwrap_or(b"")))
 }
 
-fn read_cli(alloc: Global, rest: Option<&[u8]>) -> Result<Result<Line, RecordRefusal>, NoMemory>
+fn read_cli(
+    memory: &mut Vec<u8>,
+    rest: Option<&[u8]>,
+) -> Result<Result<Line, RecordRefusal>, NoMemory>
     ensures ok { IfOk result (λ read.
         result_meaning read ≡ cli_meaning (words_after (option_copied rest.entry))) }
     ensures err { OnErr result (SaysEvent
@@ -175,7 +178,7 @@ fn read_cli(alloc: Global, rest: Option<&[u8]>) -> Result<Result<Line, RecordRef
 {
     match cli_words(rest) {
         Ok((session, text)) => {
-            let text = Octets::copy(alloc, text)?;
+            let text = copied(memory, text)?;
             Ok(Ok(Line::Event(Event::Cli { session, text })))
         }
         Err(refusal) => Ok(Err(refusal)),
@@ -198,7 +201,10 @@ pub(crate) fn read_request_line(line: &[u8]) -> Option<Result<(u32, u32), Record
 
 /// What a line says, which is given without its ending. Memory is taken for an event alone.
 #[tactic(auto, unfolding(crate::specs::Line::line_meaning, crate::specs::Line::words_meaning))]
-pub(crate) fn read_line(alloc: Global, line: &[u8]) -> Result<Result<Line, RecordRefusal>, NoMemory>
+pub(crate) fn read_line(
+    memory: &mut Vec<u8>,
+    line: &[u8],
+) -> Result<Result<Line, RecordRefusal>, NoMemory>
     ensures ok { IfOk result (λ read. result_meaning read ≡ line_meaning line.now) }
     ensures err { OnErr result (SaysEvent (line_meaning line.now)) }
 {
@@ -216,7 +222,7 @@ pub(crate) fn read_line(alloc: Global, line: &[u8]) -> Result<Result<Line, Recor
     } else if name == b"close".as_slice() {
         Ok(read_close(rest))
     } else if name == b"cli".as_slice() {
-        read_cli(alloc, rest)
+        read_cli(memory, rest)
     } else {
         Ok(Err(RecordRefusal::BadLine))
     }

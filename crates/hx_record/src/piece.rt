@@ -1,16 +1,16 @@
-ghost use Rattle.std.specs.Prelude.{◌≡◌, ℕ, ◌+◌, ◌^◌, ◌<◌, ◌≤◌, List, length, take, IfOk, OnErr, Ok};
-ghost use Rattle.hx_record.specs.Beginning.{beginning_at, request_beginning, line_beginning, beginning_of, Open};
+ghost use Rattle.std.specs.Prelude.{◌≡◌, ℕ, ◌+◌, ◌^◌, ◌<◌, ◌≤◌, List, length, take, IfOk, IfSome, OnErr, Ok};
+ghost use Rattle.hx_record.specs.Beginning.{Continuation, beginning_at, request_beginning, line_beginning, beginning_of, Open};
 ghost use Rattle.hx_record.specs.Record.{continuation_of};
 ghost use Rattle.hx_record.specs.Line.{Announces, line_meaning};
-ghost use Rattle.hx_record.specs.PieceView.{continuation, piece_beginning, line_length, meaning_without_cr, last_line_beginning, IsWait, KnowsWait, WantsRequest};
+ghost use Rattle.hx_record.specs.PieceView.{continuation, piece_beginning, line_length, meaning_without_cr, last_line_beginning, IsWait, KnowsWait, WantsRequest, BeginsWith};
 ghost use Rattle.hx_record.specs.Parts.{IsFound};
 
 use crate::events::Event;
 use crate::find::first_at;
 use crate::line::{Line, read_line, read_request_line};
+use crate::memory::copied;
 use crate::refusal::RecordRefusal;
 use hx_text::{NoMemory, Octets, without_cr};
-use std::alloc::Global;
 
 /// How many bytes a line has at most before its LF.
 const LINE_MAX: usize = 65_536;
@@ -52,12 +52,20 @@ pub(crate) enum Piece {
     Found { used: usize, event: Event },
 }
 
+/// A request, which takes `used` bytes of the record with its line.
+#[derive(Drop)]
+pub(crate) struct FoundRequest {
+    pub(crate) used: usize,
+    pub(crate) id: u32,
+    pub(crate) bytes: Octets,
+}
+
 /// A request of `bytes`, which takes `used` bytes of the record with its line.
 #[inline(always)]
-fn request(alloc: Global, used: usize, id: u32, bytes: &[u8]) -> Result<Piece, NoMemory>
+fn request(memory: &mut Vec<u8>, used: usize, id: u32, bytes: &[u8]) -> Result<Piece, NoMemory>
     ensures { IfOk result (λ p. p ≡ Piece.Found used (Event.Req id bytes.now)) }
 {
-    let bytes = Octets::copy(alloc, bytes)?;
+    let bytes = copied(memory, bytes)?;
     Ok(Piece::Found {
         used,
         event: Event::Req { id, bytes },
@@ -68,7 +76,7 @@ fn request(alloc: Global, used: usize, id: u32, bytes: &[u8]) -> Result<Piece, N
 #[tactic(auto, unfolding(crate::specs::Beginning::request_beginning))]
 #[inline(always)]
 fn read_request(
-    alloc: Global,
+    memory: &mut Vec<u8>,
     tail: Tail,
     id: u32,
     len: u32,
@@ -91,12 +99,12 @@ fn read_request(
             });
         }
         let (bytes, _) = rest.split_at(end);
-        return request(alloc, used + end + 1, id, bytes);
+        return request(memory, used + end + 1, id, bytes);
     }
     match tail {
         Tail::Open => Ok(Piece::Undecided(Wait::Request { id, len, used })),
         Tail::Beyond => Ok(Piece::TooLong),
-        Tail::Ends if end == rest.len() => request(alloc, used + end, id, rest),
+        Tail::Ends if end == rest.len() => request(memory, used + end, id, rest),
         Tail::Ends => Ok(Piece::Fault {
             skip: 0,
             refusal: RecordRefusal::CutRequest,
@@ -107,7 +115,7 @@ fn read_request(
 /// What a line gives that takes `used` bytes with its ending, where `rest` follows it.
 #[inline(always)]
 fn line_piece(
-    alloc: Global,
+    memory: &mut Vec<u8>,
     tail: Tail,
     line: &[u8],
     used: usize,
@@ -120,19 +128,14 @@ fn line_piece(
     ensures err { OnErr result (IsFound
         (line_beginning (continuation tail) (meaning_without_cr line.now) used rest.now)) }
 {
-    let line = without_cr(line);
-    match read_request_line(line) {
-        Some(Ok((id, len))) => read_request(alloc, tail, id, len, used, rest),
-        Some(Err(refusal)) => Ok(Piece::Fault { skip: 0, refusal }),
-        None => any_line_piece(alloc, tail, line, used, rest),
-    }
+    any_line_piece(memory, tail, without_cr(line), used, rest)
 }
 
 /// The same for any line, which is given without a CR.
 #[tactic(auto, using(crate::proofs::WaitLemmas::says_found))]
 #[inline(never)]
 fn any_line_piece(
-    alloc: Global,
+    memory: &mut Vec<u8>,
     tail: Tail,
     line: &[u8],
     used: usize,
@@ -145,16 +148,16 @@ fn any_line_piece(
     ensures err { OnErr result (IsFound
         (line_beginning (continuation tail) (line_meaning line.now) used rest.now)) }
 {
-    match read_line(alloc, line)? {
+    match read_line(memory, line)? {
         Err(refusal) => Ok(Piece::Fault { skip: 0, refusal }),
         Ok(Line::Nothing) => Ok(Piece::Skip { used }),
         Ok(Line::Event(event)) => Ok(Piece::Found { used, event }),
-        Ok(Line::Request { id, len }) => read_request(alloc, tail, id, len, used, rest),
+        Ok(Line::Request { id, len }) => read_request(memory, tail, id, len, used, rest),
     }
 }
 
 /// What bytes begin with among which no LF is.
-fn read_last(alloc: Global, tail: Tail, bytes: &[u8]) -> Result<Piece, NoMemory>
+fn read_last(memory: &mut Vec<u8>, tail: Tail, bytes: &[u8]) -> Result<Piece, NoMemory>
     requires { length bytes.now ≡ line_length bytes.now }
     ensures ok { IfOk result (λ p.
         piece_beginning p ≡ beginning_at (continuation tail) (last_line_beginning bytes.now)) }
@@ -168,14 +171,19 @@ fn read_last(alloc: Global, tail: Tail, bytes: &[u8]) -> Result<Piece, NoMemory>
         })),
         Tail::Beyond => Ok(Piece::TooLong),
         Tail::Ends if bytes.is_empty() => Ok(Piece::Finish),
-        Tail::Ends => line_piece(alloc, Tail::Ends, bytes, bytes.len(), b""),
+        Tail::Ends => line_piece(memory, Tail::Ends, bytes, bytes.len(), b""),
     }
 }
 
 /// What the bytes begin with. No LF may stand before `from`.
 #[tactic(auto, unfolding(crate::specs::Beginning::beginning_of))]
 #[inline(always)]
-fn read_first(alloc: Global, tail: Tail, bytes: &[u8], from: usize) -> Result<Piece, NoMemory>
+fn read_first(
+    memory: &mut Vec<u8>,
+    tail: Tail,
+    bytes: &[u8],
+    from: usize,
+) -> Result<Piece, NoMemory>
     requires { from ≤ line_length bytes.now }
     ensures ok { IfOk result (λ p. piece_beginning p ≡ beginning_of (continuation tail) bytes.now) }
     ensures wait { continuation tail ≡ Open → IfOk result (KnowsWait bytes.now) }
@@ -189,17 +197,17 @@ fn read_first(alloc: Global, tail: Tail, bytes: &[u8], from: usize) -> Result<Pi
         });
     }
     if len == bytes.len() {
-        return read_last(alloc, tail, bytes);
+        return read_last(memory, tail, bytes);
     }
     let (line, after) = bytes.split_at(len);
     let (_, rest) = after.split_at(1);
-    line_piece(alloc, tail, line, len + 1, rest)
+    line_piece(memory, tail, line, len + 1, rest)
 }
 
 /// What the bytes begin with, where `wait` is known of them. Memory is taken for an event alone.
 #[inline(always)]
 pub(crate) fn read_piece(
-    alloc: Global,
+    memory: &mut Vec<u8>,
     tail: Tail,
     bytes: &[u8],
     wait: Wait,
@@ -210,10 +218,87 @@ pub(crate) fn read_piece(
     ensures err { OnErr result (IsFound (beginning_of (continuation tail) bytes.now)) }
 {
     match wait {
-        Wait::Line { scanned } => read_first(alloc, tail, bytes, scanned),
+        Wait::Line { scanned } => read_first(memory, tail, bytes, scanned),
         Wait::Request { id, len, used } => {
             let (_, rest) = bytes.split_at(used);
-            read_request(alloc, tail, id, len, used, rest)
+            read_request(memory, tail, id, len, used, rest)
+        }
+    }
+}
+
+/// The request of `len` bytes, the first of `rest`, where an LF follows it.
+#[tactic(auto, unfolding(crate::specs::Beginning::request_beginning))]
+#[inline(always)]
+fn ended_request(
+    memory: &mut Vec<u8>,
+    id: u32,
+    len: u32,
+    used: usize,
+    rest: &[u8],
+) -> Result<Option<FoundRequest>, NoMemory>
+    requires { used + length rest.now < 2 ^ 64 }
+    ensures ok { (next : Continuation) → IfOk result (λ request. IfSome request
+        (BeginsWith (request_beginning next id len used rest.now))) }
+    ensures err { (next : Continuation) → OnErr result
+        (IsFound (request_beginning next id len used rest.now)) }
+{
+    let end = len as usize;
+    if end >= rest.len() || rest[end] != b'\n' {
+        return Ok(None);
+    }
+    let (bytes, _) = rest.split_at(end);
+    let bytes = copied(memory, bytes)?;
+    Ok(Some(FoundRequest {
+        used: used + end + 1,
+        id,
+        bytes,
+    }))
+}
+
+/// The request that the bytes begin with, where it is announced by a line with an LF. No LF may
+/// stand before `from`.
+#[inline(always)]
+fn first_request(
+    memory: &mut Vec<u8>,
+    bytes: &[u8],
+    from: usize,
+) -> Result<Option<FoundRequest>, NoMemory>
+    requires { from ≤ line_length bytes.now }
+    ensures ok { (next : Continuation) → IfOk result (λ request. IfSome request
+        (BeginsWith (beginning_of next bytes.now))) }
+    ensures err { (next : Continuation) → OnErr result (IsFound (beginning_of next bytes.now)) }
+{
+    let len = first_at(b'\n', bytes, from);
+    if len > LINE_MAX || len == bytes.len() {
+        return Ok(None);
+    }
+    let (line, after) = bytes.split_at(len);
+    let (_, rest) = after.split_at(1);
+    match read_request_line(without_cr(line)) {
+        Some(Ok((id, request))) => ended_request(memory, id, request, len + 1, rest),
+        Some(Err(_)) => Ok(None),
+        None => Ok(None),
+    }
+}
+
+/// The request that the bytes begin with, where it is there with the LF after it, and `wait` is
+/// known of the bytes. Most of a record is such requests, and this has no place for another event.
+#[inline(always)]
+pub(crate) fn whole_request(
+    memory: &mut Vec<u8>,
+    bytes: &[u8],
+    wait: Wait,
+) -> Result<Option<FoundRequest>, NoMemory>
+    requires { IsWait bytes.now wait }
+    ensures ok { (next : Continuation) → IfOk result (λ request. IfSome request
+        (BeginsWith (beginning_of next bytes.now))) }
+    ensures err { (next : Continuation) → OnErr result (IsFound (beginning_of next bytes.now)) }
+{
+    match wait {
+        Wait::Line { scanned } => first_request(memory, bytes, scanned),
+        Wait::Request { id, len, used } => {
+            let (_, rest) = bytes.split_at(used);
+            ended_request(memory, id, len, used, rest)
         }
     }
 }

@@ -1,15 +1,16 @@
-ghost use Rattle.std.specs.Prelude.{◌≡◌, ◌≢◌, ℕ, ◌+◌, ◌-◌, ◌<◌, ◌≤◌, [], true, false, Ok, Err, Some, None, length, IfOk, IfErr, OnOk, OnErr, IsSome};
+ghost use Rattle.std.specs.Prelude.{◌≡◌, ◌≢◌, ℕ, ◌+◌, ◌-◌, ◌<◌, ◌≤◌, [], true, false, Ok, Err, Some, None, length, IfOk, IfErr, IfSome, OnOk, OnErr, IsSome};
 ghost use Rattle.std.specs.Io.KnownBytes.{Keeps, IsAtEnd};
 ghost use Rattle.hx_outside.specs.Count.{Rose};
 ghost use Rattle.hx_record.specs.Record.{Unknown, Bad};
 ghost use Rattle.hx_record.specs.State.{State, decided_items_now, remaining_work};
 ghost use Rattle.hx_record.specs.Reading.{Reads, Decides, Fills, HasEvent, IsEvent, LogsFault};
-ghost use Rattle.hx_record.specs.PieceView.{piece_beginning};
+ghost use Rattle.hx_record.specs.PieceView.{BeginsWith, piece_beginning};
 ghost use Rattle.hx_record.specs.Parts.{IsFound, beginning_now, state_past};
 
-use crate::events::{Next, Placed};
+use crate::events::{Event, Next, Placed};
 use crate::fault::RecordFault;
-use crate::piece::{Piece, Wait, read_piece, under_limit};
+use crate::memory::memory_of;
+use crate::piece::{FoundRequest, Piece, Wait, read_piece, under_limit, whole_request};
 use crate::refusal::RecordRefusal;
 use crate::window::Window;
 use hx_outside::Source;
@@ -25,12 +26,13 @@ use std::marker::Model;
 /// same source.
 #[derive(Drop)]
 pub struct Reader {
-    alloc: Global,
     limit: u64,
     at: u64,
     window: Window,
     wait: Wait,
     ended: bool,
+    // the memory of an event that was given back
+    memory: Vec<u8>,
 }
 
 impl Model for Reader {
@@ -52,12 +54,12 @@ impl Reader {
         ensures { result ≡ record { limit = limit; at = 0; pending = []; ended = false } }
     {
         Reader {
-            alloc,
             limit,
             at: 0,
             window: Window::new(alloc),
             wait: Wait::Line { scanned: 0 },
             ended: false,
+            memory: Vec::new(alloc),
         }
     }
 
@@ -132,6 +134,67 @@ impl Reader {
         ensures within { result ≡ Ok Next.Undecided
             → self.new.at + length self.new.pending ≤ self.new.limit }
     {
+        if let Some(request) = self.whole_request()? {
+            let FoundRequest { used, id, bytes } = request;
+            let offset = self.offset_past(0);
+            self.advance(used);
+            return Ok(Next::Event(Placed {
+                offset,
+                event: Event::Req { id, bytes },
+            }));
+        }
+        self.next_of_any()
+    }
+
+    /// Reads `source` once, into a buffer of 4,096 bytes at least, as tests show: takes the bytes
+    /// that it gives, or its end. After `Failed`, which the source counts, and after `NoMemory`,
+    /// where nothing was read, the reader is as before.
+    pub fn fill<S: Source>(&mut self, source: &mut S) -> Result<(), RecordFault>
+        requires { self.old.ended ≡ false }
+        ensures ok { OnOk result (Fills self.old self.new (S.left source.old) (S.left source.new)
+            (S.log source.old) (S.log source.new)) }
+        ensures err { OnErr result (self.new ≡ self.old) }
+        ensures log { IfErr result (λ fault.
+            LogsFault fault (S.log source.old) (S.log source.new)) }
+        ensures kept { OnErr result (Keeps (S.left source.old) (S.left source.new)) }
+        ensures later { S.faults source.old ≤ S.faults source.new }
+        ensures failed { result ≡ Err RecordFault.Failed
+            → Rose (S.faults source.old) (S.faults source.new) }
+        ensures less { OnOk result (self.old.at + length self.old.pending ≤ self.old.limit
+            → remaining_work self.new < remaining_work self.old) }
+    {
+        self.window.reserve()?;
+        let count = self.window.read(source)?;
+        if count == 0 {
+            self.ended = true;
+        }
+        Ok(())
+    }
+
+    /// Takes back an event, so that the next one needs no memory of its own.
+    pub fn reuse(&mut self, event: Event)
+        ensures { self.new ≡ self.old }
+    {
+        if let Some(memory) = memory_of(event) {
+            self.memory = memory;
+        }
+    }
+
+    /// The same by the lines, whatever they say.
+    fn next_of_any(&mut self) -> Result<Next, RecordFault>
+        ensures decides { Decides self.old self.new result }
+        ensures moves { IfOk result (λ next. IsEvent next
+            → (self.old.at < self.new.at) × (self.new.at ≤ self.new.limit)) }
+        ensures end { result ≡ Ok Next.End → self.new.ended ≡ true }
+        ensures undecided { result ≡ Ok Next.Undecided
+            → (self.new.ended ≡ false) × (decided_items_now self.new ≡ Unknown) }
+        ensures memory { result ≡ Err RecordFault.NoMemory → HasEvent (decided_items_now self.new) }
+        ensures less { IfOk result (λ next. IsEvent next
+            → remaining_work self.new < remaining_work self.old) }
+        ensures no_more { remaining_work self.new ≤ remaining_work self.old }
+        ensures within { result ≡ Ok Next.Undecided
+            → self.new.at + length self.new.pending ≤ self.new.limit }
+    {
         'lines: loop {
             match self.judge()? {
                 Piece::Undecided(_) => return Ok(Next::Undecided),
@@ -160,31 +223,6 @@ impl Reader {
         }
     }
 
-    /// Reads `source` once, into a buffer of 4,096 bytes at least, as tests show: takes the bytes
-    /// that it gives, or its end. After `Failed`, which the source counts, and after `NoMemory`,
-    /// where nothing was read, the reader is as before.
-    pub fn fill<S: Source>(&mut self, source: &mut S) -> Result<(), RecordFault>
-        requires { self.old.ended ≡ false }
-        ensures ok { OnOk result (Fills self.old self.new (S.left source.old) (S.left source.new)
-            (S.log source.old) (S.log source.new)) }
-        ensures err { OnErr result (self.new ≡ self.old) }
-        ensures log { IfErr result (λ fault.
-            LogsFault fault (S.log source.old) (S.log source.new)) }
-        ensures kept { OnErr result (Keeps (S.left source.old) (S.left source.new)) }
-        ensures later { S.faults source.old ≤ S.faults source.new }
-        ensures failed { result ≡ Err RecordFault.Failed
-            → Rose (S.faults source.old) (S.faults source.new) }
-        ensures less { OnOk result (self.old.at + length self.old.pending ≤ self.old.limit
-            → remaining_work self.new < remaining_work self.old) }
-    {
-        self.window.reserve()?;
-        let count = self.window.read(source)?;
-        if count == 0 {
-            self.ended = true;
-        }
-        Ok(())
-    }
-
     fn limit(&self) -> u64
         ensures { result ≡ self.now.limit }
     {
@@ -211,6 +249,19 @@ impl Reader {
         self.wait = Wait::Line { scanned: 0 };
     }
 
+    /// The request that the pending bytes begin with, where all of it is there.
+    #[inline(always)]
+    fn whole_request(&mut self) -> Result<Option<FoundRequest>, NoMemory>
+        ensures same { self.new ≡ self.old }
+        ensures within { self.old.at ≤ self.old.limit }
+        ensures ok { IfOk result (λ request. IfSome request (BeginsWith (beginning_now self.old))) }
+        ensures err { OnErr result (IsFound (beginning_now self.old)) }
+    {
+        let left = self.limit - self.at;
+        let (_, bytes) = under_limit(self.window.bytes(), left, self.ended);
+        whole_request(&mut self.memory, bytes, self.wait)
+    }
+
     /// What the pending bytes begin with. Memory is taken for an event alone.
     fn judge(&mut self) -> Result<Piece, NoMemory>
         ensures same { self.new ≡ self.old }
@@ -218,9 +269,9 @@ impl Reader {
         ensures ok { IfOk result (λ piece. piece_beginning piece ≡ beginning_now self.old) }
         ensures err { OnErr result (IsFound (beginning_now self.old)) }
     {
-        let room = self.limit - self.at;
-        let (tail, bytes) = under_limit(self.window.bytes(), room, self.ended);
-        let piece = read_piece(self.alloc, tail, bytes, self.wait)?;
+        let left = self.limit - self.at;
+        let (tail, bytes) = under_limit(self.window.bytes(), left, self.ended);
+        let piece = read_piece(&mut self.memory, tail, bytes, self.wait)?;
         if let Piece::Undecided(wait) = piece {
             self.wait = wait;
         }

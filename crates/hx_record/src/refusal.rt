@@ -2,7 +2,7 @@ ghost use Rattle.std.specs.Prelude.{◌≡◌};
 ghost use Rattle.hx_record.specs.RefusalCode.{code_of};
 
 /// Why the bytes of a record are refused.
-#[derive(Clone, Copy, Debug, PartialEq, Eq)]
+#[derive(Clone, Copy, PartialEq, Eq)]
 pub enum RecordRefusal {
     /// An unknown first word, a wrong number of words, no address where one is needed, or a byte
     /// other than LF after a request.

@@ -2,7 +2,7 @@ ghost use Rattle.std.specs.Prelude.{◌≡◌};
 ghost use Rattle.hx_replay.specs.Explanation.{code_of, number_of};
 
 /// How a run ended, as a person is told it.
-#[derive(Clone, Copy, Debug, PartialEq, Eq)]
+#[derive(Clone, Copy, PartialEq, Eq)]
 pub enum Ending {
     /// A configuration is refused: this line, counted from 1, has a fault with this code.
     ConfigRefused { line: u64, code: u32 },

@@ -111,7 +111,7 @@ fn gather<A: Answerer, S: Source, K: Sink, M: ReMaker>(
 {
     'events: loop {
         match reader.next_decided()? {
-            Next::Event(placed) => answer_event(answerer, placed, out, answers, maker)?,
+            Next::Event(placed) => answer_event(answerer, reader, placed, out, answers, maker)?,
             Next::Undecided => read_more(reader, record_in, out, answers)?,
             Next::End => {
                 answerer.end(answers)?;
@@ -121,9 +121,10 @@ fn gather<A: Answerer, S: Source, K: Sink, M: ReMaker>(
     }
 }
 
-/// Answers one event, and writes the answers where there are many.
+/// Answers one event, and writes the answers where there are many. The reader takes the event back.
 fn answer_event<A: Answerer, K: Sink, M: ReMaker>(
     answerer: &mut A,
+    reader: &mut Reader,
     placed: Placed,
     out: &mut K,
     answers: &mut Answers,
@@ -132,6 +133,7 @@ fn answer_event<A: Answerer, K: Sink, M: ReMaker>(
     requires { A.IsRunning answerer.old }
     ensures answers { AnswersEvent A.behavior (A.state answerer.old) (A.state answerer.new) placed
         (K.written out.old) (K.written out.new) answers.old answers.new result }
+    ensures reader { reader.new ≡ reader.old }
     ensures running { OnOk result (A.IsRunning answerer.new) }
     ensures source { ¬ (IsErrOf result ReplayFault.Source) }
     ensures sink { IsErrOf result ReplayFault.Sink → Rose (K.faults out.old) (K.faults out.new) }
@@ -144,18 +146,45 @@ fn answer_event<A: Answerer, K: Sink, M: ReMaker>(
         → ((M.state maker.new).too_large ≡ (M.state maker.old).too_large)
         × ((M.state maker.new).large ≡ (M.state maker.old).large) }
 {
-    let Placed { offset, event } = placed;
-    match answerer.answer(&event, answers, maker) {
+    let answered = answer_placed(answerer, &placed, out, answers, maker);
+    reader.reuse(placed.event);
+    answered
+}
+
+/// Answers one event, and writes the answers where there are many.
+fn answer_placed<A: Answerer, K: Sink, M: ReMaker>(
+    answerer: &mut A,
+    placed: &Placed,
+    out: &mut K,
+    answers: &mut Answers,
+    maker: &mut M,
+) -> Result<(), ReplayFault>
+    requires { A.IsRunning answerer.old }
+    ensures answers { AnswersEvent A.behavior (A.state answerer.old) (A.state answerer.new)
+        placed.now (K.written out.old) (K.written out.new) answers.old answers.new result }
+    ensures running { OnOk result (A.IsRunning answerer.new) }
+    ensures source { ¬ (IsErrOf result ReplayFault.Source) }
+    ensures sink { IsErrOf result ReplayFault.Sink → Rose (K.faults out.old) (K.faults out.new) }
+    ensures later { K.faults out.old ≤ K.faults out.new }
+    ensures too_large { IsErrOf result ReplayFault.TooLarge
+        → Rose (M.state maker.old).too_large (M.state maker.new).too_large
+        × IsSomeAnd (M.state maker.new).large
+        (A.AsksFor (A.state answerer.old) placed.now.event) }
+    ensures uncounted { ¬ (IsErrOf result ReplayFault.TooLarge)
+        → ((M.state maker.new).too_large ≡ (M.state maker.old).too_large)
+        × ((M.state maker.new).large ≡ (M.state maker.old).large) }
+{
+    match answerer.answer(&placed.event, answers, maker) {
         Ok(()) => {
             write_many(out, answers)?;
             Ok(())
         }
         Err(StepFault::UnknownConn) => Err(ReplayFault::RecordRefused {
-            offset,
+            offset: placed.offset,
             code: UNKNOWN_CONN,
         }),
         Err(StepFault::ConnOpen) => Err(ReplayFault::RecordRefused {
-            offset,
+            offset: placed.offset,
             code: CONN_OPEN,
         }),
         Err(StepFault::TooLarge) => Err(ReplayFault::TooLarge),

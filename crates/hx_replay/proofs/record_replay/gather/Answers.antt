@@ -61,7 +61,7 @@ events-preserved-in-Continue-branch-3 g c =
     let moves = (rw c.in-Event.is at c.in_ok-placed.ensures.moves) tt in
     let answers = c.in_ok-answer_event-in-Event.ensures.answers in
     let uncounted = c.in_ok-answer_event-in-Event.ensures.uncounted (λ is. cc) in
-    record {
+    rw c.answer_event.ensures.reader (record {
       progress = progress_answers g.A.Answerer.AsksFor g.A.Answerer.behavior (g.A.Answerer.state c.args.answerer.now) (g.A.Answerer.state c.events.answerer) (g.A.Answerer.state c.answer_event.new.answerer) c.next_decided.new.self (g.S.Source.left c.args.record_in.now)
           (g.S.Source.left c.events.record_in) (g.K.Sink.written c.args.out.now) (g.K.Sink.written c.events.out) (g.K.Sink.written c.answer_event.new.out)
           c.in-Event.placed c.events.answers c.answer_event.new.answers p answers;
@@ -72,7 +72,7 @@ events-preserved-in-Continue-branch-3 g c =
       sink = omega (arith, c.events.invariant.sink, c.answer_event.ensures.later);
       too_large = uncounted.0 ∙ c.events.invariant.too_large;
       large = uncounted.1 ∙ c.events.invariant.large;
-    }
+    })
 
 pub returns-in_err-answer_event-in-Event-clause-replays : goal.returns-in_err-answer_event-in-Event-clause-replays
 returns-in_err-answer_event-in-Event-clause-replays g c =

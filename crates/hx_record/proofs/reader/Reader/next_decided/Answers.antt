@@ -1,122 +1,51 @@
-use Rattle.std.proofs.Common.{ap, ◌∙◌, sym, arith, add-zero}
+use Rattle.std.proofs.Common.{arith, add-zero}
 use Rattle.std.proofs.lemmas.Result.{err_from_is_err_and}
-use Rattle.hx_record.specs.PieceView.{piece_beginning}
-use Rattle.hx_record.proofs.StateLemmas.{skip_passes, found_passes, fault_within}
-use Rattle.hx_record.proofs.DecisionLemmas.{lines_start, lines_skip, decides_event, decides_end, decides_undecided, decides_no_memory, decides_fault, decides_long, found_event, undecided_now_open, undecided_known, finish_ended, work_skip, work_found}
+use Rattle.hx_record.specs.declared.events.Event.TheVariants.{Req}
+use Rattle.hx_record.specs.Parts.{beginning_now}
+use Rattle.hx_record.specs.PieceView.{BeginsWith}
+use Rattle.hx_record.proofs.StateLemmas.{found_passes}
+use Rattle.hx_record.proofs.DecisionLemmas.{lines_start, decides_event, decides_no_memory, found_event, work_found}
 use Rattle.hx_record.proofs.reader.Reader.next_decided.Goals as goal
 
-pub lines-init : goal.lines-init
-lines-init c = record { passes = lines_start c.args.self.now; work = omega arith; later = omega arith }
-
-pub returns-in_err-judge-clause-decides : goal.returns-in_err-judge-clause-decides
-returns-in_err-judge-clause-decides c =
+pub returns-in_err-request-clause-decides : goal.returns-in_err-request-clause-decides
+returns-in_err-request-clause-decides c =
     let p = err_from_is_err_and c.from_residual.result c.from_residual.ensures.1 in
-    rw (p.1, p.2, c.judge.ensures.same) (decides_no_memory c.args.self.now c.lines.self c.lines.invariant.passes)
+    rw (p.1, p.2, c.whole_request.ensures.same) (decides_no_memory c.args.self.now c.args.self.now (lines_start c.args.self.now))
 
-pub returns-in_err-judge-clause-memory : goal.returns-in_err-judge-clause-memory
-returns-in_err-judge-clause-memory c out = rw c.judge.ensures.same (found_event c.lines.self c.in_err-judge.ensures.err)
-
-pub returns-in-Undecided-clause-decides : goal.returns-in-Undecided-clause-decides
-returns-in-Undecided-clause-decides c =
-    rw c.judge.ensures.same (decides_undecided c.args.self.now c.lines.self c.lines.invariant.passes)
-
-pub returns-in-Undecided-clause-undecided : goal.returns-in-Undecided-clause-undecided
-returns-in-Undecided-clause-undecided c undecided =
-    let e = sym c.in_ok-judge.ensures.ok ∙ ap piece_beginning c.in-Undecided.is in
-    rw c.judge.ensures.same (undecided_known c.lines.self e)
-
-pub returns-in-Undecided-clause-within : goal.returns-in-Undecided-clause-within
-returns-in-Undecided-clause-within c undecided =
-    let e = sym c.in_ok-judge.ensures.ok ∙ ap piece_beginning c.in-Undecided.is in
-    let fits = (undecided_now_open c.lines.self e).1 in
-    let within = c.judge.ensures.within in
-    rw c.judge.ensures.same (omega arith)
+pub returns-in_err-request-clause-memory : goal.returns-in_err-request-clause-memory
+returns-in_err-request-clause-memory c out = rw c.whole_request.ensures.same (found_event c.args.self.now c.in_err-request.ensures.err)
 
 pub advance-requires-clause-pending : goal.advance-requires-clause-pending
 advance-requires-clause-pending c =
-    let e = sym c.in_ok-judge.ensures.ok ∙ ap piece_beginning c.in-Skip.is in
-    rw c.judge.ensures.same ((skip_passes c.lines.self c.in-Skip.used e).1)
+    let e : BeginsWith (beginning_now c.args.self.now) c.in-Some.request = rw c.in-Some.is at c.in_ok-request.ensures.ok in
+    rw c.whole_request.ensures.same ((found_passes c.args.self.now c.in-Some.request.used (Req c.in-Some.request.id c.in-Some.request.bytes) e).1)
 
 pub advance-requires-clause-limit : goal.advance-requires-clause-limit
 advance-requires-clause-limit c =
-    let e = sym c.in_ok-judge.ensures.ok ∙ ap piece_beginning c.in-Skip.is in
-    rw c.judge.ensures.same ((skip_passes c.lines.self c.in-Skip.used e).2 c.judge.ensures.within)
+    let e : BeginsWith (beginning_now c.args.self.now) c.in-Some.request = rw c.in-Some.is at c.in_ok-request.ensures.ok in
+    rw c.whole_request.ensures.same ((found_passes c.args.self.now c.in-Some.request.used (Req c.in-Some.request.id c.in-Some.request.bytes) e).2 c.whole_request.ensures.within)
 
-pub lines-smaller : goal.lines-smaller
-lines-smaller c =
-    let e = sym c.in_ok-judge.ensures.ok ∙ ap piece_beginning c.in-Skip.is in
-    rw (c.advance.ensures, c.judge.ensures.same) (work_skip c.lines.self c.in-Skip.used c.judge.ensures.within e)
+pub returns-in-Some-clause-decides : goal.returns-in-Some-clause-decides
+returns-in-Some-clause-decides c =
+    let e : BeginsWith (beginning_now c.args.self.now) c.in-Some.request = rw c.in-Some.is at c.in_ok-request.ensures.ok in
+    rw (c.offset_past-offset.ensures, c.advance.ensures, c.whole_request.ensures.same, add-zero) (decides_event c.args.self.now c.args.self.now c.in-Some.request.used (Req c.in-Some.request.id c.in-Some.request.bytes) (lines_start c.args.self.now) e)
 
-pub lines-preserved : goal.lines-preserved
-lines-preserved c =
-    let e = sym c.in_ok-judge.ensures.ok ∙ ap piece_beginning c.in-Skip.is in
-    let less = work_skip c.lines.self c.in-Skip.used c.judge.ensures.within e in
-    let so_far = c.lines.invariant in
-    rw (c.advance.ensures, c.judge.ensures.same) (record {
-      passes = lines_skip c.args.self.now c.lines.self c.in-Skip.used so_far.passes e;
-      work = omega (arith, less, so_far.work);
-      later = omega (arith, so_far.later);
-    })
-
-pub advance-requires-in-Found-clause-pending : goal.advance-requires-in-Found-clause-pending
-advance-requires-in-Found-clause-pending c =
-    let e = sym c.in_ok-judge.ensures.ok ∙ ap piece_beginning c.in-Found.is in
-    rw c.judge.ensures.same ((found_passes c.lines.self c.in-Found.used c.in-Found.event e).1)
-
-pub advance-requires-in-Found-clause-limit : goal.advance-requires-in-Found-clause-limit
-advance-requires-in-Found-clause-limit c =
-    let e = sym c.in_ok-judge.ensures.ok ∙ ap piece_beginning c.in-Found.is in
-    rw c.judge.ensures.same ((found_passes c.lines.self c.in-Found.used c.in-Found.event e).2 c.judge.ensures.within)
-
-pub returns-in-Found-clause-decides : goal.returns-in-Found-clause-decides
-returns-in-Found-clause-decides c =
-    let e = sym c.in_ok-judge.ensures.ok ∙ ap piece_beginning c.in-Found.is in
-    rw (c.offset_past-offset.ensures, c.advance-in-Found.ensures, c.judge.ensures.same, add-zero) (decides_event c.args.self.now c.lines.self c.in-Found.used c.in-Found.event c.lines.invariant.passes e)
-
-pub returns-in-Found-clause-moves : goal.returns-in-Found-clause-moves
-returns-in-Found-clause-moves c =
-    let e = sym c.in_ok-judge.ensures.ok ∙ ap piece_beginning c.in-Found.is in
-    let passes = found_passes c.lines.self c.in-Found.used c.in-Found.event e in
+pub returns-in-Some-clause-moves : goal.returns-in-Some-clause-moves
+returns-in-Some-clause-moves c =
+    let e : BeginsWith (beginning_now c.args.self.now) c.in-Some.request = rw c.in-Some.is at c.in_ok-request.ensures.ok in
+    let passes = found_passes c.args.self.now c.in-Some.request.used (Req c.in-Some.request.id c.in-Some.request.bytes) e in
     let some = passes.0 in
-    let within = passes.2 c.judge.ensures.within in
-    let later = c.lines.invariant.later in
-    rw (c.advance-in-Found.ensures, c.judge.ensures.same) (λ event. (omega arith, within))
+    let within = passes.2 c.whole_request.ensures.within in
+    rw (c.advance.ensures, c.whole_request.ensures.same) (λ event. (omega arith, within))
 
-pub returns-in-Found-clause-less : goal.returns-in-Found-clause-less
-returns-in-Found-clause-less c =
-    let e = sym c.in_ok-judge.ensures.ok ∙ ap piece_beginning c.in-Found.is in
-    let less = work_found c.lines.self c.in-Found.used c.in-Found.event c.judge.ensures.within e in
-    let so_far = c.lines.invariant.work in
-    rw (c.advance-in-Found.ensures, c.judge.ensures.same) (λ event. omega (arith, less, so_far))
+pub returns-in-Some-clause-less : goal.returns-in-Some-clause-less
+returns-in-Some-clause-less c =
+    let e : BeginsWith (beginning_now c.args.self.now) c.in-Some.request = rw c.in-Some.is at c.in_ok-request.ensures.ok in
+    let less = work_found c.args.self.now c.in-Some.request.used (Req c.in-Some.request.id c.in-Some.request.bytes) c.whole_request.ensures.within e in
+    rw (c.advance.ensures, c.whole_request.ensures.same) (λ event. less)
 
-pub returns-in-Found-clause-no_more : goal.returns-in-Found-clause-no_more
-returns-in-Found-clause-no_more c =
-    let e = sym c.in_ok-judge.ensures.ok ∙ ap piece_beginning c.in-Found.is in
-    let less = work_found c.lines.self c.in-Found.used c.in-Found.event c.judge.ensures.within e in
-    let so_far = c.lines.invariant.work in
-    rw (c.advance-in-Found.ensures, c.judge.ensures.same) (omega (arith, less, so_far))
-
-pub returns-in-Finish-clause-decides : goal.returns-in-Finish-clause-decides
-returns-in-Finish-clause-decides c =
-    let e = sym c.in_ok-judge.ensures.ok ∙ ap piece_beginning c.in-Finish.is in
-    rw c.judge.ensures.same (decides_end c.args.self.now c.lines.self c.lines.invariant.passes e)
-
-pub returns-in-Finish-clause-end : goal.returns-in-Finish-clause-end
-returns-in-Finish-clause-end c end =
-    let e = sym c.in_ok-judge.ensures.ok ∙ ap piece_beginning c.in-Finish.is in
-    rw c.judge.ensures.same (finish_ended c.lines.self e)
-
-pub returns-in-TooLong-clause-decides : goal.returns-in-TooLong-clause-decides
-returns-in-TooLong-clause-decides c =
-    let e = sym c.in_ok-judge.ensures.ok ∙ ap piece_beginning c.in-TooLong.is in
-    rw (c.limit-offset.ensures, c.code.ensures, c.judge.ensures.same) (decides_long c.args.self.now c.lines.self c.lines.invariant.passes e)
-
-pub offset_past-offset-requires-in-Fault : goal.offset_past-offset-requires-in-Fault
-offset_past-offset-requires-in-Fault c =
-    let e = sym c.in_ok-judge.ensures.ok ∙ ap piece_beginning c.in-Fault.is in
-    rw c.judge.ensures.same (fault_within c.lines.self c.in-Fault.skip c.in-Fault.refusal e c.judge.ensures.within)
-
-pub returns-in-Fault-clause-decides : goal.returns-in-Fault-clause-decides
-returns-in-Fault-clause-decides c =
-    let e = sym c.in_ok-judge.ensures.ok ∙ ap piece_beginning c.in-Fault.is in
-    rw (c.offset_past-offset-in-Fault.ensures, c.code-in-Fault.ensures, c.judge.ensures.same) (decides_fault c.args.self.now c.lines.self c.in-Fault.skip c.in-Fault.refusal c.lines.invariant.passes e)
+pub returns-in-Some-clause-no_more : goal.returns-in-Some-clause-no_more
+returns-in-Some-clause-no_more c =
+    let e : BeginsWith (beginning_now c.args.self.now) c.in-Some.request = rw c.in-Some.is at c.in_ok-request.ensures.ok in
+    let less = work_found c.args.self.now c.in-Some.request.used (Req c.in-Some.request.id c.in-Some.request.bytes) c.whole_request.ensures.within e in
+    rw (c.advance.ensures, c.whole_request.ensures.same) (omega (arith, less))

@@ -1,7 +1,7 @@
 use Rattle.std.proofs.Common.{◌≤◌}
 use Rattle.hx_record.specs.State.{remaining_work}
 use Rattle.hx_record.proofs.DecisionLemmas.{PassesLines}
-use Rattle.hx_record.proofs.reader.Reader.next_decided.Given as goal
+use Rattle.hx_record.proofs.reader.Reader.next_of_any.Given as goal
 
 abbrev pub invariant-lines : goal.invariant-lines
 invariant-lines l = record {
