@@ -15,22 +15,22 @@ use Rattle.hx_ast.specs.declared.Part.{Part}
 use Rattle.hx_spell.specs.declared.action_table.BareAction.TheVariants as bare
 use Rattle.hx_spell.specs.declared.action_table.FileAction.TheVariants as file
 use Rattle.hx_spell.specs.declared.action_table.VariableAction.TheVariants as variable
-use Rattle.hx_spell.specs.declared.fault.SpellFault.{SpellFault}
-use Rattle.hx_spell.specs.declared.fault.SpellFault.TheVariants as spell
+use Rattle.hx_calls.specs.declared.fault.SpellFault.{SpellFault}
+use Rattle.hx_calls.specs.declared.fault.SpellFault.TheVariants as spell
 use Rattle.hx_spell.specs.Actions.{ActionHead, BareAction, FileAction, HeadMaker, VariableAction, Bare, OfFile, OfVariable, action_table, action_words, bare_head, bare_words, changes_map, expr_word, file_head, first_word, format_word, given_file, head_by, head_fault_by, head_of_step, head_reading, header_word, is_status_word, kind_table, kind_word, optional_word, plain_word, redirect_status_of, status_of, switch_table, text_word, variable_head, with_expr, with_format, with_header_format, with_name_of_header, with_redirect, with_replacement, with_status, with_switch, with_two_formats, word_and_value}
-use Rattle.hx_spell.specs.Arguments.{counted, read_form, required, single}
-use Rattle.hx_spell.specs.Codes.{bad_argument}
-use Rattle.hx_spell.specs.Criteria.{expr_of}
-use Rattle.hx_spell.specs.Formats.{format_of}
-use Rattle.hx_spell.specs.Forms.Form.{Variable}
-use Rattle.hx_spell.specs.Known.{Known, Reading}
-use Rattle.hx_spell.specs.Tables.{entry_at}
-use Rattle.hx_spell.specs.Values.{header_of, variable_name_of}
+use Rattle.hx_calls.specs.Arguments.{counted, read_form, required, single}
+use Rattle.hx_calls.specs.Codes.{bad_argument}
+use Rattle.hx_calls.specs.Criteria.{expr_of}
+use Rattle.hx_calls.specs.Formats.{format_of}
+use Rattle.hx_calls.specs.Forms.Form.{Variable}
+use Rattle.hx_calls.specs.Known.{Known, Reading}
+use Rattle.hx_calls.specs.Tables.{entry_at}
+use Rattle.hx_calls.specs.Values.{header_of, variable_name_of}
 use Rattle.hx_spell.proofs.ActionSteps.{drop_query}
-use Rattle.hx_spell.proofs.ArgumentLemmas.{counted_coded}
-use Rattle.hx_spell.proofs.CriterionFormLemmas.{EachEntry, entry_such, fault_gives, file_coded}
-use Rattle.hx_spell.proofs.ExpressionCodeLemmas.{expr_coded, format_coded}
-use Rattle.hx_spell.proofs.ResultLemmas.{IsCoded, found_coded, tested_coded, then_coded}
+use Rattle.hx_calls.proofs.ArgumentLemmas.{counted_coded}
+use Rattle.hx_calls.proofs.CriterionFormLemmas.{EachEntry, entry_such, fault_gives, file_coded}
+use Rattle.hx_calls.proofs.ExpressionCodeLemmas.{expr_coded, format_coded}
+use Rattle.hx_calls.proofs.ResultLemmas.{IsCoded, found_coded, tested_coded, then_coded}
 
 -- ---- the word of an action
 

@@ -12,18 +12,18 @@ use Rattle.hx_words.specs.declared.ArgFault.{ArgFault}
 use Rattle.hx_spell.specs.declared.action_table.BareAction.TheVariants as bare
 use Rattle.hx_spell.specs.declared.action_table.FileAction.TheVariants as file
 use Rattle.hx_spell.specs.declared.action_table.VariableAction.TheVariants as variable
-use Rattle.hx_spell.specs.declared.fault.SpellFault.{SpellFault}
+use Rattle.hx_calls.specs.declared.fault.SpellFault.{SpellFault}
 use Rattle.hx_spell.specs.ActionRelation.{IsCall, IsName}
 use Rattle.hx_spell.specs.Actions.{ActionHead, BareAction, FileAction, HeadMaker, VariableAction, Bare, OfFile, OfVariable, action_table, bare_head, changes_map, file_head, given_file, head_by, head_fault_by, head_of_step, head_reading, variable_head}
 use Rattle.hx_base.specs.Results.{◌>>=◌}
-use Rattle.hx_spell.specs.Arguments.{counted, is_count, read_form, required, single}
-use Rattle.hx_spell.specs.Codes.{bad_argument, bad_name, unsupported}
-use Rattle.hx_spell.specs.Forms.Form.{Variable}
-use Rattle.hx_spell.specs.Known.{Known, Reading, with_file}
-use Rattle.hx_spell.specs.Tables.{entry_at}
-use Rattle.hx_spell.specs.Values.{variable_name_of}
-use Rattle.hx_spell.proofs.CallTextLemmas.{last_is, last_spells}
-use Rattle.hx_spell.proofs.ResultLemmas.{and_then_ok, both, ok_or_is}
+use Rattle.hx_calls.specs.Arguments.{counted, is_count, read_form, required, single}
+use Rattle.hx_calls.specs.Codes.{bad_argument, bad_name, unsupported}
+use Rattle.hx_calls.specs.Forms.Form.{Variable}
+use Rattle.hx_calls.specs.Known.{Known, Reading, with_file}
+use Rattle.hx_calls.specs.Tables.{entry_at}
+use Rattle.hx_calls.specs.Values.{variable_name_of}
+use Rattle.hx_calls.proofs.CallTextLemmas.{last_is, last_spells}
+use Rattle.hx_calls.proofs.ResultLemmas.{and_then_ok, both, ok_or_is}
 use Rattle.hx_spell.proofs.RowLemmas.{◌&◌, EachRow, found_row}
 
 -- ---- names

@@ -1,11 +1,9 @@
 -- Words that spell an action are read as it, and the words after them are left.
 use Rattle.std.proofs.Common.{◌≡◌, ℕ, Bool, true, false, List, [], ◌∷◌, ◌++◌, Option, None, Some, Ok, refl, sym, ◌∙◌, ap, subst, append_assoc, inl, inr}
-use Rattle.std.specs.Prelude.{Result, codes, if◌then◌else◌, length, option_map}
+use Rattle.std.specs.Prelude.{Result, codes, if◌then◌else◌, option_map}
 use Rattle.std.specs.Option.{ok_or}
 use Rattle.std.specs.Str.{bytes_eq}
-use Rattle.std.proofs.lemmas.Bool.{lt-ltb}
-use Rattle.std.proofs.lemmas.List.Sums.{list_all-from_AllPass}
-use Rattle.httparse.specs.Grammar.{IsToken, is_token, is_token_byte}
+use Rattle.httparse.specs.Grammar.{IsToken}
 use Rattle.hx_words.specs.Calls.{step_of}
 use Rattle.hx_ast.specs.declared.Action.{Action}
 use Rattle.hx_ast.specs.declared.Action.TheVariants as action
@@ -15,23 +13,26 @@ use Rattle.hx_ast.specs.declared.RedirectKind.TheVariants as kind
 use Rattle.hx_spell.specs.declared.action_table.BareAction.TheVariants as bare
 use Rattle.hx_spell.specs.declared.action_table.FileAction.TheVariants as file
 use Rattle.hx_spell.specs.declared.action_table.VariableAction.TheVariants as variable
-use Rattle.hx_spell.specs.declared.fault.SpellFault.{SpellFault}
+use Rattle.hx_calls.specs.declared.fault.SpellFault.{SpellFault}
 use Rattle.hx_spell.specs.ActionRelation.{IsCall, IsName, IsStatusWord, SpellAction, SpellNumber, SpellRedirect, TakesFileFormat, TakesFormat, TakesHeaderFormat, TakesReplacement, kind_text}
 use Rattle.hx_spell.specs.ActionRelation.SpellAction.{AllowWords, DenyWords, FormatWords, HeaderFormatWords, DelHeaderWords, ReplacementWords, SetVarWords, UnsetVarWords, FileFormatWords, SetMapWords, RedirectWords, StrictModeWords}
 use Rattle.hx_spell.specs.Actions.{ActionHead, BareAction, FileAction, Bare, OfFile, OfVariable, action_words, bare_words, changes_map, expr_word, file_words, first_word, format_word, head_of_step, head_reading, header_word, is_status_word, kind_table, kind_word, optional_word, plain_word, redirect_status_of, redirect_taken, status_of, switch_table, taken, text_word, with_format, with_header_format, with_redirect, with_replacement, with_status, with_two_formats, word_and_value}
 use Rattle.hx_base.specs.Results.{◌>>=◌}
-use Rattle.hx_spell.specs.Codes.{bad_argument, bad_name}
-use Rattle.hx_spell.specs.Criteria.{expr_of}
-use Rattle.hx_spell.specs.FormatRelation.{WritesFormat}
-use Rattle.hx_spell.specs.Formats.{format_of}
-use Rattle.hx_spell.specs.Known.{Known, Reading, with_file}
-use Rattle.hx_spell.specs.Tables.{entry_at}
-use Rattle.hx_spell.specs.Values.{header_of}
+use Rattle.hx_calls.specs.Codes.{bad_argument, bad_name}
+use Rattle.hx_calls.specs.Criteria.{expr_of}
+use Rattle.hx_calls.specs.FormatRelation.{WritesFormat}
+use Rattle.hx_calls.specs.Formats.{format_of}
+use Rattle.hx_calls.specs.Known.{Known, Reading, with_file}
+use Rattle.hx_calls.specs.Tables.{entry_at}
+use Rattle.hx_calls.specs.Forms.Form.{HeaderName, Variable}
+use Rattle.hx_calls.specs.Values.{header_of}
+use Rattle.hx_calls.proofs.CallMeaningLemmas.{position_file}
+use Rattle.hx_calls.proofs.FormLemmas.{writes_value}
 use Rattle.hx_spell.proofs.ActionHeadLemmas.{bare_read, bare_text, file_read, file_text, variable_read}
 use Rattle.hx_spell.proofs.ActionSteps.{IsCodeWord, after_format, after_header, after_kind, after_status, drop_query}
-use Rattle.hx_spell.proofs.ExpressionLemmas.{expr_law}
-use Rattle.hx_spell.proofs.FormatReadLemmas.{format_read}
-use Rattle.hx_spell.proofs.ResultLemmas.{then_ok}
+use Rattle.hx_calls.proofs.ExpressionLemmas.{expr_law}
+use Rattle.hx_calls.proofs.FormatReadLemmas.{format_read}
+use Rattle.hx_calls.proofs.ResultLemmas.{then_ok}
 
 -- ---- words that may be there
 
@@ -71,16 +72,10 @@ plain_read {A} read fault word words before x is =
     >>= (λ x. Ok (record { value = x; known = known }))) word words before found
     (ap (λ o. ok_or o fault >>= (λ x. Ok (record { value = x; known = before }))) is)
 
-header_is : (name : List ℕ) → IsToken name → header_of name ≡ Some name
-header_is name token =
-    let is : is_token name ≡ true =
-    rw (lt-ltb 0 (length name) token.0, list_all-from_AllPass is_token_byte name token.1) refl in
-    ap (λ (b : Bool). if b then Some name else None) is
-
 header_read : (name : List ℕ) (words : List (List ℕ)) (before : Known) → IsToken name
     → header_word (name ∷ words) before ≡ Ok (taken name words before)
 header_read name words before token =
-    plain_read header_of bad_name name words before name (header_is name token)
+    plain_read header_of bad_name name words before name (writes_value HeaderName name name (refl, token))
 
 pub format_word_read : (line : ℕ) (text : List ℕ) (words : List (List ℕ)) (before : Known)
     (format : Reading (List Part)) → WritesFormat line before text format
@@ -348,7 +343,7 @@ action_reads line before _ _ (ReplacementWords name word header expression text 
     )
 action_reads line before _ _ (SetVarWords arg word text name expr called is writes) others none = (
   head_reading before (OfVariable variable.Set name),
-  variable_read line before variable.Set arg word name called is,
+  variable_read line before variable.Set arg word name called (writes_value Variable arg name is),
   then_ok (expr_word line (text ∷ others) before)
       (λ expr. Ok (taken (action.SetVar name expr.value.item) expr.value.words expr.known))
       (taken expr.value others expr.known)
@@ -358,20 +353,22 @@ action_reads line before _ _ (SetVarWords arg word text name expr called is writ
 )
 action_reads line before _ _ (UnsetVarWords arg word name called is) others none = (
   head_reading before (OfVariable variable.Unset name),
-  variable_read line before variable.Unset arg word name called is,
+  variable_read line before variable.Unset arg word name called (writes_value Variable arg name is),
   refl,
 )
 action_reads line before _ _ (FileFormatWords name arg word text two make place format takes called is writes) others none =
     let (act, named, columns, same) = file_format_action name two make takes in (
       head_reading place.known (OfFile act place.value),
       file_read line before act arg word place (subst (λ (n : List ℕ). IsCall n arg word) named called)
-          (subst (λ (t : Bool). with_file line arg t before ≡ Ok place) columns is),
+          (subst (λ (t : Bool). with_file line arg t before ≡ Ok place) columns
+          (position_file line arg two before place is)),
       same line place.value (text ∷ others) place.known
           ∙ with_format_read line (make place.value) text others place.known format writes,
     )
 action_reads line before _ _ (SetMapWords arg word key_text text place key value called is key_writes writes) others none = (
   head_reading place.known (OfFile file.SetMap place.value),
-  file_read line before file.SetMap arg word place called is,
+  file_read line before file.SetMap arg word place called
+      (position_file line arg true before place is),
   two_formats_read line (action.SetMap place.value) key_text text others place.known key value
       key_writes writes,
 )

@@ -15,26 +15,28 @@ use Rattle.hx_ast.specs.declared.RedirectKind.{RedirectKind}
 use Rattle.hx_spell.specs.declared.action_table.BareAction.TheVariants as bare
 use Rattle.hx_spell.specs.declared.action_table.FileAction.TheVariants as file
 use Rattle.hx_spell.specs.declared.action_table.VariableAction.TheVariants as variable
-use Rattle.hx_spell.specs.declared.fault.SpellFault.{SpellFault}
+use Rattle.hx_calls.specs.declared.fault.SpellFault.{SpellFault}
 use Rattle.hx_spell.specs.ActionRelation.{IsCall, IsName, IsStatusWord, SpellAction, SpellNumber, SpellRedirect, TakesFileFormat, TakesFormat, TakesHeaderFormat, TakesReplacement, kind_text}
 use Rattle.hx_spell.specs.ActionRelation.SpellAction.{AllowWords, DenyWords, FormatWords, HeaderFormatWords, DelHeaderWords, ReplacementWords, SetVarWords, UnsetVarWords, FileFormatWords, SetMapWords, RedirectWords, StrictModeWords}
 use Rattle.hx_spell.specs.Actions.{ActionHead, BareAction, Bare, OfFile, OfVariable, Taken, action_words, bare_words, first_word, head_of_step, is_status_word, kind_table, optional_word, plain_word, redirect_status_of, redirect_taken, status_of, switch_table, taken, with_expr, with_format, with_header_format, with_name_of_header, with_redirect, with_replacement, with_status, with_switch, with_two_formats, word_and_value, format_word}
 use Rattle.hx_base.specs.Results.{◌>>=◌}
-use Rattle.hx_spell.specs.Codes.{bad_argument, bad_name}
-use Rattle.hx_spell.specs.Criteria.{expr_of}
-use Rattle.hx_spell.specs.FormatRelation.{WritesFormat}
-use Rattle.hx_spell.specs.Formats.{format_of}
-use Rattle.hx_spell.specs.Known.{Known, Reading, reading, with_file}
-use Rattle.hx_spell.specs.Tables.{entry_at}
-use Rattle.hx_spell.specs.Values.{header_of, variable_name_of}
+use Rattle.hx_calls.specs.Codes.{bad_argument, bad_name}
+use Rattle.hx_calls.specs.Criteria.{expr_of}
+use Rattle.hx_calls.specs.FormatRelation.{WritesFormat}
+use Rattle.hx_calls.specs.Formats.{format_of}
+use Rattle.hx_calls.specs.Known.{Known, Reading, reading, with_file}
+use Rattle.hx_calls.specs.Tables.{entry_at}
+use Rattle.hx_calls.specs.Forms.Form.{Variable}
+use Rattle.hx_calls.specs.Values.{header_of, variable_name_of}
 use Rattle.hx_spell.proofs.ActionHeadLemmas.{HeadSpelled, bare_text, head_spells}
 use Rattle.hx_spell.proofs.ActionReadLemmas.{switch_text, word_if}
 use Rattle.hx_spell.proofs.ActionSteps.{IsCodeWord, after_format, after_header, after_kind, after_status, drop_query}
 use Rattle.hx_spell.proofs.ConditionWordLemmas.{same_bytes}
-use Rattle.hx_spell.proofs.ExpressionLemmas.{expr_law}
-use Rattle.hx_spell.proofs.FormLemmas.{header_such}
-use Rattle.hx_spell.proofs.FormatSpellLemmas.{format_writes}
-use Rattle.hx_spell.proofs.ResultLemmas.{and_then_ok, ok_or_is, some_map}
+use Rattle.hx_calls.proofs.ExpressionLemmas.{expr_law}
+use Rattle.hx_calls.proofs.CallMeaningLemmas.{file_position}
+use Rattle.hx_calls.proofs.FormLemmas.{header_such, value_writes}
+use Rattle.hx_calls.proofs.FormatSpellLemmas.{format_writes}
+use Rattle.hx_calls.proofs.ResultLemmas.{and_then_ok, ok_or_is, some_map}
 use Rattle.hx_spell.proofs.RowLemmas.{◌&◌, EachRow, found_row}
 
 -- Words begin with those of an action, which are such.
@@ -301,7 +303,8 @@ file_format_spells line before after place name arg word two words make act take
     spelled_as (SpellAction line before) (word ∷ t.text ∷ []) t.rest (word ∷ words)
     (make place t.format.value) t.format.known act same (ap (λ w. word ∷ w) t.words_are)
     (FileFormatWords name arg word t.text two make (record { value = place; known = after }) t.format
-    takes called brings t.writes)
+    takes called
+    (file_position line arg two before (record { value = place; known = after }) brings) t.writes)
 
 set_map_spells : (line : ℕ) (before after : Known) (place : ℕ) (arg word : List ℕ)
     (words : List (List ℕ)) (act : Reading (Taken Action)) → IsCall (codes "set-map") arg word
@@ -321,7 +324,8 @@ set_map_spells line before after place arg word words act called brings is =
     (action.SetMap place k.format.value t.format.value) t.format.known act same
     (two_more word k.text k.text t.text words k.rest t.rest k.words_are refl t.words_are)
     (SetMapWords arg word k.text t.text (record { value = place; known = after }) k.format t.format
-    called brings k.writes t.writes)
+    called (file_position line arg true before (record { value = place; known = after }) brings)
+    k.writes t.writes)
 
 set_var_spells : (line : ℕ) (before : Known) (arg word : List ℕ) (name : VarName)
     (words : List (List ℕ)) (act : Reading (Taken Action)) → IsCall (codes "set-var") arg word
@@ -334,7 +338,7 @@ set_var_spells line before arg word name words act called named is =
     let last = t.after in cc in
     spelled_as (SpellAction line before) (word ∷ t.word ∷ []) t.rest (word ∷ words)
     (action.SetVar name t.found.value) t.found.known act same (ap (λ w. word ∷ w) t.words_are)
-    (SetVarWords arg word t.word name t.found called named
+    (SetVarWords arg word t.word name t.found called (value_writes Variable arg name named)
     ((expr_law line t.word before t.found).0 t.reads))
 
 status_word : (word : List ℕ) → is_status_word word ≡ true → IsStatusWord word
@@ -529,7 +533,7 @@ head_and_words line before word words (OfVariable variable.Unset v) after act (a
     let whole : taken (action.UnsetVar v) words after ≡ act = cc in
     spelled_as (SpellAction line before) (word ∷ []) words (word ∷ words) (action.UnsetVar v) before
     act (ap (λ k. taken (action.UnsetVar v) words k) (sym same) ∙ whole) refl
-    (UnsetVarWords arg word v called named)
+    (UnsetVarWords arg word v called (value_writes Variable arg v named))
 head_and_words line before word words (OfFile file.AddAcl place) after act (arg, called, brings) is =
     file_format_spells line before after place (codes "add-acl") arg word false words action.AddAcl
     act TakesFileFormat.AddAcl called brings is

@@ -5,10 +5,10 @@ use Rattle.std.specs.Str.{bytes_eq}
 use Rattle.hx_ast.specs.declared.Action.{Action}
 use Rattle.hx_ast.specs.declared.Part.{Part}
 use Rattle.hx_ast.specs.declared.RedirectKind.{RedirectKind}
-use Rattle.hx_spell.specs.declared.fault.SpellFault.{SpellFault}
+use Rattle.hx_calls.specs.declared.fault.SpellFault.{SpellFault}
 use Rattle.hx_spell.specs.Actions.{Taken, format_word, optional_word, redirect_status_of, redirect_taken, text_word, with_format, word_and_value}
 use Rattle.hx_base.specs.Results.{◌>>=◌}
-use Rattle.hx_spell.specs.Known.{Reading}
+use Rattle.hx_calls.specs.Known.{Reading}
 
 -- what is read after the name of a header, where a regular expression follows
 abbrev pub after_header : ℕ → (List ℕ → List ℕ → List Part → Action) → Reading (Taken (List ℕ))

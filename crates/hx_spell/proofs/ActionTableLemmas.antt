@@ -4,8 +4,8 @@ use Rattle.std.specs.Prelude.{option_map}
 use Rattle.hx_spell.specs.declared.action_table.TheConstants.{ACTIONS}
 use Rattle.hx_spell.specs.ActionView.{head_maker}
 use Rattle.hx_spell.specs.Actions.{action_table}
-use Rattle.hx_spell.specs.Tables.{entry_at}
-use Rattle.hx_spell.proofs.TableLemmas.{entry_at_map}
+use Rattle.hx_calls.specs.Tables.{entry_at}
+use Rattle.hx_calls.proofs.TableLemmas.{entry_at_map}
 
 pub action_row : (name : List ℕ)
     → entry_at action_table name

@@ -10,19 +10,19 @@ use Rattle.hx_ast.specs.declared.AclUse.{AclUse}
 use Rattle.hx_ast.specs.declared.AclUse.TheVariants.{Named, Own}
 use Rattle.hx_ast.specs.declared.Decl.{Decl}
 use Rattle.hx_ast.specs.declared.Term.{Term}
-use Rattle.hx_spell.specs.declared.fault.SpellFault.{SpellFault}
+use Rattle.hx_calls.specs.declared.fault.SpellFault.{SpellFault}
 use Rattle.hx_base.specs.Results.{◌>>=◌}
-use Rattle.hx_spell.specs.Codes.{bad_condition}
-use Rattle.hx_spell.specs.Conditions.{Terms, after_marks, after_marks_word, cond_end, cond_from, cond_of, cond_reading, is_acl_name, is_known_acl, is_or, marks_of, named_term, next_word, no_marks, no_terms, own_decl, own_term, with_conj, with_marks, with_term, word_inside, word_outside}
+use Rattle.hx_calls.specs.Codes.{bad_condition}
+use Rattle.hx_spell.specs.Conditions.{Terms, after_marks, after_marks_word, cond_end, cond_from, cond_of, cond_reading, is_acl_name, is_or, marks_of, named_term, next_word, no_marks, no_terms, own_decl, own_term, with_conj, with_marks, with_term, word_inside, word_outside}
 use Rattle.hx_spell.specs.Declarations.{decl_of}
-use Rattle.hx_spell.specs.Known.{Known, Reading}
+use Rattle.hx_calls.specs.Known.{Known, Reading, is_known_acl}
 use Rattle.hx_spell.specs.ConditionRelation.{SpellCond}
 use Rattle.hx_spell.proofs.ConditionReadLemmas.{cond_read}
 use Rattle.hx_spell.proofs.ConditionSpellLemmas.{cond_spells}
 use Rattle.hx_spell.proofs.ConditionWordLemmas.{name_is}
 use Rattle.hx_spell.proofs.DeclarationLemmas.{decl_coded, decl_is_decl}
-use Rattle.hx_spell.proofs.ResultLemmas.{Gives, then_gives}
-use Rattle.hx_spell.specs.declared.fault.SpellFault.TheVariants as spell
+use Rattle.hx_calls.proofs.ResultLemmas.{Gives, then_gives}
+use Rattle.hx_calls.specs.declared.fault.SpellFault.TheVariants as spell
 
 pub cond_law : (line : ℕ) (words : List (List ℕ)) (before : Known)
     (read : Reading (List (List Term)))

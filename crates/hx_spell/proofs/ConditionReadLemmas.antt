@@ -12,8 +12,8 @@ use Rattle.hx_ast.specs.declared.AclUse.TheVariants.{Named, Own}
 use Rattle.hx_ast.specs.declared.Term.{Term}
 use Rattle.hx_base.specs.Results.{◌>>=◌}
 use Rattle.hx_spell.specs.ConditionView.{is_closing, marked, opened}
-use Rattle.hx_spell.specs.Conditions.{Marks, Terms, after_marks_word, cond_from, is_known_acl, is_odd, is_or, no_marks, turned, with_marks, with_term, word_outside}
-use Rattle.hx_spell.specs.Known.{Known, Reading}
+use Rattle.hx_spell.specs.Conditions.{Marks, Terms, after_marks_word, cond_from, is_odd, is_or, no_marks, turned, with_marks, with_term, word_outside}
+use Rattle.hx_calls.specs.Known.{Known, Reading, is_known_acl}
 use Rattle.hx_spell.specs.ConditionRelation.{SpellCond, SpellConj, SpellTerm, SpellUse, marks}
 use Rattle.hx_spell.specs.ConditionRelation.SpellCond.{LastConj, NextConj}
 use Rattle.hx_spell.specs.ConditionRelation.SpellConj.{LastTerm, NextTerm}

@@ -10,12 +10,12 @@ use Rattle.std.proofs.lemmas.List.Folds.{list_any-append}
 use Rattle.hx_ast.specs.declared.AclUse.TheVariants.{Named, Own}
 use Rattle.hx_ast.specs.declared.Decl.{Decl}
 use Rattle.hx_ast.specs.declared.Term.{Term}
-use Rattle.hx_spell.specs.declared.fault.SpellFault.{SpellFault}
+use Rattle.hx_calls.specs.declared.fault.SpellFault.{SpellFault}
 use Rattle.hx_base.specs.Results.{◌>>=◌}
-use Rattle.hx_spell.specs.Codes.{bad_condition, unknown_acl}
+use Rattle.hx_calls.specs.Codes.{bad_condition, unknown_acl}
 use Rattle.hx_spell.specs.ConditionView.{is_closing, marked}
-use Rattle.hx_spell.specs.Conditions.{Marks, Terms, after_marks, after_marks_word, cond_end, cond_from, is_acl_name, is_known_acl, is_odd, is_or, marks_of, named_term, next_conj, no_marks, own_decl, with_marks, with_term}
-use Rattle.hx_spell.specs.Known.{Known, Reading}
+use Rattle.hx_spell.specs.Conditions.{Marks, Terms, after_marks, after_marks_word, cond_end, cond_from, is_acl_name, is_odd, is_or, marks_of, named_term, next_conj, no_marks, own_decl, with_marks, with_term}
+use Rattle.hx_calls.specs.Known.{Known, Reading, is_known_acl}
 use Rattle.hx_spell.specs.ConditionRelation.{IsOr, SpellCond, SpellConj, SpellTerm, marks}
 use Rattle.hx_spell.specs.ConditionRelation.SpellCond.{LastConj, NextConj}
 use Rattle.hx_spell.specs.ConditionRelation.SpellConj.{LastTerm, NextTerm}
@@ -24,7 +24,7 @@ use Rattle.hx_spell.proofs.ConditionReadLemmas.{negated_whole, outside}
 use Rattle.hx_spell.proofs.ConditionStepLemmas.{own_then, with_inside}
 use Rattle.hx_spell.proofs.ConditionWordLemmas.{AreMarks, counted, counted_last, equal_bytes, marks_split, name_is, none_counted, not_true, or_is, other_bytes, same_bytes}
 use Rattle.hx_spell.proofs.DeclarationLemmas.{decl_law}
-use Rattle.hx_spell.proofs.ResultLemmas.{and_then_ok, both}
+use Rattle.hx_calls.proofs.ResultLemmas.{and_then_ok, both}
 
 -- ---- what follows a place
 

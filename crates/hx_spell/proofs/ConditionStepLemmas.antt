@@ -10,11 +10,11 @@ use Rattle.std.specs.Prelude.{◌==◌, ◌||◌, nat_lt, not, option_map, Resul
 use Rattle.hx_ast.specs.declared.AclUse.TheVariants.{Own}
 use Rattle.hx_ast.specs.declared.Decl.{Decl}
 use Rattle.hx_ast.specs.declared.Term.{Term}
-use Rattle.hx_spell.specs.declared.fault.SpellFault.{SpellFault}
+use Rattle.hx_calls.specs.declared.fault.SpellFault.{SpellFault}
 use Rattle.hx_base.specs.Results.{◌>>=◌}
 use Rattle.hx_spell.specs.ConditionView.{RefusedAs, is_closing, marked, opened, unclosed}
 use Rattle.hx_spell.specs.Conditions.{Terms, cond_from, is_name, is_odd, own_decl, own_term, turned, with_term}
-use Rattle.hx_spell.specs.Known.{Known, Reading}
+use Rattle.hx_calls.specs.Known.{Known, Reading}
 
 abbrev CondReading : Type 0
 CondReading = Result (Reading (List (List Term))) SpellFault

@@ -13,7 +13,7 @@ use Rattle.hx_base.specs.Bytes.{ascii}
 use Rattle.hx_ast.specs.Acls.{IsAclName, is_name_byte}
 use Rattle.hx_spell.specs.Conditions.{Marks, after_marks, is_acl_name, is_name, is_odd, is_or, marks_of, no_marks, turned, with_marks}
 use Rattle.hx_spell.specs.ConditionRelation.{IsOr, marks}
-use Rattle.hx_spell.proofs.ResultLemmas.{both}
+use Rattle.hx_calls.proofs.ResultLemmas.{both}
 
 -- ---- bytes
 

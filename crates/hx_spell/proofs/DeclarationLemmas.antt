@@ -12,22 +12,23 @@ use Rattle.hx_ast.specs.declared.Expr.{Expr}
 use Rattle.hx_ast.specs.Acls.{IsDecl, compares_texts, takes_patterns}
 use Rattle.hx_ast.specs.Convs.{IsExpr}
 use Rattle.hx_ast.specs.Types.{expr_kind}
-use Rattle.hx_spell.specs.declared.fault.SpellFault.{SpellFault}
-use Rattle.hx_spell.specs.declared.fault.SpellFault.TheVariants as spell
+use Rattle.hx_calls.specs.declared.fault.SpellFault.{SpellFault}
+use Rattle.hx_calls.specs.declared.fault.SpellFault.TheVariants as spell
 use Rattle.hx_base.specs.Results.{◌>>=◌}
-use Rattle.hx_spell.specs.Codes.{bad_argument, unsupported}
-use Rattle.hx_spell.specs.Criteria.{Criterion, criterion_of}
+use Rattle.hx_calls.specs.Codes.{bad_argument, unsupported}
+use Rattle.hx_calls.specs.Criteria.{Criterion, criterion_of}
 use Rattle.hx_spell.specs.Declarations.{Way, decl_by, decl_of, decl_reading, file_heads, has_no_patterns, heads_of_keys, ignores_case, pattern_decl, way_of, way_of_kind, words_head}
 use Rattle.hx_spell.specs.Flags.{AfterFlags, Flag, Flags, begins_as_flag, flag_argument, flag_table, flag_word, flags_end, flags_from, may_stand, method_table, no_flags}
 use Rattle.hx_spell.specs.Flags.Flag.{IgnoreCase, TwoColumns, Numeric, File, Method, Number, End}
-use Rattle.hx_spell.specs.Known.{Known, Reading, reading, reference_form, with_named_file, with_reference}
+use Rattle.hx_calls.specs.Known.{Known, Reading, reading, reference_form, with_named_file, with_reference}
 use Rattle.hx_spell.specs.Patterns.{Keys, Operator, compares_numbers, key_or_fault, keys_of, number_keys, operator_table}
 use Rattle.hx_spell.specs.AclRelation.{SpellDecl}
-use Rattle.hx_spell.specs.Tables.{entry_at}
-use Rattle.hx_spell.proofs.CriterionFormLemmas.{criterion_is_expr, named_file_coded, reference_coded}
-use Rattle.hx_spell.proofs.CriterionLemmas.{criterion_coded, criterion_law}
+use Rattle.hx_calls.specs.Tables.{entry_at}
+use Rattle.hx_spell.proofs.AclSpellLemmas.{patterns_law, way_law}
+use Rattle.hx_calls.proofs.CriterionFormLemmas.{criterion_is_expr, named_file_coded, reference_coded}
+use Rattle.hx_calls.proofs.CriterionLemmas.{criterion_coded, criterion_law}
 use Rattle.hx_spell.proofs.FlagLemmas.{after_flags, flags_law}
-use Rattle.hx_spell.proofs.ResultLemmas.{Gives, IsCoded, and_then_ok, both, found_coded, given_value, never_without_memory, tested_coded, then_coded, then_gives, then_ok}
+use Rattle.hx_calls.proofs.ResultLemmas.{Gives, IsCoded, and_then_ok, both, found_coded, given_value, never_without_memory, tested_coded, then_coded, then_gives, then_ok}
 
 -- ---- the steps of reading an ACL
 
@@ -80,10 +81,11 @@ decl_spelled line text words before read is =
       spelled = s.spelled;
       end = s.end;
       way = way;
-      searched =
-          subst (λ (a : Reading AfterFlags). way_of expr a.value.flags.by ≡ Ok way) {y = end} s.is
-          searched;
-      is = subst (λ (a : Reading AfterFlags). by_way line expr a way ≡ Ok read) {y = end} s.is whole;
+      searched = (way_law expr s.flags.value.by way).0
+          (subst (λ (a : Reading AfterFlags). way_of expr a.value.flags.by ≡ Ok way) {y = end} s.is
+          searched);
+      with_patterns = (patterns_law line expr way s.flags s.patterns read).0
+          (subst (λ (a : Reading AfterFlags). by_way line expr a way ≡ Ok read) {y = end} s.is whole);
     }
 
 -- ---- an ACL that is spelled is read
@@ -113,7 +115,8 @@ decl_read line text words before read s =
     (then_ok (flags_from line None words start.value start.known) (λ after. by_flags line expr after)
     after read flagged
     (then_ok (way_of expr after.value.flags.by) (λ way. by_way line expr after way) s.way read
-    s.searched s.is))
+    ((way_law expr s.flags.value.by s.way).1 s.searched)
+    ((patterns_law line expr s.way s.flags s.patterns read).1 s.with_patterns)))
 
 -- A text and words are read as the ACL that they spell, and as no other.
 pub decl_law : (line : ℕ) (text : List ℕ) (words : List (List ℕ)) (before : Known)

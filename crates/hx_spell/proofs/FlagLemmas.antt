@@ -1,18 +1,22 @@
 -- Words are read as the flags that they spell, and what follows these as patterns.
 use Rattle.std.proofs.Common.{◌≡◌, ◌↔◌, ℕ, Bool, true, false, cond, List, [], ◌∷◌, ◌++◌, Option, None, Some, Ok, Err, refl, sym, ◌∙◌, ap, inl, inr}
-use Rattle.std.specs.Prelude.{Result, codes}
+use Rattle.std.specs.Prelude.{Result, codes, ◌-◌, ◌^◌}
+use Rattle.std.specs.Option.{ok_or}
+use Rattle.hx_text.specs.Network.{width_of}
+use Rattle.hx_base.specs.Results.{◌>>=◌}
 use Rattle.std.specs.Str.{bytes_eq}
 use Rattle.std.proofs.lemmas.Option.{same_Some, none-some}
 use Rattle.std.proofs.lemmas.Slice.Eq.{bytes_eq-Decides}
-use Rattle.hx_spell.specs.declared.fault.SpellFault.{SpellFault}
-use Rattle.hx_spell.specs.Codes.{bad_argument, unsupported}
-use Rattle.hx_spell.specs.Flags.{AfterFlags, Flag, Flags, begins_as_flag, flag_argument, flag_table, flag_text, flag_word, flags_end, flags_from, may_stand}
+use Rattle.hx_calls.specs.declared.fault.SpellFault.{SpellFault}
+use Rattle.hx_calls.specs.Codes.{bad_argument, unsupported}
+use Rattle.hx_spell.specs.Flags.{AfterFlags, Flag, Flags, begins_as_flag, flag_argument, flag_table, flag_text, flag_word, flags_end, flags_from, may_stand, method_table}
 use Rattle.hx_spell.specs.Flags.Flag.{IgnoreCase, TwoColumns, Numeric, File, Method, Number, End}
-use Rattle.hx_spell.specs.Known.{Known, Reading}
-use Rattle.hx_spell.specs.AclRelation.{EndFlags, SpellFlags, flag_alone, takes_argument}
+use Rattle.hx_calls.specs.Known.{Known, Reading, reading, with_acl, with_named, with_named_file}
+use Rattle.hx_spell.specs.AclRelation.{EndFlags, SpellFlags, WritesArgument, flag_alone, takes_argument, with_searched}
 use Rattle.hx_spell.specs.AclRelation.SpellFlags.{NoFlags, FlagAlone, FlagWithArgument}
-use Rattle.hx_spell.specs.Tables.{Table, entry_at}
-use Rattle.hx_spell.proofs.ResultLemmas.{and_then_ok}
+use Rattle.hx_calls.specs.Tables.{Table, entry_at}
+use Rattle.hx_calls.proofs.CallMeaningLemmas.{named_position, position_named}
+use Rattle.hx_calls.proofs.ResultLemmas.{and_then_ok, ok_or_is, then_ok}
 
 -- ---- the words of flags
 
@@ -73,6 +77,60 @@ no_flag_by word (Some flag) is none =
 
 no_flag : (word : List ℕ) → begins_as_flag word ≡ false → entry_at flag_table word ≡ None
 no_flag word none = no_flag_by word (entry_at flag_table word) refl none
+
+-- ---- arguments of flags
+
+argument_writes : (line : ℕ) (flag : Flag) (text : List ℕ) (flags : Flags) (known : Known)
+    (changed : Reading Flags) → takes_argument flag ≡ true
+    → flag_argument line flag text flags known ≡ Ok changed
+    → WritesArgument line flag text flags known changed
+argument_writes line File name flags known changed takes is =
+    let (named, opened, after) =
+    and_then_ok (with_named_file line name flags.two known)
+    (λ file. Ok (reading (with_searched flags file.value) (with_acl file.value file.known))) changed
+    is in
+    let (file, has, same) = named_position line name flags.two known named opened in
+    let whole : reading (with_searched flags named.value) (with_acl named.value named.known)
+    ≡ changed = cc in (
+      file,
+      has,
+      sym whole ∙ ap (λ (n : Reading ℕ). reading (with_searched flags n.value) (with_acl n.value n.known)) same,
+    )
+argument_writes line Method name flags known changed takes is =
+    let (by, found, after) =
+    and_then_ok (ok_or (entry_at method_table name) unsupported)
+    (λ by. Ok (reading (record flags { by = Some by }) known)) changed is in
+    let whole : reading (record flags { by = Some by }) known ≡ changed = cc in
+    (by, ok_or_is (entry_at method_table name) unsupported by found, sym whole)
+argument_writes line Number text flags known changed takes is =
+    let (n, found, after) =
+    and_then_ok (ok_or (width_of (2 ^ 32 - 1) text) bad_argument)
+    (λ n. Ok (reading (record flags { given = Some n }) known)) changed is in
+    let whole : reading (record flags { given = Some n }) known ≡ changed = cc in
+    (n, ok_or_is (width_of (2 ^ 32 - 1) text) bad_argument n found, sym whole)
+argument_writes line IgnoreCase text flags known changed takes is = absurd (let no : ⊥ = cc in no)
+argument_writes line TwoColumns text flags known changed takes is = absurd (let no : ⊥ = cc in no)
+argument_writes line Numeric text flags known changed takes is = absurd (let no : ⊥ = cc in no)
+argument_writes line End text flags known changed takes is = absurd (let no : ⊥ = cc in no)
+
+pub writes_argument : (line : ℕ) (flag : Flag) (text : List ℕ) (flags : Flags) (known : Known)
+    (changed : Reading Flags) → WritesArgument line flag text flags known changed
+    → flag_argument line flag text flags known ≡ Ok changed
+writes_argument line File name flags known changed (file, has, is) =
+    then_ok (with_named_file line name flags.two known)
+    (λ file. Ok (reading (with_searched flags file.value) (with_acl file.value file.known)))
+    (reading file.value (with_named file.value file.known)) changed
+    (position_named line name flags.two known file has) (ap (λ r. Ok r) (sym is))
+writes_argument line Method name flags known changed (by, found, is) =
+    ap (λ o. ok_or o unsupported >>= (λ by. Ok (reading (record flags { by = Some by }) known))) found
+    ∙ ap (λ r. Ok r) (sym is)
+writes_argument line Number text flags known changed (n, found, is) =
+    ap (λ o. ok_or o bad_argument >>= (λ n. Ok (reading (record flags { given = Some n }) known))) found
+    ∙ ap (λ r. Ok r) (sym is)
+writes_argument line IgnoreCase text flags known changed never = absurd never
+writes_argument line TwoColumns text flags known changed never = absurd never
+writes_argument line Numeric text flags known changed never = absurd never
+writes_argument line End text flags known changed never = absurd never
 
 -- ---- flags that are read are spelled
 
@@ -158,7 +216,8 @@ one_with_argument line flag word words start after found takes may a =
       patterns = s.patterns;
       words_are = rw (first, a.words_are, s.words_are) refl;
       flags = s.flags;
-      spelled = FlagWithArgument flag a.text start a.changed s.flags s.flag_words takes may a.argued
+      spelled = FlagWithArgument flag a.text start a.changed s.flags s.flag_words takes may
+          (argument_writes line flag a.text start.value start.known a.changed takes a.argued)
           s.spelled;
       end = s.end;
       is = s.is;
@@ -311,7 +370,7 @@ read_flags line _ _ _
     (FlagWithArgument flag text before changed after words takes may argued spelled) others patterns
     end =
     read_with_argument line flag text (words ++ others) before.value before.known changed takes may
-    argued
+    (writes_argument line flag text before.value before.known changed argued)
     ∙ read_flags line changed words after spelled others patterns end
 
 -- ---- the law

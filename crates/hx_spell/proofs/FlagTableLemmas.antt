@@ -4,8 +4,8 @@ use Rattle.std.specs.Prelude.{option_map}
 use Rattle.hx_spell.specs.declared.flag_table.TheConstants.{FLAGS}
 use Rattle.hx_spell.specs.FlagView.{flag_of}
 use Rattle.hx_spell.specs.Flags.{flag_table}
-use Rattle.hx_spell.specs.Tables.{entry_at}
-use Rattle.hx_spell.proofs.TableLemmas.{entry_at_map}
+use Rattle.hx_calls.specs.Tables.{entry_at}
+use Rattle.hx_calls.proofs.TableLemmas.{entry_at_map}
 
 pub flag_row : (name : List ℕ)
     → entry_at flag_table name

@@ -2,13 +2,13 @@
 use Rattle.std.proofs.Common.{◌≡◌, ℕ, List, [], ◌∷◌, ◌++◌, Some, None, refl, ap, sym, ◌∙◌, append_assoc}
 use Rattle.std.specs.Prelude.{Option, option_map}
 use Rattle.hx_spell.specs.declared.patterns.Operator.{Operator as CodeOperator}
-use Rattle.hx_spell.specs.Codes.{bad_argument}
+use Rattle.hx_calls.specs.Codes.{bad_argument}
 use Rattle.hx_spell.specs.Declarations.{Way, file_heads, ignores_case}
 use Rattle.hx_spell.specs.Flags.{Searched}
-use Rattle.hx_spell.specs.Known.{Known, Reading, with_head}
+use Rattle.hx_calls.specs.Known.{Known, Reading, with_head}
 use Rattle.hx_spell.specs.Patterns.{Keys, Operator, number_keys, operator_table}
 use Rattle.hx_spell.specs.PatternView.{key_after}
-use Rattle.hx_spell.specs.Tables.{entry_at}
+use Rattle.hx_calls.specs.Tables.{entry_at}
 
 -- ---- heads of files
 

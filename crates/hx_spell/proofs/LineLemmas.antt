@@ -12,22 +12,22 @@ use Rattle.hx_ast.specs.declared.Rule.{Rule}
 use Rattle.hx_ast.specs.declared.Statement.{Statement}
 use Rattle.hx_ast.specs.declared.Statement.TheVariants as statement
 use Rattle.hx_ast.specs.declared.Term.{Term}
-use Rattle.hx_spell.specs.declared.fault.SpellFault.{SpellFault}
-use Rattle.hx_spell.specs.declared.fault.SpellFault.TheVariants as spell
+use Rattle.hx_calls.specs.declared.fault.SpellFault.{SpellFault}
+use Rattle.hx_calls.specs.declared.fault.SpellFault.TheVariants as spell
 use Rattle.hx_spell.specs.Actions.{Taken, action_words, format_word, head_of_step, with_redirect}
-use Rattle.hx_spell.specs.Codes.{bad_argument, bad_name, unsupported}
+use Rattle.hx_calls.specs.Codes.{bad_argument, bad_name, unsupported}
 use Rattle.hx_spell.specs.Conditions.{cond_of, is_acl_name, is_name}
 use Rattle.hx_spell.specs.Declarations.{decl_of}
-use Rattle.hx_spell.specs.Known.{Known, Reading, ReadsAs}
+use Rattle.hx_calls.specs.Known.{Known, Reading, ReadsAs}
 use Rattle.hx_spell.specs.Lines.{Keyword, acl_after_name, acl_of, backend_of, fallback_named, frontend_fault, keyword_statement, keyword_table, line_of, mode_fault, option_fault, placed_frontend_fault, plain_options, plain_unless, polarity_table, redirect_of, rule_of, rule_reading, rule_statement, when_of}
 use Rattle.hx_spell.specs.Lines.Keyword.{Frontend, Mode, Options, Ignored, Acl, HttpRequest, Redirect, UseBackend, DefaultBackend}
 use Rattle.hx_spell.specs.Relation.{SpellLine}
-use Rattle.hx_spell.specs.Tables.{entry_at}
+use Rattle.hx_calls.specs.Tables.{entry_at}
 use Rattle.hx_spell.proofs.ActionCodeLemmas.{format_word_coded, head_coded, redirect_coded, words_coded}
 use Rattle.hx_spell.proofs.ConditionLemmas.{cond_gives, decl_gives}
 use Rattle.hx_spell.proofs.LineReadLemmas.{line_reads}
 use Rattle.hx_spell.proofs.LineSpellLemmas.{line_spells}
-use Rattle.hx_spell.proofs.ResultLemmas.{IsCoded, found_coded, gives_coded, never_without_memory, tested_coded, then_coded}
+use Rattle.hx_calls.proofs.ResultLemmas.{IsCoded, found_coded, gives_coded, never_without_memory, tested_coded, then_coded}
 
 -- words are read as the statement that they spell, and as no other
 pub line_law : (line : ℕ) (words : List (List ℕ)) (before : Known) (read : Reading Statement)

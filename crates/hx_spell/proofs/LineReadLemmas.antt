@@ -9,23 +9,23 @@ use Rattle.hx_ast.specs.declared.Statement.{Statement}
 use Rattle.hx_ast.specs.declared.Statement.TheVariants as statement
 use Rattle.hx_spell.specs.Actions.{action_words, format_word, head_of_step, taken, with_redirect}
 use Rattle.hx_base.specs.Results.{◌>>=◌}
-use Rattle.hx_spell.specs.Codes.{bad_argument}
+use Rattle.hx_calls.specs.Codes.{bad_argument}
 use Rattle.hx_spell.specs.ConditionRelation.{SpellWhen}
 use Rattle.hx_spell.specs.ConditionRelation.SpellWhen.{Always, Conditionally}
 use Rattle.hx_spell.specs.Conditions.{cond_of}
 use Rattle.hx_spell.specs.Declarations.{decl_of}
-use Rattle.hx_spell.specs.Known.{Known, Reading}
+use Rattle.hx_calls.specs.Known.{Known, Reading}
 use Rattle.hx_spell.specs.Lines.{When, acl_statement, keyword_statement, keyword_table, line_of, polarity_table, rule_of, rule_reading, rule_statement, then_begun, when_of, when_reading}
 use Rattle.hx_spell.specs.ActionRelation.{SpellAction, SpellRedirect}
 use Rattle.hx_spell.specs.Relation.{SpellAcl, SpellBackend, SpellFallback, SpellLine, SpellPlain, SpellRule, SpellStatement}
 use Rattle.hx_spell.specs.Relation.SpellPlain.{FrontendLine, ModeLine, OptionLine, BindLine, DescriptionLine, LogLine, LogFormatLine, MaxconnLine, TimeoutLine}
-use Rattle.hx_spell.specs.Tables.{entry_at}
+use Rattle.hx_calls.specs.Tables.{entry_at}
 use Rattle.hx_spell.proofs.ActionReadLemmas.{NoOption, ReadsAction, action_reads, format_word_read, redirect_reads}
 use Rattle.hx_spell.proofs.ConditionLemmas.{cond_law}
 use Rattle.hx_spell.proofs.ConditionWordLemmas.{name_reads}
 use Rattle.hx_spell.proofs.DeclarationLemmas.{decl_law}
 use Rattle.hx_spell.proofs.LineSteps.{backend_when, made, rule_when}
-use Rattle.hx_spell.proofs.ResultLemmas.{then_ok}
+use Rattle.hx_calls.proofs.ResultLemmas.{then_ok}
 
 -- what is read of a line with words
 abbrev Reads : ℕ → Known → List (List ℕ) → Reading Statement → Type 0

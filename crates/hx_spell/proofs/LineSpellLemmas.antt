@@ -10,28 +10,28 @@ use Rattle.hx_ast.specs.declared.Action.{Action}
 use Rattle.hx_ast.specs.declared.Rule.{Rule}
 use Rattle.hx_ast.specs.declared.Statement.{Statement}
 use Rattle.hx_ast.specs.declared.Statement.TheVariants as statement
-use Rattle.hx_spell.specs.declared.fault.SpellFault.{SpellFault}
+use Rattle.hx_calls.specs.declared.fault.SpellFault.{SpellFault}
 use Rattle.hx_spell.specs.ActionRelation.{SpellAction, SpellRedirect}
 use Rattle.hx_spell.specs.Actions.{Taken, action_words, head_of_step, taken, with_redirect}
 use Rattle.hx_base.specs.Results.{◌>>=◌}
-use Rattle.hx_spell.specs.Codes.{bad_argument, bad_name, misplaced, unsupported}
+use Rattle.hx_calls.specs.Codes.{bad_argument, bad_name, misplaced, unsupported}
 use Rattle.hx_spell.specs.ConditionRelation.{SpellWhen}
 use Rattle.hx_spell.specs.ConditionRelation.SpellWhen.{Always, Conditionally}
 use Rattle.hx_spell.specs.Conditions.{cond_of, is_acl_name, is_name}
 use Rattle.hx_spell.specs.Declarations.{decl_of}
-use Rattle.hx_spell.specs.Known.{Known, Reading, reading, with_fallback}
+use Rattle.hx_calls.specs.Known.{Known, Reading, reading, with_fallback}
 use Rattle.hx_spell.specs.Lines.{Keyword, When, acl_after_name, acl_of, acl_statement, backend_of, fallback_named, fallback_of, keyword_statement, keyword_table, line_of, mode_fault, option_fault, placed_frontend_fault, plain_options, plain_unless, polarity_table, redirect_of, rule_of, rule_reading, rule_statement, then_begun, when_of, when_reading}
 use Rattle.hx_spell.specs.Lines.Keyword.{Frontend, Mode, Options, Ignored, Acl, HttpRequest, Redirect, UseBackend, DefaultBackend}
 use Rattle.hx_spell.specs.Relation.{SpellAcl, SpellBackend, SpellFallback, SpellLine, SpellPlain, SpellRule, SpellStatement}
 use Rattle.hx_spell.specs.Relation.SpellPlain.{FrontendLine, ModeLine, OptionLine, BindLine, DescriptionLine, LogLine, LogFormatLine, MaxconnLine, TimeoutLine}
-use Rattle.hx_spell.specs.Tables.{entry_at}
+use Rattle.hx_calls.specs.Tables.{entry_at}
 use Rattle.hx_spell.proofs.ActionSpellLemmas.{ActionSpelled, action_spells, format_then, redirect_spells}
 use Rattle.hx_spell.proofs.ConditionLemmas.{cond_law}
 use Rattle.hx_spell.proofs.ConditionWordLemmas.{name_is, same_bytes}
 use Rattle.hx_spell.proofs.DeclarationLemmas.{decl_law}
 use Rattle.hx_spell.proofs.LineReadLemmas.{SpellHttpRequest, SpellRedirectLine, polarity_text}
 use Rattle.hx_spell.proofs.LineSteps.{backend_when, made, rule_when}
-use Rattle.hx_spell.proofs.ResultLemmas.{and_then_ok, ok_or_is}
+use Rattle.hx_calls.proofs.ResultLemmas.{and_then_ok, ok_or_is}
 use Rattle.hx_spell.proofs.RowLemmas.{◌&◌, EachRow, found_row}
 
 -- ---- rows of tables

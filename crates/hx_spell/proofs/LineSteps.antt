@@ -5,7 +5,7 @@ use Rattle.hx_ast.specs.declared.Part.{Part}
 use Rattle.hx_ast.specs.declared.Rule.{Rule}
 use Rattle.hx_ast.specs.declared.Statement.{Statement}
 use Rattle.hx_spell.specs.Actions.{Taken}
-use Rattle.hx_spell.specs.Known.{Reading}
+use Rattle.hx_calls.specs.Known.{Reading}
 use Rattle.hx_spell.specs.Lines.{When, backend}
 
 -- the rule of an action, and when it is taken

@@ -4,8 +4,8 @@ use Rattle.std.specs.Prelude.{option_map}
 use Rattle.hx_spell.specs.declared.line.TheConstants.{KEYWORDS, POLARITIES}
 use Rattle.hx_spell.specs.LineView.{keyword_of}
 use Rattle.hx_spell.specs.Lines.{keyword_table, polarity_table}
-use Rattle.hx_spell.specs.Tables.{entry_at}
-use Rattle.hx_spell.proofs.TableLemmas.{entry_at_map}
+use Rattle.hx_calls.specs.Tables.{entry_at}
+use Rattle.hx_calls.proofs.TableLemmas.{entry_at_map}
 
 pub keyword_row : (name : List ℕ)
     → entry_at keyword_table name

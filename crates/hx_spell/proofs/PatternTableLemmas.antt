@@ -4,8 +4,8 @@ use Rattle.std.specs.Prelude.{option_map}
 use Rattle.hx_spell.specs.declared.patterns.TheConstants.{OPERATORS}
 use Rattle.hx_spell.specs.PatternView.{key_after}
 use Rattle.hx_spell.specs.Patterns.{operator_table}
-use Rattle.hx_spell.specs.Tables.{entry_at}
-use Rattle.hx_spell.proofs.TableLemmas.{entry_at_map}
+use Rattle.hx_calls.specs.Tables.{entry_at}
+use Rattle.hx_calls.proofs.TableLemmas.{entry_at_map}
 
 pub operator_row : (name : List ℕ)
     → entry_at operator_table name

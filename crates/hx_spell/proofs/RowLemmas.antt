@@ -2,7 +2,7 @@
 use Rattle.std.proofs.Common.{◌≡◌, ℕ, Bool, true, false, List, [], ◌∷◌, Option, Some, refl, subst}
 use Rattle.std.specs.Prelude.{if◌then◌else◌}
 use Rattle.std.specs.Str.{bytes_eq}
-use Rattle.hx_spell.specs.Tables.{Table, entry_at}
+use Rattle.hx_calls.specs.Tables.{Table, entry_at}
 use Rattle.hx_spell.proofs.ConditionWordLemmas.{same_bytes}
 
 -- the first of several facts, and the others

@@ -18,25 +18,25 @@ use Rattle.hx_ast.specs.Statements.{is_redirect}
 use Rattle.hx_ast.specs.declared.Action.{Action}
 use Rattle.hx_ast.specs.declared.Action.TheVariants as action
 use Rattle.hx_ast.specs.declared.Part.{Part}
-use Rattle.hx_spell.specs.declared.fault.SpellFault.{SpellFault}
+use Rattle.hx_calls.specs.declared.fault.SpellFault.{SpellFault}
 use Rattle.hx_spell.specs.Actions.{ActionHead, AddAcl, AddHeader, Allow, Bare, BareAction, DelAcl, DelHeader, DelMap, Deny, FileAction, HeadMaker, OfFile, OfVariable, Redirect, ReplaceHeader, ReplaceValue, Set, SetHeader, SetMap, SetMethod, SetPath, SetQuery, SetUri, StrictMode, Taken, Unset, VariableAction}
 use Rattle.hx_spell.specs.Actions.{WordsReader, action_table, action_words, bare_head, bare_words, changes_map, expr_word, file_head, file_words, first_word, format_word, given_file, head_by, head_fault_by, head_of_step, header_word, is_status_word, kind_table, kind_word, optional_word, plain_word, redirect_status_of, status_of, switch_table, text_word, variable_head, variable_words, with_format, with_header_format, with_redirect, with_replacement, with_status, with_two_formats, word_and_value}
 use Rattle.hx_base.specs.Results.{◌>>=◌}
-use Rattle.hx_spell.specs.Arguments.{counted, is_count, read_form, required, single}
-use Rattle.hx_spell.specs.Codes.{bad_argument, bad_name}
-use Rattle.hx_spell.specs.Criteria.{expr_of}
-use Rattle.hx_spell.specs.Formats.{format_of}
+use Rattle.hx_calls.specs.Arguments.{counted, is_count, read_form, required, single}
+use Rattle.hx_calls.specs.Codes.{bad_argument, bad_name}
+use Rattle.hx_calls.specs.Criteria.{expr_of}
+use Rattle.hx_calls.specs.Formats.{format_of}
 use Rattle.hx_spell.specs.Heads.{ActionNames}
-use Rattle.hx_spell.specs.Forms.Form.{Variable}
-use Rattle.hx_spell.specs.Known.{Known, Reading}
-use Rattle.hx_spell.specs.Sound.{IsReference}
-use Rattle.hx_spell.specs.Tables.{Table, entry_at}
-use Rattle.hx_spell.specs.Values.{header_of, variable_name_of}
-use Rattle.hx_spell.proofs.FormLemmas.{header_such, variable_such, width_within}
+use Rattle.hx_calls.specs.Forms.Form.{Variable}
+use Rattle.hx_calls.specs.Known.{Known, Reading}
+use Rattle.hx_calls.specs.Sound.{IsReference}
+use Rattle.hx_calls.specs.Tables.{Table, entry_at}
+use Rattle.hx_calls.specs.Values.{header_of, variable_name_of}
+use Rattle.hx_calls.proofs.FormLemmas.{header_such, variable_such, width_within}
 use Rattle.hx_spell.proofs.HeadLemmas.{action_later}
-use Rattle.hx_spell.proofs.ResultLemmas.{ReadsSuch, ok_or_is, some_and_then, some_map}
-use Rattle.hx_spell.proofs.SoundExprLemmas.{IsKnownExpr, IsKnownFormat, expr_brings, format_brings, format_stays}
-use Rattle.hx_spell.proofs.SoundLemmas.{Brings, Grown, either_brings, file_brings, grown_refl, grown_trans, step_brings, tested_brings, then_brings, weaker_brings}
+use Rattle.hx_calls.proofs.ResultLemmas.{ReadsSuch, ok_or_is, some_and_then, some_map}
+use Rattle.hx_calls.proofs.SoundExprLemmas.{IsKnownExpr, IsKnownFormat, expr_brings, format_brings, format_stays}
+use Rattle.hx_calls.proofs.SoundLemmas.{Brings, Grown, either_brings, file_brings, grown_refl, grown_trans, step_brings, tested_brings, then_brings, weaker_brings}
 
 -- an action of the syntax, which names heads and references that are known
 abbrev pub IsKnownAction : Known → Action → Type 0

@@ -9,24 +9,27 @@ use Rattle.hx_text.specs.declared.By.{By}
 use Rattle.hx_ast.specs.declared.Decl.{Decl}
 use Rattle.hx_ast.specs.declared.Expr.{Expr}
 use Rattle.hx_ast.specs.Acls.{IsDecl, compares_texts, takes_patterns}
-use Rattle.hx_spell.specs.declared.fault.SpellFault.{SpellFault}
-use Rattle.hx_spell.specs.declared.table_specs.HeadSpec.{HeadSpec}
-use Rattle.hx_spell.specs.Codes.{bad_argument, unsupported}
+use Rattle.hx_calls.specs.declared.fault.SpellFault.{SpellFault}
+use Rattle.hx_calls.specs.declared.table_specs.HeadSpec.{HeadSpec}
+use Rattle.hx_calls.specs.Codes.{bad_argument, unsupported}
 use Rattle.hx_spell.specs.Declarations.{Way, decl_of, decl_reading, file_heads, has_no_patterns, heads_of_keys, ignores_case, pattern_decl, words_head}
 use Rattle.hx_spell.specs.Flags.{AfterFlags, Flag, Flags, Searched, flag_argument, method_table}
 use Rattle.hx_spell.specs.Flags.Flag.{IgnoreCase, TwoColumns, Numeric, File, Method, Number}
-use Rattle.hx_spell.specs.Heads.{DeclNames, IsHeadBy, NamesHead}
-use Rattle.hx_spell.specs.Known.{Known, Reading, reading, reference_form, with_acl, with_head, with_named_file, with_reference}
+use Rattle.hx_calls.specs.ExpressionHeads.{IsHeadBy, NamesHead}
+use Rattle.hx_spell.specs.Heads.{DeclNames}
+use Rattle.hx_calls.specs.Known.{Known, Reading, reading, reference_form, with_acl, with_head, with_named_file, with_reference}
 use Rattle.hx_spell.specs.Patterns.{keys_of}
 use Rattle.hx_spell.specs.AclRelation.{SpellDecl, SpellFlags, flag_alone}
 use Rattle.hx_spell.specs.AclRelation.SpellFlags.{NoFlags, FlagAlone, FlagWithArgument}
-use Rattle.hx_spell.specs.Sound.{IsReference}
-use Rattle.hx_spell.specs.Tables.{entry_at}
+use Rattle.hx_calls.specs.Sound.{IsReference}
+use Rattle.hx_calls.specs.Tables.{entry_at}
+use Rattle.hx_spell.proofs.AclSpellLemmas.{patterns_law}
+use Rattle.hx_spell.proofs.FlagLemmas.{writes_argument}
 use Rattle.hx_spell.proofs.DeclarationLemmas.{bare_decl, decl_is_decl, decl_law}
-use Rattle.hx_spell.proofs.HeadLemmas.{later_by, names_later}
-use Rattle.hx_spell.proofs.ResultLemmas.{and_then_ok, both}
-use Rattle.hx_spell.proofs.SoundExprLemmas.{criterion_grown}
-use Rattle.hx_spell.proofs.SoundLemmas.{Brings, Grown, IsKnownHead, ReadsHead, ReadsReference, acl_grown, brings_by, brought, grown_refl, grown_trans, head_grown, named_file_brings, reference_brings}
+use Rattle.hx_calls.proofs.ExpressionHeadLemmas.{later_by, names_later}
+use Rattle.hx_calls.proofs.ResultLemmas.{and_then_ok, both}
+use Rattle.hx_calls.proofs.SoundExprLemmas.{criterion_grown}
+use Rattle.hx_calls.proofs.SoundLemmas.{Brings, Grown, IsKnownHead, ReadsHead, ReadsReference, acl_grown, brings_by, brought, grown_refl, grown_trans, head_grown, named_file_brings, reference_brings}
 
 -- ---- flags
 
@@ -122,7 +125,8 @@ flags_after line _ _ _ (FlagAlone flag before after changed words alone others) 
 flags_after line _ _ _
     (FlagWithArgument flag text before changed after words takes stands read others) have =
     let (grown, there) =
-    argument_after line flag text before.value before.known changed read have in
+    argument_after line flag text before.value before.known changed
+    (writes_argument line flag text before.value before.known changed read) have in
     let (later, all) = flags_after line changed words after others there in
     (grown_trans before.known changed.known after.known grown later, all)
 
@@ -295,7 +299,8 @@ decl_grown line before text words read w =
     let after : AfterFlags = record { flags = w.flags.value; words = w.patterns } in
     let (made, heads) =
     by_after (takes_patterns w.way.by) line expr after w.flags.known w.way read refl have
-    (convs_later criterion.known w.flags.known expr flagged names) w.is in (
+    (convs_later criterion.known w.flags.known expr flagged names)
+    ((patterns_law line expr w.way w.flags w.patterns read).1 w.with_patterns) in (
       grown_trans before criterion.known read.known grown
           (grown_trans criterion.known w.flags.known read.known flagged made),
       heads,

@@ -16,9 +16,9 @@ use Rattle.hx_ast.specs.declared.Statement.{Statement}
 use Rattle.hx_ast.specs.declared.Statement.TheVariants as statement
 use Rattle.hx_ast.specs.declared.AclUse.{AclUse}
 use Rattle.hx_ast.specs.declared.Term.{Term}
-use Rattle.hx_spell.specs.declared.fault.SpellFault.{SpellFault}
+use Rattle.hx_calls.specs.declared.fault.SpellFault.{SpellFault}
 use Rattle.hx_spell.specs.Actions.{Taken, action_words, format_word, head_of_step, with_redirect}
-use Rattle.hx_spell.specs.Codes.{bad_argument, bad_name, misplaced}
+use Rattle.hx_calls.specs.Codes.{bad_argument, bad_name, misplaced}
 use Rattle.hx_spell.specs.ConditionRelation.{SpellCond, SpellConj, SpellTerm, SpellUse}
 use Rattle.hx_spell.specs.ConditionRelation.SpellUse.{NamedUse, OwnUse}
 use Rattle.hx_spell.specs.ConditionRelation.SpellCond.{LastConj, NextConj}
@@ -26,19 +26,19 @@ use Rattle.hx_spell.specs.ConditionRelation.SpellConj.{LastTerm, NextTerm}
 use Rattle.hx_spell.specs.Conditions.{cond_of, is_acl_name, is_name}
 use Rattle.hx_spell.specs.Declarations.{decl_of}
 use Rattle.hx_spell.specs.Heads.{CondNames, ConjNames, RuleNames, StatementNames, UseNames}
-use Rattle.hx_spell.specs.Known.{Known, ReadsAs, Reading}
+use Rattle.hx_calls.specs.Known.{Known, ReadsAs, Reading}
 use Rattle.hx_spell.specs.Lines.{Keyword, When, acl_after_name, acl_of, backend_of, fallback_named, keyword_statement, keyword_table, line_of, mode_fault, option_fault, placed_frontend_fault, plain_unless, polarity_table, redirect_of, rule_of, rule_reading, rule_statement, when_of, is_empty}
 use Rattle.hx_spell.specs.Lines.Keyword.{Acl, DefaultBackend, Frontend, HttpRequest, Ignored, Mode, Options, Redirect, UseBackend}
-use Rattle.hx_spell.specs.Sound.{IsSound}
-use Rattle.hx_spell.specs.Tables.{entry_at}
+use Rattle.hx_calls.specs.Sound.{IsSound}
+use Rattle.hx_calls.specs.Tables.{entry_at}
 use Rattle.hx_spell.proofs.ConditionLemmas.{cond_gives, cond_law}
 use Rattle.hx_spell.proofs.ConditionWordLemmas.{name_is}
 use Rattle.hx_spell.proofs.HeadLemmas.{conj_later, use_later}
-use Rattle.hx_spell.proofs.ResultLemmas.{both, given_value}
+use Rattle.hx_calls.proofs.ResultLemmas.{both, given_value}
 use Rattle.hx_spell.proofs.SoundActionLemmas.{IsKnownAction, IsKnownName, IsKnownRedirect, Takes, action_reads, action_stays, format_reads, head_brings, redirect_reads}
 use Rattle.hx_spell.proofs.SoundDeclLemmas.{IsKnownDecl, decl_brings, decl_grown}
-use Rattle.hx_spell.proofs.SoundExprLemmas.{IsKnownFormat, format_stays}
-use Rattle.hx_spell.proofs.SoundLemmas.{Brings, Grown, brings_by, brought, fallback_grown, grown_refl, grown_trans, name_grown, statement_grown, step_brings, tested_brings, then_brings}
+use Rattle.hx_calls.proofs.SoundExprLemmas.{IsKnownFormat, format_stays}
+use Rattle.hx_calls.proofs.SoundLemmas.{Brings, Grown, brings_by, brought, fallback_grown, grown_refl, grown_trans, name_grown, statement_grown, step_brings, tested_brings, then_brings}
 
 -- ---- conditions
 

@@ -1,5 +1,5 @@
 -- Actions, and the words that spell them (HAProxy configuration manual 2.4, section 4.2).
-use Rattle.std.specs.Prelude.{◌≡◌, ◌⊎◌, ℕ, Bool, true, false, List, [], ◌∷◌, ◌++◌, codes, Option, None, Some, Ok, if◌then◌else◌}
+use Rattle.std.specs.Prelude.{◌≡◌, ◌⊎◌, ℕ, Bool, true, false, List, [], ◌∷◌, ◌++◌, codes, Option, None, Some, if◌then◌else◌}
 use Rattle.httparse.specs.Grammar.{IsToken}
 use Rattle.hx_text.specs.declared.VarName.{VarName}
 use Rattle.hx_words.specs.Spelling.{SpellsCall}
@@ -10,10 +10,10 @@ use Rattle.hx_ast.specs.declared.Part.{Part}
 use Rattle.hx_ast.specs.declared.RedirectKind.{RedirectKind}
 use Rattle.hx_ast.specs.declared.RedirectKind.TheVariants as kind
 use Rattle.hx_spell.specs.Actions.{redirect_status_of, status_of}
-use Rattle.hx_spell.specs.ExpressionRelation.{WritesExpr}
-use Rattle.hx_spell.specs.FormatRelation.{WritesFormat}
-use Rattle.hx_spell.specs.Known.{Known, Reading, with_file, reading}
-use Rattle.hx_spell.specs.Values.{variable_name_of}
+use Rattle.hx_calls.specs.ExpressionRelation.{HasPosition, WritesExpr}
+use Rattle.hx_calls.specs.FormatRelation.{WritesFormat}
+use Rattle.hx_calls.specs.Forms.{WritesVariable}
+use Rattle.hx_calls.specs.Known.{Known, Reading, reading}
 
 -- ---- parts
 
@@ -108,22 +108,22 @@ pub data SpellAction (line : ℕ) (before : Known) : List (List ℕ) → Reading
       → SpellAction line before (word ∷ header ∷ expression ∷ text ∷ [])
       (reading (make header expression format.value) format.known)
   SetVarWords : (arg word text : List ℕ) (variable : VarName) (expr : Reading Expr)
-      → IsCall (codes "set-var") arg word → variable_name_of arg ≡ Some variable
+      → IsCall (codes "set-var") arg word → WritesVariable arg variable
       → WritesExpr None line before text expr
       → SpellAction line before (word ∷ text ∷ [])
       (reading (action.SetVar variable expr.value) expr.known)
   UnsetVarWords : (arg word : List ℕ) (variable : VarName)
-      → IsCall (codes "unset-var") arg word → variable_name_of arg ≡ Some variable
+      → IsCall (codes "unset-var") arg word → WritesVariable arg variable
       → SpellAction line before (word ∷ []) (reading (action.UnsetVar variable) before)
   FileFormatWords : (name arg word text : List ℕ) (two : Bool) (make : ℕ → List Part → Action)
       (file : Reading ℕ) (format : Reading (List Part))
       → TakesFileFormat name two make → IsCall name arg word
-      → with_file line arg two before ≡ Ok file → WritesFormat line file.known text format
+      → HasPosition line arg two before file → WritesFormat line file.known text format
       → SpellAction line before (word ∷ text ∷ [])
       (reading (make file.value format.value) format.known)
   SetMapWords : (arg word key_text value_text : List ℕ) (file : Reading ℕ)
       (key value : Reading (List Part))
-      → IsCall (codes "set-map") arg word → with_file line arg true before ≡ Ok file
+      → IsCall (codes "set-map") arg word → HasPosition line arg true before file
       → WritesFormat line file.known key_text key → WritesFormat line key.known value_text value
       → SpellAction line before (word ∷ key_text ∷ value_text ∷ [])
       (reading (action.SetMap file.value key.value value.value) value.known)

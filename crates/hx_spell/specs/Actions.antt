@@ -23,16 +23,16 @@ pub use Rattle.hx_spell.specs.declared.action_table.FileAction.{FileAction}
 pub use Rattle.hx_spell.specs.declared.action_table.FileAction.TheVariants.{AddAcl, DelAcl, DelMap, SetMap}
 pub use Rattle.hx_spell.specs.declared.action_table.VariableAction.{VariableAction}
 pub use Rattle.hx_spell.specs.declared.action_table.VariableAction.TheVariants.{Set, Unset}
-use Rattle.hx_spell.specs.declared.fault.SpellFault.{SpellFault}
+use Rattle.hx_calls.specs.declared.fault.SpellFault.{SpellFault}
 use Rattle.hx_base.specs.Results.{◌>>=◌}
-use Rattle.hx_spell.specs.Arguments.{bare, counted, read_form, single}
-use Rattle.hx_spell.specs.Codes.{bad_argument, bad_name, form_fault, unsupported}
-use Rattle.hx_spell.specs.Criteria.{expr_of}
-use Rattle.hx_spell.specs.Formats.{format_of}
-use Rattle.hx_spell.specs.Forms.Form.{Variable}
-use Rattle.hx_spell.specs.Known.{Known, Reading, with_file, reading}
-use Rattle.hx_spell.specs.Tables.{Table, entry_at}
-use Rattle.hx_spell.specs.Values.{header_of}
+use Rattle.hx_calls.specs.Arguments.{bare, counted, read_form, single}
+use Rattle.hx_calls.specs.Codes.{bad_argument, bad_name, form_fault, unsupported}
+use Rattle.hx_calls.specs.Criteria.{expr_of}
+use Rattle.hx_calls.specs.Formats.{format_of}
+use Rattle.hx_calls.specs.Forms.Form.{Variable}
+use Rattle.hx_calls.specs.Known.{Known, Reading, with_file, reading}
+use Rattle.hx_calls.specs.Tables.{Table, entry_at}
+use Rattle.hx_calls.specs.Values.{header_of}
 
 -- ---- the word of an action, which has a variable or the position of a file in its parentheses
 

@@ -9,8 +9,8 @@ use Rattle.hx_ast.specs.declared.AclUse.TheVariants.{Named, Own}
 use Rattle.hx_ast.specs.declared.Decl.{Decl}
 use Rattle.hx_ast.specs.declared.Term.{Term}
 use Rattle.hx_spell.specs.AclRelation.{SpellDecl}
-use Rattle.hx_spell.specs.Conditions.{is_known_acl, is_odd}
-use Rattle.hx_spell.specs.Known.{Known, Reading, reading}
+use Rattle.hx_spell.specs.Conditions.{is_odd}
+use Rattle.hx_calls.specs.Known.{Known, Reading, is_known_acl, reading}
 use Rattle.hx_spell.specs.Lines.{When}
 
 -- ---- terms

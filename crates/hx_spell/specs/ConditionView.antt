@@ -3,12 +3,12 @@ use Rattle.std.specs.Prelude.{◌≡◌, ◌≢◌, ℕ, Bool, List, [], codes, 
 use Rattle.std.specs.Str.{bytes_eq}
 use Rattle.hx_ast.specs.declared.Term.{Term}
 use Rattle.hx_spell.specs.declared.conditions.Gathered.{Gathered}
-use Rattle.hx_spell.specs.declared.fault.SpellFault.{SpellFault}
-use Rattle.hx_spell.specs.declared.fault.SpellFault.TheVariants as spell
+use Rattle.hx_calls.specs.declared.fault.SpellFault.{SpellFault}
+use Rattle.hx_calls.specs.declared.fault.SpellFault.TheVariants as spell
 use Rattle.hx_base.specs.Results.{◌>>=◌}
-use Rattle.hx_spell.specs.Codes.{bad_condition}
+use Rattle.hx_calls.specs.Codes.{bad_condition}
 use Rattle.hx_spell.specs.Conditions.{Terms, after_marks_word, cond_from, own_decl, with_marks}
-use Rattle.hx_spell.specs.Known.{Known, Reading, reading}
+use Rattle.hx_calls.specs.Known.{Known, Reading, reading}
 
 -- the terms that are gathered, outside braces
 abbrev pub terms_of : Gathered → Terms

@@ -1,7 +1,7 @@
 -- Conditions: conjunctions with `or` or `||` between them; a conjunction is one term or more, each
 -- with any number of `!` before it (HAProxy configuration manual 2.4, section 7.2).
 use Rattle.std.specs.Prelude.{ℕ, ◌%◌, ◌==◌, ◌&&◌, ◌||◌, Bool, true, false, not, List, [], ◌∷◌, ◌++◌, length, drop, codes, nat_lt, Option, Some, None, Result, Ok, Err, if◌then◌else◌}
-use Rattle.std.specs.List.{list_all, list_any, prefix_len}
+use Rattle.std.specs.List.{list_all, prefix_len}
 use Rattle.std.specs.Str.{bytes_eq}
 use Rattle.hx_base.specs.Bytes.{ascii}
 use Rattle.hx_ast.specs.declared.AclUse.{AclUse}
@@ -9,12 +9,11 @@ use Rattle.hx_ast.specs.declared.AclUse.TheVariants.{Named, Own}
 use Rattle.hx_ast.specs.declared.Decl.{Decl}
 use Rattle.hx_ast.specs.declared.Term.{Term}
 use Rattle.hx_ast.specs.Acls.{is_name_byte}
-use Rattle.hx_ast.specs.Predefined.{predefined_names}
-use Rattle.hx_spell.specs.declared.fault.SpellFault.{SpellFault}
-use Rattle.hx_spell.specs.Codes.{bad_condition, unknown_acl}
+use Rattle.hx_calls.specs.declared.fault.SpellFault.{SpellFault}
+use Rattle.hx_calls.specs.Codes.{bad_condition, unknown_acl}
 use Rattle.hx_base.specs.Results.{◌>>=◌}
 use Rattle.hx_spell.specs.Declarations.{decl_of}
-use Rattle.hx_spell.specs.Known.{Known, Reading, reading}
+use Rattle.hx_calls.specs.Known.{Known, Reading, is_known_acl, reading}
 
 -- ---- names
 
@@ -25,11 +24,6 @@ is_name name = nat_lt 0 (length name) && list_all is_name_byte name
 -- a name of an ACL, which isn't `or`
 abbrev pub is_acl_name : List ℕ → Bool
 is_acl_name name = is_name name && not (bytes_eq name (codes "or"))
-
--- an ACL of this name is declared on an earlier line, or predefined
-abbrev pub is_known_acl : Known → List ℕ → Bool
-is_known_acl known name =
-    list_any (bytes_eq name) known.names || list_any (bytes_eq name) predefined_names
 
 -- ---- words
 

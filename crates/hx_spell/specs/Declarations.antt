@@ -9,12 +9,12 @@ use Rattle.hx_ast.specs.declared.Decl.{Decl}
 use Rattle.hx_ast.specs.declared.Expr.{Expr}
 use Rattle.hx_ast.specs.Acls.{compares_texts, takes_patterns}
 use Rattle.hx_ast.specs.Types.{expr_kind}
-use Rattle.hx_spell.specs.declared.fault.SpellFault.{SpellFault}
-use Rattle.hx_spell.specs.Codes.{bad_argument}
+use Rattle.hx_calls.specs.declared.fault.SpellFault.{SpellFault}
+use Rattle.hx_calls.specs.Codes.{bad_argument}
 use Rattle.hx_base.specs.Results.{◌>>=◌}
-use Rattle.hx_spell.specs.Criteria.{criterion_of}
+use Rattle.hx_calls.specs.Criteria.{criterion_of}
 use Rattle.hx_spell.specs.Flags.{AfterFlags, Flags, Searched, flags_from, no_flags}
-use Rattle.hx_spell.specs.Known.{Known, Reading, reference_form, with_acl, with_head, with_reference, reading}
+use Rattle.hx_calls.specs.Known.{Known, Reading, reference_form, with_acl, with_head, with_reference, reading}
 use Rattle.hx_spell.specs.Patterns.{keys_of}
 
 -- a match method, and whether it ignores the case of letters in all that it compares
@@ -22,20 +22,21 @@ pub record Way : Type 0 where
   pub by : By
   pub folds : Bool
 
-abbrev pub way_by : By → Bool → Result Way SpellFault
-way_by by folds = Ok (record { by = by; folds = folds })
+abbrev pub way_by : By → Bool → Way
+way_by by folds = record { by = by; folds = folds }
 
 -- the way of an ACL whose method isn't said: by the type of its values
 abbrev pub way_of_kind : Kind → Result Way SpellFault
-way_of_kind kind.Bool = way_by method.Bool false
-way_of_kind kind.Int = way_by method.Int false
-way_of_kind kind.Ip = way_by method.Ip false
-way_of_kind kind.Str = way_by method.Str false
-way_of_kind kind.Method = way_by method.Str true
+way_of_kind kind.Bool = Ok (way_by method.Bool false)
+way_of_kind kind.Int = Ok (way_by method.Int false)
+way_of_kind kind.Ip = Ok (way_by method.Ip false)
+way_of_kind kind.Str = Ok (way_by method.Str false)
+way_of_kind kind.Method = Ok (way_by method.Str true)
 way_of_kind _ = Err bad_argument
 
 abbrev pub way_of : Expr → Option By → Result Way SpellFault
-way_of expr by = option_map_or (λ given. way_by given false) by (way_of_kind (expr_kind expr))
+way_of expr by =
+    option_map_or (λ given. Ok (way_by given false)) by (way_of_kind (expr_kind expr))
 
 -- whether case is ignored: where the method compares texts, and it is said or goes by itself
 abbrev pub ignores_case : Way → Bool → Bool
@@ -58,6 +59,10 @@ words_head way ci place =
     with_head (record { table = place.value; by = way.by; ci = ignores_case way ci })
     (with_acl place.value place.known)
 
+-- these heads, and one more
+abbrev pub with_last_head : Reading (List ℕ) → Reading ℕ → Reading (List ℕ)
+with_last_head heads last = reading (heads.value ++ last.value ∷ []) last.known
+
 -- The heads of the files and, where there are inline patterns, one more for these; a number that is
 -- given is theirs, so it doesn't stand without them. The fault of a word, if there is one, is told
 -- after the reference is brought.
@@ -67,8 +72,7 @@ heads_of_keys line way flags [] fault files =
     option_map_or Err fault (if is_some flags.given then Err bad_argument else Ok files)
 heads_of_keys line way flags (key ∷ keys) fault files = do
   place ← with_reference (reference_form None flags.given false line (key ∷ keys)) files.known
-  let last = words_head way flags.ci place
-  option_map_or Err fault (Ok (reading (files.value ++ last.value ∷ []) last.known))
+  option_map_or Err fault (Ok (with_last_head files (words_head way flags.ci place)))
 
 -- ---- the whole
 

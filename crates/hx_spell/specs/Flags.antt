@@ -8,11 +8,11 @@ use Rattle.hx_text.specs.declared.By.{By}
 use Rattle.hx_text.specs.Methods.{method_name, methods}
 use Rattle.hx_text.specs.Network.{width_of}
 use Rattle.hx_ast.specs.Acls.{takes_patterns}
-use Rattle.hx_spell.specs.declared.fault.SpellFault.{SpellFault}
-use Rattle.hx_spell.specs.Codes.{bad_argument, unsupported}
+use Rattle.hx_calls.specs.declared.fault.SpellFault.{SpellFault}
+use Rattle.hx_calls.specs.Codes.{bad_argument, unsupported}
 use Rattle.hx_base.specs.Results.{◌>>=◌}
-use Rattle.hx_spell.specs.Known.{Known, Reading, with_acl, with_named_file, reading}
-use Rattle.hx_spell.specs.Tables.{Table, entry_at}
+use Rattle.hx_calls.specs.Known.{Known, Reading, with_acl, with_named_file, reading}
+use Rattle.hx_calls.specs.Tables.{Table, entry_at}
 
 -- the reference of a file that an ACL searches, and whether it ignores the case of letters there
 pub record Searched : Type 0 where

@@ -1,33 +1,19 @@
 -- Which heads a statement names: those of its ACLs, and those of the maps in its expressions; and
 -- which references it changes (HAProxy configuration manual 2.4, sections 4.2, 7.1 and 7.3.1,
 -- `map`).
-use Rattle.std.specs.Prelude.{◌≡◌, ℕ, ◌<◌, List, length, slice_get, IfSome, ⊤}
+use Rattle.std.specs.Prelude.{ℕ, ◌<◌, List, IfSome, ⊤}
 use Rattle.std.specs.List.{All}
-use Rattle.hx_text.specs.declared.By.{By}
 use Rattle.hx_ast.specs.declared.AclUse.{AclUse}
 use Rattle.hx_ast.specs.declared.AclUse.TheVariants.{Named, Own}
-use Rattle.hx_ast.specs.declared.Conv.{Conv}
-use Rattle.hx_ast.specs.declared.Conv.TheVariants as conv
 use Rattle.hx_ast.specs.declared.Action.{Action}
 use Rattle.hx_ast.specs.declared.Action.TheVariants as action
 use Rattle.hx_ast.specs.declared.Decl.{Decl}
-use Rattle.hx_ast.specs.declared.Expr.{Expr}
-use Rattle.hx_ast.specs.declared.Part.{Part}
-use Rattle.hx_ast.specs.declared.Part.TheVariants.{Text, Value}
 use Rattle.hx_ast.specs.declared.Rule.{Rule}
 use Rattle.hx_ast.specs.declared.Statement.{Statement}
 use Rattle.hx_ast.specs.declared.Statement.TheVariants as statement
 use Rattle.hx_ast.specs.declared.Term.{Term}
-use Rattle.hx_spell.specs.declared.table_specs.HeadSpec.{HeadSpec}
-
--- the number of a head, which searches by this method
-abbrev pub IsHeadBy : List HeadSpec → By → ℕ → Type 0
-IsHeadBy heads by h = (h < length heads) × IfSome (slice_get heads h) (λ head. head.by ≡ by)
-
--- a converter that looks up in a map names a head with its method
-abbrev pub NamesHead : List HeadSpec → Conv → Type 0
-NamesHead heads (conv.Map head by out default) = IsHeadBy heads by head
-NamesHead heads _ = ⊤
+use Rattle.hx_calls.specs.ExpressionHeads.{ExprNames, FormatNames, IsHeadBy, NamesHead}
+use Rattle.hx_calls.specs.declared.table_specs.HeadSpec.{HeadSpec}
 
 -- each head that an ACL names is there, with the method of the ACL or of the map
 pub record DeclNames (heads : List HeadSpec) (decl : Decl) : Type 0 where
@@ -43,17 +29,6 @@ ConjNames heads terms = All (λ term. UseNames heads term.acl) terms
 
 abbrev pub CondNames : List HeadSpec → List (List Term) → Type 0
 CondNames heads cond = All (ConjNames heads) cond
-
--- the maps of an expression
-abbrev pub ExprNames : List HeadSpec → Expr → Type 0
-ExprNames heads expr = All (NamesHead heads) expr.convs
-
-abbrev pub PartNames : List HeadSpec → Part → Type 0
-PartNames heads (Text bytes) = ⊤
-PartNames heads (Value expr) = ExprNames heads expr
-
-abbrev pub FormatNames : List HeadSpec → List Part → Type 0
-FormatNames heads format = All (PartNames heads) format
 
 -- the position of one of so many references
 abbrev pub IsTable : ℕ → ℕ → Type 0

@@ -1,33 +1,19 @@
 -- What callers need, the relation first.
-pub mod Forms
-pub mod Codes
-pub mod Values
-pub mod Arguments
-pub mod Tables
-pub mod Expressions
-pub mod Known
-pub mod TableSpecs
-pub mod Sound
-pub mod Criteria
 pub mod Flags
 pub mod Patterns
 pub mod Declarations
 pub mod Conditions
-pub mod Formats
 pub mod Actions
 pub mod Lines
-pub mod ExpressionRelation
+pub mod PatternRelation
 pub mod AclRelation
 pub mod ConditionRelation
-pub mod FormatRelation
 pub mod ActionRelation
 pub mod Relation
 pub mod Heads
 -- Views of the code, for private contracts alone:
-pub mod KnownView
 pub mod FlagView
 pub mod PatternView
-pub mod FormatView
 pub mod ActionView
 pub mod ConditionView
 pub mod LineView

@@ -12,14 +12,14 @@ use Rattle.hx_ast.specs.declared.Rule.{Rule}
 use Rattle.hx_ast.specs.declared.Statement.{Statement}
 use Rattle.hx_ast.specs.declared.Statement.TheVariants as statement
 use Rattle.hx_ast.specs.declared.Term.{Term}
-use Rattle.hx_spell.specs.declared.fault.SpellFault.{SpellFault}
+use Rattle.hx_calls.specs.declared.fault.SpellFault.{SpellFault}
 use Rattle.hx_spell.specs.Actions.{Taken, action_words, format_word, head_of_step, with_redirect}
 use Rattle.hx_base.specs.Results.{◌>>=◌}
-use Rattle.hx_spell.specs.Codes.{bad_argument, bad_name, misplaced, unsupported}
+use Rattle.hx_calls.specs.Codes.{bad_argument, bad_name, misplaced, unsupported}
 use Rattle.hx_spell.specs.Conditions.{cond_of, is_acl_name, is_name}
 use Rattle.hx_spell.specs.Declarations.{decl_of}
-use Rattle.hx_spell.specs.Known.{Known, Reading, after_statement, with_fallback, with_name, reading}
-use Rattle.hx_spell.specs.Tables.{Table, entry_at}
+use Rattle.hx_calls.specs.Known.{Known, Reading, after_statement, with_fallback, with_name, reading}
+use Rattle.hx_calls.specs.Tables.{Table, entry_at}
 
 -- ---- statements without a part in the rules
 

@@ -7,7 +7,7 @@ use Rattle.hx_text.specs.Number.{int_of}
 use Rattle.hx_spell.specs.declared.patterns.Operator.{Operator}
 use Rattle.hx_spell.specs.declared.patterns.Operator.TheVariants.{Equal, AtLeast, Above, AtMost, Below}
 use Rattle.hx_spell.specs.Patterns.{from_text, up_to_text}
-use Rattle.hx_spell.specs.Values.{is_among}
+use Rattle.hx_calls.specs.Values.{is_among}
 
 -- the key of a word that is no range, and that writes this number, if it writes one
 abbrev pub operator_key : Operator → List ℕ → Option ℤ → List ℕ

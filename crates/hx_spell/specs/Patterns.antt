@@ -8,10 +8,10 @@ use Rattle.hx_base.specs.Bytes.{ascii}
 use Rattle.hx_text.specs.declared.By.{By}
 use Rattle.hx_text.specs.declared.By.TheVariants as method
 use Rattle.hx_text.specs.Number.{int_of}
-use Rattle.hx_spell.specs.declared.fault.SpellFault.{SpellFault}
-use Rattle.hx_spell.specs.Codes.{bad_argument}
-use Rattle.hx_spell.specs.Tables.{Table, entry_at}
-use Rattle.hx_spell.specs.Values.{is_among}
+use Rattle.hx_calls.specs.declared.fault.SpellFault.{SpellFault}
+use Rattle.hx_calls.specs.Codes.{bad_argument}
+use Rattle.hx_calls.specs.Tables.{Table, entry_at}
+use Rattle.hx_calls.specs.Values.{is_among}
 
 -- numbers from this text on, and up to it
 abbrev pub from_text : List ℕ → List ℕ

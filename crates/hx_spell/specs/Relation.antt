@@ -15,8 +15,8 @@ use Rattle.hx_spell.specs.AclRelation.{SpellDecl}
 use Rattle.hx_spell.specs.ActionRelation.{SpellAction, SpellRedirect}
 use Rattle.hx_spell.specs.ConditionRelation.{SpellWhen}
 use Rattle.hx_spell.specs.Conditions.{is_name}
-use Rattle.hx_spell.specs.FormatRelation.{WritesFormat}
-use Rattle.hx_spell.specs.Known.{Known, Reading, reading, with_name}
+use Rattle.hx_calls.specs.FormatRelation.{WritesFormat}
+use Rattle.hx_calls.specs.Known.{Known, Reading, reading, with_name}
 use Rattle.hx_spell.specs.Lines.{When, plain_options}
 
 -- the words that change no rule

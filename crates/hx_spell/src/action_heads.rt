@@ -4,15 +4,14 @@ ghost use Rattle.hx_words.specs.StepView.{step_view};
 ghost use Rattle.hx_spell.specs.ActionView.{head_maker};
 ghost use Rattle.hx_spell.specs.Actions.{action_table, changes_map, file_head, given_file};
 ghost use Rattle.hx_spell.specs.Actions.{head_by, head_of_step};
-ghost use Rattle.hx_spell.specs.Known.{Extends, ReadsAs};
-ghost use Rattle.hx_spell.specs.Tables.{entry_at};
+ghost use Rattle.hx_calls.specs.Known.{Extends, ReadsAs};
+ghost use Rattle.hx_calls.specs.Tables.{entry_at};
 
 use crate::action_table::{ACTIONS, ActionHead, ActionName, FileAction};
-use crate::arguments::{bare, counted, required};
-use crate::fault::{BAD_ARGUMENT, SpellFault, UNSUPPORTED, form_fault};
-use crate::forms::Variable;
-use crate::known::Knowledge;
-use crate::lookup::lookup;
+use hx_calls::lookup::lookup;
+use hx_calls::{
+    BAD_ARGUMENT, Knowledge, SpellFault, UNSUPPORTED, Variable, bare, counted, form_fault, required,
+};
 use hx_words::{Call, CallStep, next_call};
 use std::alloc::Global;
 

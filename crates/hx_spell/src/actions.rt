@@ -10,18 +10,16 @@ ghost use Rattle.hx_spell.specs.Actions.{with_expr, with_format, with_header_for
 ghost use Rattle.hx_spell.specs.Actions.{with_name_of_header, with_redirect, with_replacement};
 ghost use Rattle.hx_spell.specs.Actions.{with_status, with_switch, with_two_formats};
 ghost use Rattle.hx_spell.specs.Actions.{word_and_value};
-ghost use Rattle.hx_spell.specs.Known.{Extends, Known, ReadsAs};
-ghost use Rattle.hx_spell.specs.Tables.{entry_at};
+ghost use Rattle.hx_calls.specs.Known.{Extends, Known, ReadsAs};
+ghost use Rattle.hx_calls.specs.Tables.{entry_at};
 
 use crate::action_table::{ActionHead, BareAction, FileAction, KINDS, SWITCHES, VariableAction};
-use crate::expression::{ExprRead, expr_of};
-use crate::fault::{BAD_ARGUMENT, BAD_NAME, SpellFault};
-use crate::formats::format_of;
-use crate::known::Knowledge;
-use crate::lookup::lookup;
 use crate::taken::Taken;
-use crate::values::{header, width};
 use hx_ast::{Action, Expr, Format, RedirectKind};
+use hx_calls::lookup::lookup;
+use hx_calls::{
+    BAD_ARGUMENT, BAD_NAME, ExprRead, Knowledge, SpellFault, expr_of, format_of, header, width,
+};
 use hx_text::{Octets, VarName};
 use std::alloc::Global;
 

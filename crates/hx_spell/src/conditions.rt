@@ -7,12 +7,11 @@ ghost use Rattle.hx_spell.specs.Conditions.{is_name, is_or, marks_of, named_term
 ghost use Rattle.hx_spell.specs.Conditions.{own_decl, with_term};
 ghost use Rattle.hx_spell.specs.ConditionView.{Becomes, RefusedAs, is_closing, marked, opened};
 ghost use Rattle.hx_spell.specs.ConditionView.{terms_of, unclosed, unmarked};
-ghost use Rattle.hx_spell.specs.Known.{ReadsAs, Extends};
+ghost use Rattle.hx_calls.specs.Known.{ReadsAs, Extends};
 
 use crate::declarations::decl_of;
-use crate::fault::{BAD_CONDITION, SpellFault, UNKNOWN_ACL};
-use crate::known::Knowledge;
 use hx_ast::{AclUse, Cond, Conj, Decl, Items, Term};
+use hx_calls::{BAD_CONDITION, Knowledge, SpellFault, UNKNOWN_ACL};
 use hx_text::{NoMemory, Octets};
 use std::alloc::Global;
 use std::mem;

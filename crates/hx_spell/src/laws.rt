@@ -2,11 +2,11 @@
 //! runs.
 ghost use Rattle.std.specs.Prelude.{◌≡◌, ◌≢◌, ◌↔◌, ℕ, Ok, Err};
 ghost use Rattle.hx_ast.specs.declared.Statement.{Statement};
-ghost use Rattle.hx_spell.specs.Known.{Known, Reading};
+ghost use Rattle.hx_calls.specs.Known.{Known, Reading};
 ghost use Rattle.hx_spell.specs.Lines.{line_of};
 ghost use Rattle.hx_spell.specs.Relation.{SpellLine};
 
-use crate::fault::SpellFault;
+use hx_calls::SpellFault;
 use hx_text::Octets;
 
 /// Words are read as the statement that they spell, and as no other, whatever the lines before them

@@ -1,24 +1,23 @@
 ghost use Rattle.std.specs.Prelude.{◌≡◌, OnErr, option_map};
 ghost use Rattle.std.specs.List.{list_any};
 ghost use Rattle.std.specs.Str.{bytes_eq};
-ghost use Rattle.hx_spell.specs.Known.{Known, ReadsAs, Extends};
+ghost use Rattle.hx_calls.specs.Known.{Known, ReadsAs, Extends};
 ghost use Rattle.hx_spell.specs.Lines.{acl_after_name, acl_of, backend_of, fallback_of};
 ghost use Rattle.hx_spell.specs.Lines.{frontend_fault, keyword_statement, keyword_table, line_of};
 ghost use Rattle.hx_spell.specs.Lines.{mode_fault, option_fault, placed_frontend_fault};
 ghost use Rattle.hx_spell.specs.Lines.{plain_options, plain_unless, polarity_table, redirect_of};
 ghost use Rattle.hx_spell.specs.Lines.{rule_of, rule_reading, when_of};
 ghost use Rattle.hx_spell.specs.LineView.{keyword_of};
-ghost use Rattle.hx_spell.specs.Tables.{entry_at};
+ghost use Rattle.hx_calls.specs.Tables.{entry_at};
 
 use crate::action_heads::action_head;
 use crate::actions::{action_words, format_word, redirect};
 use crate::conditions::{cond_of, is_acl_name, is_name};
 use crate::declarations::decl_of;
-use crate::fault::{BAD_ARGUMENT, BAD_NAME, MISPLACED, SpellFault, UNSUPPORTED};
-use crate::known::Knowledge;
-use crate::lookup::lookup;
 use crate::taken::Taken;
 use hx_ast::{Action, Cond, Rule, Statement};
+use hx_calls::lookup::lookup;
+use hx_calls::{BAD_ARGUMENT, BAD_NAME, Knowledge, MISPLACED, SpellFault, UNSUPPORTED};
 use hx_text::Octets;
 use std::alloc::Global;
 use std::marker::Model;

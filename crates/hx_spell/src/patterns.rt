@@ -4,12 +4,11 @@ ghost use Rattle.hx_text.specs.Number.{int_of};
 ghost use Rattle.hx_spell.specs.Patterns.{compares_numbers, equal, from_text, keys_of};
 ghost use Rattle.hx_spell.specs.Patterns.{number_keys, operator_table, up_to_text};
 ghost use Rattle.hx_spell.specs.PatternView.{allows_range, key_after, operator_key};
-ghost use Rattle.hx_spell.specs.Tables.{entry_at};
+ghost use Rattle.hx_calls.specs.Tables.{entry_at};
 
-use crate::fault::{BAD_ARGUMENT, SpellFault};
-use crate::lookup::lookup;
-use crate::values::is_among;
 use hx_ast::{Items, Texts};
+use hx_calls::lookup::lookup;
+use hx_calls::{BAD_ARGUMENT, SpellFault, is_among};
 use hx_text::{By, NoMemory, Octets, print_i64, read_i64};
 use std::alloc::Global;
 use std::marker::Model;

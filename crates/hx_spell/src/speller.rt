@@ -2,16 +2,14 @@ ghost use Rattle.std.specs.Prelude.{◌≡◌, ◌≢◌, ◌≤◌, length, IfE
 ghost use Rattle.hx_ast.specs.Statements.{IsStatement};
 ghost use Rattle.hx_ast.specs.declared.Statement.{Statement};
 ghost use Rattle.hx_spell.specs.Heads.{StatementNames};
-ghost use Rattle.hx_spell.specs.Known.{BeginsWith, ReadsAs, Reading, nothing_known};
+ghost use Rattle.hx_calls.specs.Known.{BeginsWith, ReadsAs, Reading, nothing_known};
 ghost use Rattle.hx_spell.specs.Lines.{line_of};
 ghost use Rattle.hx_spell.specs.Relation.{SpellLine};
-ghost use Rattle.hx_spell.specs.TableSpecs.{AreSpecs, reference_specs};
+ghost use Rattle.hx_calls.specs.TableSpecs.{AreSpecs, reference_specs};
 
-use crate::fault::SpellFault;
-use crate::known::Knowledge;
 use crate::line::line_of;
-use crate::table_specs::TableSpecs;
 use hx_ast::Statement;
+use hx_calls::{Knowledge, SpellFault, TableSpecs};
 use hx_text::Octets;
 use hx_words::Words;
 use std::alloc::Global;
@@ -26,8 +24,8 @@ pub struct Speller {
 }
 
 impl Model for Speller {
-    ghost use Rattle.hx_spell.specs.Known.{Known};
-    ghost use Rattle.hx_spell.specs.Sound.{IsSound};
+    ghost use Rattle.hx_calls.specs.Known.{Known};
+    ghost use Rattle.hx_calls.specs.Sound.{IsSound};
 
     ghost Value = { Known };
 
@@ -39,7 +37,7 @@ impl Model for Speller {
 impl Speller {
     /// A speller before the first line. Its one fault is `NoMemory`. What it reads is kept in
     /// `alloc`'s memory.
-    #[tactic(auto, using(crate::proofs::SoundLemmas::nothing_sound))]
+    #[tactic(auto, using(hx_calls::proofs::SoundLemmas::nothing_sound))]
     pub fn new(alloc: Global) -> Result<Speller, SpellFault>
         ensures ok { IfOk result (λ speller. speller ≡ nothing_known) }
         ensures fault { IsOkUnless result SpellFault.NoMemory }
@@ -114,7 +112,7 @@ impl Speller {
 
     /// What the lines bring: the references and how they are searched, in the order of their first
     /// appearance. It takes no memory.
-    #[tactic(auto, using(crate::proofs::SpecsLemmas::sound_tables))]
+    #[tactic(auto, using(hx_calls::proofs::SpecsLemmas::sound_tables))]
     pub fn tables(self) -> TableSpecs
         ensures specs { result ≡ reference_specs self }
         ensures sound { AreSpecs result }

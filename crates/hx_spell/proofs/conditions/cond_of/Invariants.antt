@@ -1,6 +1,6 @@
 use Rattle.std.proofs.Common.{◌≡◌, length}
 use Rattle.hx_spell.specs.Conditions.{cond_from, no_terms}
-use Rattle.hx_spell.specs.Known.{Extends}
+use Rattle.hx_calls.specs.Known.{Extends}
 use Rattle.hx_spell.specs.ConditionView.{terms_of}
 use Rattle.hx_spell.proofs.conditions.cond_of.Given as goal
 

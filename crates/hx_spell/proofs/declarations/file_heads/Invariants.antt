@@ -1,6 +1,6 @@
 use Rattle.std.proofs.Common.{◌≡◌, length}
 use Rattle.hx_spell.specs.Declarations.{file_heads}
-use Rattle.hx_spell.specs.Known.{Extends}
+use Rattle.hx_calls.specs.Known.{Extends}
 use Rattle.hx_spell.proofs.KeyLemmas.{longer_heads}
 use Rattle.hx_spell.proofs.declarations.file_heads.Given as goal
 

@@ -2,7 +2,7 @@ use Rattle.std.proofs.Common.{◌≡◌, None, length}
 use Rattle.std.specs.Prelude.{option_map}
 use Rattle.hx_spell.specs.FlagView.{flag_of}
 use Rattle.hx_spell.specs.Flags.{flags_from, no_flags}
-use Rattle.hx_spell.specs.Known.{Extends}
+use Rattle.hx_calls.specs.Known.{Extends}
 use Rattle.hx_spell.proofs.flags.flags_from.Given as goal
 
 abbrev pub invariant-loop-left : goal.invariant-loop-left

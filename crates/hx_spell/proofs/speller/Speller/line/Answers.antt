@@ -1,5 +1,5 @@
 use Rattle.std.proofs.Common.{List, ℕ, subst}
-use Rattle.hx_spell.specs.Known.{ReadsAs}
+use Rattle.hx_calls.specs.Known.{ReadsAs}
 use Rattle.hx_spell.specs.Lines.{line_of}
 use Rattle.hx_spell.proofs.LineLemmas.{answer_nothing, answer_spelled}
 use Rattle.hx_spell.proofs.SoundLineLemmas.{answer_allowed, answer_grown, answer_heads}
