@@ -26,10 +26,11 @@ use Rattle.hx_rules.specs.Building.{backend_rule, with_statement}
 use Rattle.hx_rules.specs.Programs.{Rules}
 use Rattle.hx_rules.specs.Tables.{ChangesOneOf, HasActionHeads, HasBackendHeads, HasFormatHeads, HasHeads, HasLists, HasPartHeads, HasRuleHeads, HasWhenHeads}
 use Rattle.hx_sample.specs.Tables.{TableHead}
-use Rattle.hx_spell.specs.Heads.{ActionNames, CondNames, ConjNames, DeclNames, FormatNames, IsHeadBy, NamesHead, PartNames, RuleNames, StatementNames, UseNames}
-use Rattle.hx_spell.specs.declared.HeadSpec.{HeadSpec}
+use Rattle.hx_calls.specs.ExpressionHeads.{FormatNames, IsHeadBy, NamesHead, PartNames}
+use Rattle.hx_spell.specs.Heads.{ActionNames, CondNames, ConjNames, DeclNames, RuleNames, StatementNames, UseNames}
+use Rattle.hx_calls.specs.declared.HeadSpec.{HeadSpec}
 use Rattle.hx_text.specs.declared.By.{By}
-use Rattle.hx_load.specs.References.{table_head}
+use Rattle.hx_filling.specs.References.{table_head}
 
 -- ---- expressions
 

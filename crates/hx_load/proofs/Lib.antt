@@ -1,12 +1,4 @@
-pub mod AddingLemmas
-pub mod AdditionLemmas
-pub mod UseLemmas
 pub mod BuiltHeadLemmas
-pub mod DeclareLemmas
-pub mod FillLemmas
-pub mod FilledLemmas
-pub mod FirstLemmas
-pub mod FreeNumberLemmas
 pub mod JudgedLemmas
 pub mod LaterHeadLemmas
 pub mod LineHeadLemmas
@@ -14,6 +6,5 @@ pub mod LineLemmas
 pub mod LoadLemmas
 pub mod LoadedLemmas
 pub mod LoadingLemmas
-pub mod NumberLemmas
 pub mod ReadLemmas
 pub mod StatementLemmas

@@ -9,10 +9,10 @@ use Rattle.hx_rules.specs.Programs.{Rules, no_rules}
 use Rattle.hx_rules.specs.Tables.{HasBackendHeads, HasHeads, HasRuleHeads}
 use Rattle.hx_sample.specs.Tables.{TableHead}
 use Rattle.hx_spell.specs.Heads.{StatementNames}
-use Rattle.hx_spell.specs.Known.{BeginsWith, Known}
-use Rattle.hx_spell.specs.declared.HeadSpec.{HeadSpec}
+use Rattle.hx_calls.specs.Known.{BeginsWith, Known}
+use Rattle.hx_calls.specs.declared.HeadSpec.{HeadSpec}
+use Rattle.hx_filling.specs.References.{table_head}
 use Rattle.hx_load.specs.LineReading.{KeepsNames, NamesOnly}
-use Rattle.hx_load.specs.References.{table_head}
 use Rattle.hx_load.proofs.BuiltHeadLemmas.{ChangesListOf, HasDeclaredHeads, statement_heads, statement_lists}
 use Rattle.hx_load.proofs.LaterHeadLemmas.{later_heads, later_lists}
 

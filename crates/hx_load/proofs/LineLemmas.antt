@@ -4,9 +4,10 @@ use Rattle.hx_ast.specs.declared.Statement.{Statement}
 use Rattle.hx_outside.specs.Makers.{ExpressionText}
 use Rattle.hx_rules.specs.Building.{with_statement}
 use Rattle.hx_rules.specs.Programs.{Rules, no_rules}
-use Rattle.hx_spell.specs.Known.{Known, Reading, nothing_known}
+use Rattle.hx_calls.specs.Known.{Known, Reading, nothing_known}
 use Rattle.hx_words.specs.Variable.{Env}
-use Rattle.hx_load.specs.Configuration.{GiveStatements, GivesStatement, Refusal, SpellsStatement, line_statement, lines_of, statements_from, then_statements}
+use Rattle.hx_filling.specs.Refusals.{Refusal}
+use Rattle.hx_load.specs.Configuration.{GiveStatements, GivesStatement, SpellsStatement, line_statement, lines_of, statements_from, then_statements}
 use Rattle.hx_load.specs.Loads.{LineReads, with_statements}
 use Rattle.hx_load.specs.LineReading.{AddsStatement, HasRead, IsReadAs, ReadsOnLine}
 use Rattle.hx_load.proofs.LoadingLemmas.{after_lines, after_statements, line_is}

@@ -8,23 +8,24 @@ use Rattle.hx_refs.specs.declared.Limits.{Limits}
 use Rattle.hx_rules.specs.Programs.{Rules}
 use Rattle.hx_rules.specs.Tables.{HasHeads, HasLists}
 use Rattle.hx_sample.specs.Tables.{TableHead}
-use Rattle.hx_spell.specs.Known.{Known, Reading, ReferenceForm, nothing_known}
-use Rattle.hx_spell.specs.TableSpecs.{ReferenceSpecs, reference_specs, table_specs, table_specs_from}
-use Rattle.hx_spell.specs.declared.TableSpec.{TableSpec}
+use Rattle.hx_calls.specs.Known.{Known, Reading, ReferenceForm, nothing_known}
+use Rattle.hx_calls.specs.TableSpecs.{ReferenceSpecs, reference_specs, table_specs, table_specs_from}
+use Rattle.hx_calls.specs.declared.TableSpec.{TableSpec}
 use Rattle.hx_words.specs.Variable.{Env}
-use Rattle.hx_load.specs.Configuration.{GiveStatements, IsFirstRefused, LinesGive, Refusal, lines_of, statements_from}
-use Rattle.hx_load.specs.Filling.{FillAsksLast, FillReadsLast, FillsHeld}
+use Rattle.hx_filling.specs.Refusals.{Refusal}
+use Rattle.hx_filling.specs.FillResult.{FillAsksLast, FillReadsLast, FillsHeld}
+use Rattle.hx_filling.specs.References.{Filled, FillingAsksFor, FillingReads, HasFiles, HaveDistinctNumbers, declared_references, filled_from, first_unknown, id_taken, repeated_after, unknown_table}
+use Rattle.hx_filling.specs.References as filled
+use Rattle.hx_filling.specs.declared.load_fault.LoadFault.{LoadFault}
+use Rattle.hx_filling.specs.declared.load_fault.LoadFault.TheVariants as load
+use Rattle.hx_filling.proofs.FilledLemmas.{FillAs, fill_as, fill_is}
+use Rattle.hx_filling.proofs.FirstLemmas.{all_known, is_repeated, is_unknown, none_repeated, none_unknown, repeated_is, unknown_is}
+use Rattle.hx_filling.proofs.NumberLemmas.{given_distinct}
+use Rattle.hx_load.specs.Configuration.{GiveStatements, IsFirstRefused, LinesGive, lines_of, statements_from}
 use Rattle.hx_load.specs.LineReading.{IsReadAs}
 use Rattle.hx_load.specs.LoadResult.{LoadJudgesLast, LoadReadsLast, LoadsHeld}
-use Rattle.hx_load.specs.Loads.{GivesProgram, GivesReferences, Judges, LineReads, Loading, Loads, declared, first_unknown, loaded, loading_filled, loading_named, loading_numbered, loading_of}
+use Rattle.hx_load.specs.Loads.{GivesProgram, GivesReferences, Judges, LineReads, Loading, Loads, declared, loaded, loading_filled, loading_named, loading_numbered, loading_of}
 use Rattle.hx_load.specs.Loads as loading
-use Rattle.hx_load.specs.References.{Filled, FillingAsksFor, FillingReads, HasFiles, HaveDistinctNumbers, declared_references, filled_from, id_taken, repeated_after, unknown_table}
-use Rattle.hx_load.specs.References as filled
-use Rattle.hx_load.specs.declared.load_fault.LoadFault.{LoadFault}
-use Rattle.hx_load.specs.declared.load_fault.LoadFault.TheVariants as load
-use Rattle.hx_load.proofs.FilledLemmas.{FillAs, fill_as, fill_is}
-use Rattle.hx_load.proofs.FirstLemmas.{all_known, is_repeated, is_unknown, none_repeated, none_unknown, repeated_is, unknown_is}
-use Rattle.hx_load.proofs.NumberLemmas.{given_distinct}
 use Rattle.hx_load.proofs.LoadingLemmas.{first_refused_is, given_are, lines_give}
 
 -- ---- the relation

@@ -3,14 +3,15 @@
 use Rattle.std.proofs.Common.{◌≡◌, ℕ, ◌+◌, Bool, true, false, inl, inr, List, [], ◌∷◌, ◌++◌, length, Result, Ok, Err, refl, sym, ap, ◌∙◌, subst, arith, if◌then◌else◌}
 use Rattle.hx_ast.specs.declared.Statement.{Statement}
 use Rattle.hx_rules.specs.Building.{is_statement_typed}
-use Rattle.hx_spell.specs.Known.{Known, Reading}
+use Rattle.hx_calls.specs.Known.{Known, Reading}
 use Rattle.hx_spell.specs.Lines.{line_of}
-use Rattle.hx_spell.specs.declared.SpellFault.{SpellFault}
+use Rattle.hx_calls.specs.declared.SpellFault.{SpellFault}
 use Rattle.hx_spell.proofs.LineLemmas.{line_law}
 use Rattle.hx_words.specs.Variable.{Env}
 use Rattle.hx_words.specs.Words.{words_of}
 use Rattle.hx_words.specs.declared.WordFault.{WordFault}
-use Rattle.hx_load.specs.Configuration.{GiveStatements, GivesStatement, IsFirstRefused, IsRefused, LinesGive, Refusal, SpellsStatement, bad_pattern, bad_type, before_statements, is_statement_readable, judged_or_code, line_statement, statement_judged, statement_of_words, statements_from, then_statements}
+use Rattle.hx_filling.specs.Refusals.{Refusal, bad_pattern}
+use Rattle.hx_load.specs.Configuration.{GiveStatements, GivesStatement, IsFirstRefused, IsRefused, LinesGive, SpellsStatement, bad_type, before_statements, is_statement_readable, judged_or_code, line_statement, statement_judged, statement_of_words, statements_from, then_statements}
 
 -- ---- what a line says, from the function to the relation
 

@@ -7,10 +7,10 @@ use Rattle.hx_expr.specs.declared.PlanFault.TheVariants as plan
 use Rattle.hx_outside.specs.Makers.{MakerState}
 use Rattle.hx_rules.specs.Building.{is_statement_typed, statement_has_expressions, statement_texts, with_statement}
 use Rattle.hx_rules.specs.Programs.{Rules}
-use Rattle.hx_spell.specs.Known.{Known, Reading}
+use Rattle.hx_calls.specs.Known.{Known, Reading}
 use Rattle.hx_spell.specs.Lines.{line_of}
-use Rattle.hx_spell.specs.declared.SpellFault.{SpellFault}
-use Rattle.hx_spell.specs.declared.SpellFault.TheVariants as spell
+use Rattle.hx_calls.specs.declared.SpellFault.{SpellFault}
+use Rattle.hx_calls.specs.declared.SpellFault.TheVariants as spell
 use Rattle.hx_words.specs.Variable.{Env}
 use Rattle.hx_words.specs.Words.{words_of}
 use Rattle.hx_words.specs.declared.WordFault.{WordFault}

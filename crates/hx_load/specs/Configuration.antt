@@ -12,20 +12,16 @@ use Rattle.hx_ast.specs.declared.Term.{Term}
 use Rattle.hx_base.specs.Bytes.{ascii}
 use Rattle.hx_match.specs.Patterns.{text_fault}
 use Rattle.hx_rules.specs.Building.{is_statement_typed, statement_has_expressions}
-use Rattle.hx_spell.specs.Known.{Known, Reading, reading}
+use Rattle.hx_calls.specs.Known.{Known, Reading, reading}
 use Rattle.hx_spell.specs.Lines.{line_of}
 use Rattle.hx_spell.specs.Relation.{SpellLine}
-use Rattle.hx_spell.specs.declared.SpellFault.{SpellFault}
-use Rattle.hx_spell.specs.declared.SpellFault.TheVariants as spell
+use Rattle.hx_calls.specs.declared.SpellFault.{SpellFault}
+use Rattle.hx_calls.specs.declared.SpellFault.TheVariants as spell
 use Rattle.hx_words.specs.Fault.{word_fault_code}
 use Rattle.hx_words.specs.Variable.{Env}
 use Rattle.hx_words.specs.Words.{words_of}
 use Rattle.hx_words.specs.declared.WordFault.{WordFault}
-
--- the line of a configuration with its first fault, counted from 1, and the code of that
-pub record Refusal : Type 0 where
-  pub line : ℕ
-  pub code : ℕ
+pub use Rattle.hx_filling.specs.Refusals.{Refusal, bad_pattern}
 
 -- the lines of a configuration, without the line feeds between them and without the one carriage
 -- return that may end each
@@ -44,10 +40,6 @@ spell_code spell.NoMemory = 0
 -- the code of a value that has no cast to the type that a converter or an ACL takes
 abbrev pub bad_type : ℕ
 bad_type = 11
-
--- the code of a regular expression or a pattern that is none
-abbrev pub bad_pattern : ℕ
-bad_pattern = 16
 
 -- ---- patterns
 

@@ -5,7 +5,8 @@ use Rattle.hx_ast.specs.declared.Decl.{Decl}
 use Rattle.hx_outside.specs.Count.{Rose}
 use Rattle.hx_outside.specs.Makers.{ExpressionText, MakerState}
 use Rattle.hx_text.specs.declared.By.TheVariants as method
-use Rattle.hx_load.specs.Configuration.{bad_pattern, bad_type}
+use Rattle.hx_filling.specs.Refusals.{bad_pattern}
+use Rattle.hx_load.specs.Configuration.{bad_type}
 use Rattle.hx_load.specs.declared.line_fault.LineFault.{LineFault}
 use Rattle.hx_load.specs.declared.line_fault.LineFault.TheVariants as line
 

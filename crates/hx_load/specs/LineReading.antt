@@ -6,13 +6,13 @@ use Rattle.hx_outside.specs.Makers.{ExpressionText, MakerState}
 use Rattle.hx_rules.specs.Building.{is_statement_typed, with_statement}
 use Rattle.hx_rules.specs.Programs.{Rules, no_rules}
 use Rattle.hx_rules.specs.Tables.{HasHeads, HasLists}
-use Rattle.hx_spell.specs.Known.{Known, Reading, nothing_known, reading}
-use Rattle.hx_spell.specs.declared.HeadSpec.{HeadSpec}
+use Rattle.hx_calls.specs.Known.{Known, Reading, nothing_known, reading}
+use Rattle.hx_calls.specs.declared.HeadSpec.{HeadSpec}
 use Rattle.hx_words.specs.Variable.{Env}
+use Rattle.hx_filling.specs.References.{table_head}
 use Rattle.hx_load.specs.Configuration.{GiveStatements, SpellsStatement, line_statement, lines_of, statements_from}
 use Rattle.hx_load.specs.Judging.{StaysSmall}
 use Rattle.hx_load.specs.Loads.{StatementReads, with_statements}
-use Rattle.hx_load.specs.References.{table_head}
 use Rattle.hx_load.specs.declared.line_fault.LineFault.{LineFault}
 use Rattle.hx_load.specs.declared.line_fault.LineFault.TheVariants as fault_of
 

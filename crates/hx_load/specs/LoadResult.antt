@@ -6,12 +6,13 @@ use Rattle.hx_refs.specs.References.{RefsState}
 use Rattle.hx_refs.specs.declared.Limits.{Limits}
 use Rattle.hx_rules.specs.Programs.{Rules}
 use Rattle.hx_words.specs.Variable.{Env}
-use Rattle.hx_load.specs.Files.{IsLastRead, ReadsAllFiles, ReadsFirstFiles, ReadsUpToRefusal}
+use Rattle.hx_filling.specs.Files.{IsLastRead}
+use Rattle.hx_filling.specs.References.{HasFiles, HoldsUnder}
+use Rattle.hx_filling.specs.declared.load_fault.LoadFault.{LoadFault}
+use Rattle.hx_filling.specs.declared.load_fault.LoadFault.TheVariants as load
+use Rattle.hx_load.specs.Files.{ReadsAllFiles, ReadsFirstFiles, ReadsUpToRefusal}
 use Rattle.hx_load.specs.Loads.{Judges, Loading, ReadsFile, loaded}
 use Rattle.hx_load.specs.Loads as loading
-use Rattle.hx_load.specs.References.{HasFiles, HoldsUnder}
-use Rattle.hx_load.specs.declared.load_fault.LoadFault.{LoadFault}
-use Rattle.hx_load.specs.declared.load_fault.LoadFault.TheVariants as load
 
 -- a configuration is loaded as it should be, under these files
 abbrev pub LoadsAs : Result (Rules × RefsState) LoadFault → Loading → Type 0

@@ -4,11 +4,12 @@ use Rattle.hx_expr.specs.declared.PlanFault.{PlanFault}
 use Rattle.hx_expr.specs.declared.PlanFault.TheVariants as plan
 use Rattle.hx_outside.specs.declared.PatFault.{PatFault}
 use Rattle.hx_outside.specs.declared.PatFault.TheVariants as pattern
-use Rattle.hx_spell.specs.declared.SpellFault.{SpellFault}
-use Rattle.hx_spell.specs.declared.SpellFault.TheVariants as spell
+use Rattle.hx_calls.specs.declared.SpellFault.{SpellFault}
+use Rattle.hx_calls.specs.declared.SpellFault.TheVariants as spell
 use Rattle.hx_words.specs.Fault.{word_fault_code}
 use Rattle.hx_words.specs.declared.WordFault.{WordFault}
-use Rattle.hx_load.specs.Configuration.{bad_pattern, bad_type}
+use Rattle.hx_filling.specs.Refusals.{bad_pattern}
+use Rattle.hx_load.specs.Configuration.{bad_type}
 use Rattle.hx_load.specs.declared.line_fault.LineFault.{LineFault}
 use Rattle.hx_load.specs.declared.line_fault.LineFault.TheVariants as line
 

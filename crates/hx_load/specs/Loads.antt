@@ -1,7 +1,7 @@
 -- What a configuration loads as: a program, the refusal of its first fault, or nothing where a file
 -- is missing. First all lines are judged, then the numbers that they give, then the files that
 -- their rules change, and then files and inline patterns in the order of their first appearance.
-use Rattle.std.specs.Prelude.{◌≡◌, fold, ℕ, ◌+◌, ◌⊎◌, ◌&&◌, ◌||◌, not, Bool, true, false, is_none, List, [], ◌∷◌, ◌++◌, length, Contains, Option, None, Some, is_some, Result, Ok, Err, if◌then◌else◌}
+use Rattle.std.specs.Prelude.{◌≡◌, fold, ℕ, ◌+◌, ◌⊎◌, true, List, [], ◌∷◌, ◌++◌, length, Contains, Option, None, Some, Result, Ok, Err}
 use Rattle.std.specs.List.{list_all}
 use Rattle.hx_ast.specs.declared.AclUse.{AclUse}
 use Rattle.hx_ast.specs.declared.AclUse.TheVariants.{Named, Own}
@@ -15,13 +15,13 @@ use Rattle.hx_refs.specs.References.{References}
 use Rattle.hx_refs.specs.declared.Limits.{Limits}
 use Rattle.hx_rules.specs.Building.{is_statement_typed, statement_texts, with_statement}
 use Rattle.hx_rules.specs.Programs.{Rules, no_rules}
-use Rattle.hx_spell.specs.Known.{Known, Reading, nothing_known}
-use Rattle.hx_spell.specs.TableSpecs.{table_specs}
-use Rattle.hx_spell.specs.declared.TableSpec.{TableSpec}
+use Rattle.hx_calls.specs.Known.{Known, Reading, nothing_known}
+use Rattle.hx_calls.specs.TableSpecs.{table_specs}
 use Rattle.hx_text.specs.declared.By.TheVariants as method
 use Rattle.hx_words.specs.Variable.{Env}
-use Rattle.hx_load.specs.Configuration.{GiveStatements, IsFirstRefused, Refusal, SpellsStatement, lines_of, statements_from}
-use Rattle.hx_load.specs.References.{Filled, Whole, Refused as FillRefused, Missing as FillMissing, AreFilled, FillingAsksFor, FillingReads, HaveDistinctNumbers, IsFirstMissing, IsFirstRepeated, IsFirstUnfilled, declared_references, filled_from, id_taken, repeated_after, unknown_table}
+use Rattle.hx_filling.specs.Refusals.{Refusal}
+use Rattle.hx_filling.specs.References.{Filled, Whole, Refused as FillRefused, Missing as FillMissing, AreFilled, FillingAsksFor, FillingReads, HaveDistinctNumbers, IsFirstMissing, IsFirstRepeated, IsFirstUnfilled, IsFirstUnknown, declared_references, filled_from, first_unknown, id_taken, is_known, repeated_after, unknown_table}
+use Rattle.hx_load.specs.Configuration.{GiveStatements, IsFirstRefused, SpellsStatement, lines_of, statements_from}
 
 -- ---- programs
 
@@ -30,13 +30,6 @@ abbrev pub with_statements : List Statement → Rules → Rules
 with_statements statements rules = fold (λ now next. with_statement next now) rules statements
 
 -- ---- loading
-
--- The line of the first appearance of the first file that a rule changes and that no `-f` and no
--- map names. Such a file first appears on the first line with a rule that changes it.
-abbrev pub first_unknown : List TableSpec → Option ℕ
-first_unknown [] = None
-first_unknown (spec ∷ specs) =
-    if is_some spec.file && not spec.named then Some spec.line else first_unknown specs
 
 pub data Loading : Type 0 where
   Accepted : (program : Rules) → (references : References) → Loading
@@ -76,21 +69,6 @@ loaded env limits files config =
     loading_of limits files (statements_from env 1 (lines_of config) nothing_known)
 
 -- ---- the relation
-
--- no rule changes the file of a reference, or a `-f` or a map names it
-abbrev pub is_known : TableSpec → Bool
-is_known spec = is_none spec.file || spec.named
-
--- The first reference with a file that a rule changes and that no `-f` and no map names, and the
--- line that brings it.
-pub record IsFirstUnknown (specs : List TableSpec) (line : ℕ) : Type 0 where
-  pub before : List TableSpec
-  pub spec : TableSpec
-  pub after : List TableSpec
-  pub specs_are : specs ≡ before ++ spec ∷ after
-  pub known : list_all is_known before ≡ true
-  pub unknown : is_known spec ≡ false
-  pub line_is : line ≡ spec.line
 
 -- all lines give statements, no number is given twice, and each file that a rule changes is named
 -- by a `-f` or a map

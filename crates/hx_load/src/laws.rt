@@ -5,11 +5,11 @@ ghost use Rattle.hx_base.specs.Pairs.{NamedBytes};
 ghost use Rattle.hx_refs.specs.References.{References};
 ghost use Rattle.hx_refs.specs.declared.Limits.{Limits};
 ghost use Rattle.hx_rules.specs.Programs.{Rules};
-ghost use Rattle.hx_spell.specs.TableSpecs.{AreSpecs, ReferenceSpecs};
-ghost use Rattle.hx_spell.specs.declared.TableSpec.{TableSpec};
+ghost use Rattle.hx_calls.specs.TableSpecs.{AreSpecs, ReferenceSpecs};
+ghost use Rattle.hx_calls.specs.declared.TableSpec.{TableSpec};
 ghost use Rattle.hx_words.specs.Variable.{Env};
+ghost use Rattle.hx_filling.specs.References.{AreFilled, declared_references, table_head};
 ghost use Rattle.hx_load.specs.Loads.{GivesProgram, Loading, Loads, loaded};
-ghost use Rattle.hx_load.specs.References.{AreFilled, declared_references, table_head};
 
 /// A configuration loads as what the function says, and as nothing else, under any files and
 /// limits. So it gives one program at most, and one list of references.

@@ -2,7 +2,7 @@
 //! bring, and the entries of files and inline patterns.
 //!
 //! `specs/Loads.antt` says what a configuration loads as, as the relation `Loads` and the function
-//! `loaded`.
+//! `loaded`. References are declared and filled by `hx_filling`.
 //!
 //! ```
 //! let limits = Limits::usual();
@@ -10,15 +10,11 @@
 //! ```
 #![tactic(auto)]
 
-mod adding;
-mod filling;
 pub mod laws;
 mod line_fault;
 mod lines;
-mod load_fault;
 mod loader;
 mod statements;
-mod tables;
 
-pub use load_fault::LoadFault;
+pub use hx_filling::LoadFault;
 pub use loader::load;

@@ -3,14 +3,14 @@ ghost use Rattle.std.specs.Prelude.{IfOk, IsErrOf, IsSomeAnd, OnOk};
 ghost use Rattle.std.specs.Option.{option_copied};
 ghost use Rattle.hx_base.specs.Pairs.{pairs_of};
 ghost use Rattle.hx_outside.specs.Count.{Rose};
-ghost use Rattle.hx_spell.specs.Known.{nothing_known};
+ghost use Rattle.hx_calls.specs.Known.{nothing_known};
 ghost use Rattle.hx_load.specs.Configuration.{lines_left, lines_of, size_left, statements_from};
 ghost use Rattle.hx_load.specs.Loads.{LineReads};
 ghost use Rattle.hx_load.specs.LineReading.{AddsStatement, IsReadAs, KeepsNames, LineReadAs, NamesOnly};
 
 use crate::line_fault::LineFault;
-use crate::load_fault::LoadFault;
 use crate::statements::push_statement;
+use hx_filling::LoadFault;
 use hx_outside::ReMaker;
 use hx_rules::Program;
 use hx_spell::Speller;

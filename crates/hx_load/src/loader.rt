@@ -6,10 +6,8 @@ ghost use Rattle.hx_outside.specs.Log.{HoldsSince};
 ghost use Rattle.hx_rules.specs.Tables.{HasHeads, HasLists};
 ghost use Rattle.hx_load.specs.LoadResult.{LoadJudgesLast, LoadReads, LoadReadsLast, LoadsHeld};
 
-use crate::filling::fill;
 use crate::lines::{LinesRead, read_lines};
-use crate::load_fault::LoadFault;
-use crate::tables::{declare, known_tables};
+use hx_filling::{LoadFault, declare, fill, known_tables};
 use hx_outside::{Files, ReMaker};
 use hx_refs::{Limits, Refs};
 use hx_rules::Program;

@@ -1,5 +1,5 @@
-use Rattle.hx_load.proofs.DeclareLemmas.{declared_heads}
-use Rattle.hx_load.proofs.FilledLemmas.{filled_heads}
+use Rattle.hx_filling.proofs.DeclareLemmas.{declared_heads}
+use Rattle.hx_filling.proofs.FilledLemmas.{filled_heads}
 use Rattle.hx_load.proofs.laws.heads_are_those_of_the_lines.Goals as goal
 
 pub returns : goal.returns

@@ -1,7 +1,7 @@
 use Rattle.std.proofs.lemmas.Result.{err_from_is_err_and}
 use Rattle.hx_ast.specs.declared.Statement.{Statement}
 use Rattle.hx_base.specs.Pairs.{pairs_of}
-use Rattle.hx_spell.specs.Known.{Reading}
+use Rattle.hx_calls.specs.Known.{Reading}
 use Rattle.hx_load.specs.Configuration.{SpellsStatement}
 use Rattle.hx_load.proofs.LineHeadLemmas.{keep_taken}
 use Rattle.hx_load.proofs.StatementLemmas.{spell_fault, statement_added, statement_read, word_fault}

@@ -1,7 +1,7 @@
 use Rattle.std.proofs.Common.{refl, ap, arith, ◌∙◌, ◌≡◌, ◌+◌, ℕ, List, Option, Bor}
 use Rattle.std.specs.Option.{option_copied}
 use Rattle.hx_base.specs.Pairs.{pairs_of}
-use Rattle.hx_spell.specs.Known.{nothing_known}
+use Rattle.hx_calls.specs.Known.{nothing_known}
 use Rattle.hx_load.specs.Configuration.{lines_left, size_left}
 use Rattle.hx_load.proofs.LineHeadLemmas.{names_none}
 use Rattle.hx_load.proofs.LineLemmas.{large_on_line, read_all, read_more, read_none, read_refused}

@@ -1,11 +1,12 @@
 use Rattle.std.proofs.Common.{◌≡◌, ◌∙◌, Err, ap, inl, inr, map}
 use Rattle.std.proofs.lemmas.Result.{err_from_is_err_and}
 use Rattle.hx_base.specs.Pairs.{pairs_of}
-use Rattle.hx_spell.specs.TableSpecs.{ReferenceSpecs}
-use Rattle.hx_load.specs.References.{table_head}
-use Rattle.hx_load.specs.declared.load_fault.LoadFault.TheVariants as fault
+use Rattle.hx_calls.specs.TableSpecs.{ReferenceSpecs}
+use Rattle.hx_filling.specs.References.{table_head}
+use Rattle.hx_filling.specs.declared.load_fault.LoadFault.TheVariants as fault
+use Rattle.hx_filling.proofs.ReadLemmas.{none_read_twice}
 use Rattle.hx_load.proofs.LoadedLemmas.{fill_asks, fill_fault, fill_reads, fill_whole, has_heads, has_lists, line_asks, line_fault, number_fault, unknown_fault}
-use Rattle.hx_load.proofs.ReadLemmas.{file_is_unknown, filled_reads, line_is_refused, none_read_twice, number_is_taken, unfilled_reads, unread}
+use Rattle.hx_load.proofs.ReadLemmas.{file_is_unknown, filled_reads, line_is_refused, number_is_taken, unfilled_reads, unread}
 use Rattle.hx_load.proofs.loader.load.Goals as goal
 
 -- ---- the lines have a fault

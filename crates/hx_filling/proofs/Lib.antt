@@ -1,0 +1,10 @@
+pub mod AddingLemmas
+pub mod AdditionLemmas
+pub mod UseLemmas
+pub mod DeclareLemmas
+pub mod FillLemmas
+pub mod FilledLemmas
+pub mod FirstLemmas
+pub mod FreeNumberLemmas
+pub mod NumberLemmas
+pub mod ReadLemmas
