@@ -15,27 +15,9 @@
 //! ```
 #![tactic(auto)]
 
-mod command;
-mod compare;
-mod difference;
-mod engines;
-#[cfg(test)]
-mod example_runs;
-mod explain;
-mod report;
-mod rows;
-mod run;
-mod run_fault;
-#[cfg(test)]
-mod runs;
-mod tally;
-mod tell;
-#[cfg(test)]
-mod tests;
-
-use crate::explain::USAGE;
-use crate::run::run_diff;
-use crate::tell::tell;
+use hx_diff::explain::USAGE;
+use hx_diff::run_diff;
+use hx_diff::tell::tell;
 use hx_outside::{DirFiles, PlainMaker, StdSink, StdSource};
 use hx_program::{
     KnownFiles, MachineArguments, MachineEntries, Watched, arguments, environment, is_help,

@@ -11,41 +11,19 @@
 #![tactic(auto)]
 
 #[cfg(test)]
-mod action_runs;
-mod command;
-#[cfg(test)]
-mod command_runs;
-mod counted_engine;
-#[cfg(test)]
-mod example_runs;
-mod explain;
-#[cfg(test)]
-mod file_tests;
-pub mod laws;
+mod generated_tests;
 #[cfg(test)]
 mod many_tests;
-#[cfg(test)]
-mod outside_runs;
-#[cfg(test)]
-mod place_tests;
-mod replay_run;
-mod run;
-mod run_fault;
-#[cfg(test)]
-mod runs;
-mod tell;
-#[cfg(test)]
-mod tests;
 
-use crate::explain::USAGE;
-use crate::run::run_to_end;
-use crate::tell::tell;
 use hx_outside::{DirFiles, PlainMaker, StdSink, StdSource};
 use hx_program::{
     KnownFiles, MachineArguments, MachineEntries, Watched, arguments, environment, is_help,
     is_version, say, version,
 };
 use hx_replay::RecentRecord;
+use hx_run::explain::USAGE;
+use hx_run::run::run_to_end;
+use hx_run::tell::tell;
 use std::io::writer;
 use std::process::ExitCode;
 

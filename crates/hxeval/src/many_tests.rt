@@ -1,15 +1,18 @@
 //! Runs that no search through all entries could end in time.
 
-use crate::run::run;
 use hx_outside::{MemFiles, MemSink, MemSource, PlainMaker};
+use hx_run::run::run;
 use std::alloc::Global;
 use std::test::Fail;
 
 /// How many keys the map has, and how many requests ask for them.
 const MANY: u32 = 200_000;
 
-/// A path that is a key finds its value by the first rule, one that begins with a key by the other.
-const CONFIG: &[u8] = b"use_backend %[path,map_str(m)] if { path,map_str(m) -m found }\n\
+/// A path that is a key finds its value by the first backend, and one that begins with a key by the
+/// last. Some of either are chosen by a regular expression before, and some are written anew by one.
+const CONFIG: &[u8] = b"http-request deny if { path_reg ^/k[0-9]*77$ }\n\
+    use_backend %[path,map_str(m)] if { path,map_str(m) -m found }\n\
+    use_backend %[path,regsub(^/k,r)] if { path_reg 3/a$ }\n\
     use_backend %[path,map_beg(m,none)]\n";
 
 /// A map of many keys, each with its number in its value.
@@ -32,10 +35,22 @@ fn requests_and_answers(alloc: Global) -> Result<(Vec<u8>, Vec<u8>), Fail> {
         let head = format!(in alloc; "GET /k{key}{below} HTTP/1.1\r\n\r\n")?;
         let len = head.len();
         record.extend_from_slice(format!(in alloc; "req 1 {len}\n{head}\n")?.as_bytes())?;
+        let verdict = verdict(alloc, key, below)?;
         let request = u64::from(number) + 1;
-        answers.extend_from_slice(format!(in alloc; "{request} pass v{key}\n")?.as_bytes())?;
+        answers.extend_from_slice(format!(in alloc; "{request} {verdict}\n")?.as_bytes())?;
     }
     Ok((record, answers))
+}
+
+/// The verdict on a request for a key, or for a path below it.
+fn verdict(alloc: Global, key: u32, below: &str) -> Result<String, Fail> {
+    if below.is_empty() && key % 100 == 77 {
+        return Ok(format!(in alloc; "deny 403")?);
+    }
+    if !below.is_empty() && key % 10 == 3 {
+        return Ok(format!(in alloc; "pass r{key}{below}")?);
+    }
+    Ok(format!(in alloc; "pass v{key}")?)
 }
 
 #[test]

@@ -1,0 +1,64 @@
+ghost use Rattle.hx_replay.specs.Explanation.{TellsSome};
+ghost use Rattle.hx_run.specs.Explanation.{explanation};
+
+use crate::explain::{ending_of, explain, given_name};
+use crate::run::Ended;
+use hx_outside::{Files, Sink};
+use hx_program::KnownFiles;
+use hx_replay::{KnownConfig, Place, RecentRecord, Told, place_of};
+use std::alloc::Global;
+
+/// Writes to `err` why a run of these words, over these files and this record, ended so: its fault
+/// and, as far as that is known, its place. `large` is the last regular expression that was too
+/// large.
+pub fn tell<K: Sink, F: Files + Drop, S>(
+    alloc: Global,
+    err: &mut K,
+    ended: Ended,
+    words: &[Vec<u8>],
+    env: &[(Vec<u8>, Vec<u8>)],
+    files: KnownFiles<F>,
+    record: &RecentRecord<S>,
+    large: &[u8],
+)
+    ensures { TellsSome (explanation ended.status ended.fault) (K.written err.old)
+        (K.written err.new) }
+{
+    let name = given_name(words);
+    let (mut files, text, last) = files.into_parts();
+    let config = known_config(name, text.as_deref(), last.as_deref());
+    let ending = ending_of(ended);
+    let requests = ended.requests;
+    let Place { text, reason } = place_of(
+        alloc, ending, &config, env, &mut files, record, requests,
+    );
+    let file = last.as_deref().unwrap_or(name);
+    let told = told_of(name, &text, reason, file, large);
+    let _ = explain(err, ended, &told);
+}
+
+/// What is known of the configuration, where all of it lives as long.
+fn known_config<'t>(
+    name: &'t [u8],
+    text: Option<&'t [u8]>,
+    file: Option<&'t [u8]>,
+) -> KnownConfig<'t> {
+    KnownConfig { name, text, file }
+}
+
+/// What is told beside the fault, where all of it lives as long.
+fn told_of<'t>(
+    name: &'t [u8],
+    place: &'t [u8],
+    reason: &'t [u8],
+    file: &'t [u8],
+    large: &'t [u8],
+) -> Told<'t> {
+    Told {
+        name,
+        place,
+        reason,
+        file,
+        large,
+    }
+}

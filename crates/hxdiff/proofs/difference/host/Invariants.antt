@@ -1,6 +1,0 @@
-use Rattle.std.proofs.Common.{◌≡◌, drop}
-use Rattle.hxdiff.specs.Difference.{host_in}
-use Rattle.hxdiff.proofs.difference.host.Given as goal
-
-abbrev pub invariant-loop-at : goal.invariant-loop-at
-invariant-loop-at l = host_in (drop l.at l.head.headers) ≡ host_in l.head.headers

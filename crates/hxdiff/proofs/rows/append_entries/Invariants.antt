@@ -1,9 +1,0 @@
-use Rattle.std.proofs.Common.{◌≡◌, ◌++◌, drop}
-use Rattle.hxdiff.specs.RowsView.{rows_of}
-use Rattle.hxdiff.specs.Verdicts.{rows_text}
-use Rattle.hxdiff.proofs.rows.append_entries.Given as goal
-
-abbrev pub invariant-loop-at : goal.invariant-loop-at
-invariant-loop-at l =
-    l.text.items ++ rows_text (rows_of (drop l.at l.counts.entries))
-    ≡ l.fn.text.items ++ rows_text (rows_of l.counts.entries)

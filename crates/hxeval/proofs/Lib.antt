@@ -1,7 +1,0 @@
-pub mod EndLemmas
-pub mod FilesLemmas
-pub mod FirstVersionLemmas
-pub mod ReplayFaultLemmas
-pub mod RunLemmas
-pub mod StatusLemmas
-pub mod UnseenLemmas
