@@ -6,8 +6,8 @@ use Rattle.hx_words.specs.Words.{words_of}
 use Rattle.hx_words.specs.declared.fault.WordFault.{WordFault}
 use Rattle.hx_words.specs.declared.fault.WordFault.TheVariants as words
 use Rattle.hx_text.specs.declared.fault.NoMemory.{NoMemory}
-use Rattle.hx_spell.specs.declared.fault.SpellFault.{SpellFault}
-use Rattle.hx_spell.specs.Known.{Known, Reading, nothing_known, reading}
+use Rattle.hx_calls.specs.declared.fault.SpellFault.{SpellFault}
+use Rattle.hx_calls.specs.Known.{Known, Reading, nothing_known, reading}
 use Rattle.hx_spell.specs.Lines.{line_of}
 use Rattle.hx_lint.specs.Judging.{code_read, go_on, judged, judged_as, judged_from, judged_split, known_after, known_by, known_read, right_words, unread, with_line, word_shown}
 use Rattle.hx_lint.specs.declared.judging.JudgedLine.{JudgedLine}

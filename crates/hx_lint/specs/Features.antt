@@ -14,7 +14,7 @@ use Rattle.hx_ast.specs.declared.statement.AclUse.TheVariants.{Named, Own}
 use Rattle.hx_ast.specs.declared.statement.Decl.{Decl}
 use Rattle.hx_ast.specs.declared.statement.Statement.{Statement}
 use Rattle.hx_ast.specs.declared.statement.Statement.TheVariants as statement
-use Rattle.hx_spell.specs.declared.table_specs.HeadSpec.{HeadSpec}
+use Rattle.hx_calls.specs.declared.table_specs.HeadSpec.{HeadSpec}
 use Rattle.hx_lint.specs.AclTopics.{acl_has}
 use Rattle.hx_lint.specs.ExprTopics.{expr_has, is_method}
 use Rattle.hx_lint.specs.Walks.{filled_passes, use_passes}

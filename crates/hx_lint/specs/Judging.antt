@@ -7,16 +7,16 @@ use Rattle.hx_words.specs.Fault.{word_fault_code}
 use Rattle.hx_words.specs.Variable.{Env}
 use Rattle.hx_words.specs.Words.{words_of}
 use Rattle.hx_words.specs.declared.fault.WordFault.{WordFault}
-use Rattle.hx_spell.specs.declared.fault.SpellFault.{SpellFault}
-use Rattle.hx_spell.specs.declared.fault.SpellFault.TheVariants as spell
-use Rattle.hx_spell.specs.Known.{Known, Reading, nothing_known, reading}
+use Rattle.hx_calls.specs.declared.fault.SpellFault.{SpellFault}
+use Rattle.hx_calls.specs.declared.fault.SpellFault.TheVariants as spell
+use Rattle.hx_spell.specs.declared.probes.TheConstants.{PROBES}
+use Rattle.hx_calls.specs.Known.{Known, Reading, nothing_known, reading}
 use Rattle.hx_spell.specs.Lines.{line_of}
 use Rattle.hx_lint.specs.Spelling.{line_text, word_text}
 use Rattle.hx_lint.specs.Texts.{texts_in}
 use Rattle.hx_lint.specs.declared.judging.JudgedLine.{JudgedLine}
 use Rattle.hx_lint.specs.declared.judging.Judgement.{Judgement}
 use Rattle.hx_lint.specs.declared.judging.Judgement.TheVariants.{Taken, Refused}
-use Rattle.hx_lint.specs.declared.refused_word.TheConstants.{PROBES}
 
 -- ---- the word at which a fault shows
 
@@ -46,7 +46,7 @@ one_turns number code words known [] = false
 one_turns number code words known (text ∷ texts) =
     turns number code words known text || one_turns number code words known texts
 
--- one of the texts of the table turns them
+-- one of the texts that tell how many words are right turns them
 abbrev pub go_on : (number code : ℕ) → List (List ℕ) → Known → Bool
 go_on number code words known =
     one_turns number code words known (map (λ text. text.now) PROBES)

@@ -8,7 +8,7 @@ use Rattle.hx_ast.specs.declared.statement.Statement.{Statement}
 use Rattle.hx_program.specs.Tables.{meaning_of}
 use Rattle.hx_program.specs.declared.codes.TheConstants.{CONFIG_CODES}
 use Rattle.hx_words.specs.Variable.{Env}
-use Rattle.hx_spell.specs.declared.table_specs.HeadSpec.{HeadSpec}
+use Rattle.hx_calls.specs.declared.table_specs.HeadSpec.{HeadSpec}
 use Rattle.hx_lint.specs.Judging.{all_judged}
 use Rattle.hx_lint.specs.Topics.{Context, line_sets_method, shows}
 use Rattle.hx_lint.specs.Variables.{place_text, unset_told}

@@ -12,7 +12,7 @@ use Rattle.hx_ast.specs.declared.conv.Conv.{Conv}
 use Rattle.hx_ast.specs.declared.statement.Statement.{Statement}
 use Rattle.hx_ast.specs.declared.statement.Statement.TheVariants as statement
 use Rattle.hx_ast.specs.Statements.{is_map}
-use Rattle.hx_spell.specs.declared.table_specs.HeadSpec.{HeadSpec}
+use Rattle.hx_calls.specs.declared.table_specs.HeadSpec.{HeadSpec}
 use Rattle.hx_lint.specs.ActionTopics.{action_format, action_has, sets_method}
 use Rattle.hx_lint.specs.CriterionTopics.{is_negative_text, line_words_have}
 use Rattle.hx_lint.specs.Features.{AclShows, AsksMethod, ExprShows, NamesLocalhost, NamesMethod, SharesCache, statement_passes}

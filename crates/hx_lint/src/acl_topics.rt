@@ -9,7 +9,7 @@ use hx_ast::{Conv, Decl, Fetch};
 use hx_text::{By, Kind, Octets};
 
 /// What makes HAProxy decide an ACL otherwise: a row of docs/manual/haproxy.md each.
-#[derive(Clone, Copy, Debug)]
+#[derive(Clone, Copy)]
 pub enum AclTopic {
     /// a text is compared as a number
     TextAsNumber,

@@ -19,7 +19,7 @@ use hx_ast::{Action, Conv, Fetch, Format, Part};
 use hx_text::Scope;
 
 /// What makes HAProxy do something else at an action: a row of docs/manual/haproxy.md each.
-#[derive(Clone, Copy, Debug)]
+#[derive(Clone, Copy)]
 pub enum ActionTopic {
     /// a header has a control byte
     ControlByte,
@@ -52,7 +52,7 @@ pub enum ActionTopic {
 }
 
 /// A set of bytes.
-#[derive(Clone, Copy, Debug)]
+#[derive(Clone, Copy)]
 pub enum ByteClass {
     /// control bytes but CR, LF and NUL
     Control,

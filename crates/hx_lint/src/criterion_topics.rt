@@ -1,6 +1,4 @@
 ghost use Rattle.std.specs.Prelude.{◌≡◌, drop, IfOk};
-ghost use Rattle.std.specs.List.{list_any};
-ghost use Rattle.std.specs.Str.{bytes_eq};
 ghost use Rattle.hx_words.specs.StepView.{step_view};
 ghost use Rattle.hx_lint.specs.CriterionTopics.{braces_have, criterion_has, first_is_converter};
 ghost use Rattle.hx_lint.specs.CriterionTopics.{first_is_negative, has_method_flag, is_converter};
@@ -8,12 +6,13 @@ ghost use Rattle.hx_lint.specs.CriterionTopics.{is_derived, is_keyword, is_negat
 ghost use Rattle.hx_lint.specs.CriterionTopics.{is_opening, line_words_have, step_has_method};
 ghost use Rattle.hx_lint.specs.CriterionTopics.{step_is_keyword, words_have};
 
+use crate::texts::is_among;
 use hx_text::{NoMemory, Octets, cut_at, read_i64};
 use hx_words::{CallStep, next_call};
 use std::alloc::Global;
 
 /// What makes HAProxy read the words of an ACL otherwise: a row of docs/manual/haproxy.md each.
-#[derive(Clone, Copy, Debug)]
+#[derive(Clone, Copy)]
 pub enum CriterionTopic {
     /// a converter follows a fetch with a match method in its name
     MethodInName,
@@ -97,20 +96,6 @@ pub(crate) const CONVERTERS: [&[u8]; 56] = [
     b"word",
     b"xor",
 ];
-
-/// Whether a word is one of these.
-fn is_among(names: &[&[u8]], word: &[u8]) -> bool
-    ensures { result ≡ list_any (λ name. bytes_eq word.now name.now) names.now }
-{
-    let mut rest = names;
-    while let [name, others @ ..] = rest {
-        if word == *name {
-            return true;
-        }
-        rest = others;
-    }
-    false
-}
 
 /// Whether a word is a number below 0.
 pub(crate) fn is_negative_text(word: &[u8]) -> bool

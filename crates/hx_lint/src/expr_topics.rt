@@ -14,7 +14,7 @@ use hx_ast::{Conv, Expr, Fetch, Val};
 use hx_text::{Ip, Kind, Octets, Out};
 
 /// What makes HAProxy give another value to an expression: a row of docs/manual/haproxy.md each.
-#[derive(Clone, Copy, Debug)]
+#[derive(Clone, Copy)]
 pub enum ExprTopic {
     /// a text is read as a number
     TextAsNumber,

@@ -1,6 +1,6 @@
 ghost use Rattle.std.specs.Prelude.{◌≡◌, ◌≢◌, IfOk};
 ghost use Rattle.hx_base.specs.Pairs.{pairs_of};
-ghost use Rattle.hx_spell.specs.Known.{nothing_known, reading};
+ghost use Rattle.hx_calls.specs.Known.{nothing_known, reading};
 ghost use Rattle.hx_lint.specs.Judging.{all_judged, judged, judged_words, known_after, unread};
 
 use crate::refused_word::refused_word;

@@ -35,5 +35,5 @@ pub use features::Feature;
 pub use judging::{JudgedLine, Judgement};
 pub use report::lint;
 pub use spelling::push_line;
-pub use texts::first_text;
+pub use texts::{first_text, is_among};
 pub use topics::Topic;

@@ -1,5 +1,5 @@
 ghost use Rattle.std.specs.Prelude.{◌≡◌, IfOk, Ok, OnOk, slice_get};
-ghost use Rattle.hx_spell.specs.Known.{nothing_known};
+ghost use Rattle.hx_calls.specs.Known.{nothing_known};
 ghost use Rattle.hx_spell.specs.Lines.{line_of};
 ghost use Rattle.hx_lint.specs.Judging.{code_read, go_on, known_after, known_by, known_read};
 ghost use Rattle.hx_lint.specs.Judging.{reads_otherwise, refused_word, turns, word_shown};
@@ -7,35 +7,10 @@ ghost use Rattle.hx_lint.specs.Judging.{reads_otherwise, refused_word, turns, wo
 use crate::judging::{JudgedLine, Judgement, new_speller};
 use crate::spelling::{push_line, push_word};
 use hx_ast::Statement;
-use hx_spell::{SpellFault, Speller};
+use hx_spell::{PROBES, SpellFault, Speller};
 use hx_text::{NoMemory, Octets};
 use hx_words::{WordFault, Words, split};
 use std::alloc::Global;
-
-/// What may stand after words that are right as far as they go: for each place where the grammar
-/// wants more, at least one of these texts is taken there, or is refused otherwise than the lack of
-/// it would be. Those that are refused come first, since a speller that has taken words has to be
-/// made anew.
-pub(crate) const PROBES: [&[u8]; 18] = [
-    b" -u x",
-    b" if ?",
-    b"",
-    b" %",
-    b" a %",
-    b" location %",
-    b" ?",
-    b" http",
-    b" a",
-    b" 301",
-    b" on",
-    b" 1 1",
-    b" -m found",
-    b" TRUE",
-    b" }",
-    b" a }",
-    b" path }",
-    b" path a }",
-];
 
 /// The word at which a fault with this code shows in the words of the line with this number, after
 /// the lines before it. The speller is as it was.

@@ -21,7 +21,7 @@ use hx_text::{NoMemory, Octets};
 use std::alloc::Global;
 
 /// Where HAProxy is known to answer otherwise, as it shows in a line.
-#[derive(Clone, Copy, Debug)]
+#[derive(Clone, Copy)]
 pub enum Topic {
     /// a text is read or compared as a number
     TextAsNumber,

@@ -10,41 +10,8 @@
 //! ```
 #![tactic(auto)]
 
-mod addresses;
-mod assembling;
-mod command;
-mod conditions;
-mod configuration;
-mod explain;
-mod fate;
-mod formats;
-mod frontends;
-mod guards;
-pub mod laws;
-mod left_out;
-mod lines;
-mod notes;
-mod options;
-mod proxies;
-mod quoted;
-mod replacing;
-#[cfg(test)]
-mod rows;
-mod run;
-mod run_fault;
-#[cfg(test)]
-mod runs;
-mod said;
-mod said_tables;
-mod setting;
-mod table;
-#[cfg(test)]
-mod tests;
-mod titles;
-mod words;
-
-use crate::explain::{USAGE, explain};
-use crate::run::run;
+use hx_config::explain::{USAGE, explain};
+use hx_config::run::run;
 use hx_outside::{DirFiles, StdSink};
 use hx_program::{
     MachineArguments, MachineEntries, Watched, arguments, environment, is_help, is_version, say,

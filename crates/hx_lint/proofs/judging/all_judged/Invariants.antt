@@ -1,7 +1,7 @@
 use Rattle.std.proofs.Common.{◌≡◌, ◌≤◌, ◌+◌, length}
 use Rattle.std.specs.Option.{option_copied}
 use Rattle.hx_base.specs.Pairs.{pairs_of}
-use Rattle.hx_spell.specs.Known.{nothing_known, reading}
+use Rattle.hx_calls.specs.Known.{nothing_known, reading}
 use Rattle.hx_lint.specs.Judging.{all_judged, judged_from, known_after}
 use Rattle.hx_lint.specs.Texts.{size_left, texts_left}
 use Rattle.hx_lint.proofs.judging.all_judged.Given as goal

@@ -1,5 +1,5 @@
 use Rattle.std.proofs.Common.{◌≡◌, map, length}
-use Rattle.hx_spell.specs.Known.{nothing_known}
+use Rattle.hx_calls.specs.Known.{nothing_known}
 use Rattle.hx_lint.specs.Judging.{go_on, known_after, one_turns}
 use Rattle.hx_lint.proofs.refused_word.go_on.Given as goal
 

@@ -1,5 +1,5 @@
 use Rattle.std.proofs.Common.{◌≡◌, length}
-use Rattle.hx_spell.specs.Known.{nothing_known}
+use Rattle.hx_calls.specs.Known.{nothing_known}
 use Rattle.hx_lint.specs.Judging.{known_after}
 use Rattle.hx_lint.proofs.refused_word.spelled.Given as goal
 

@@ -1,0 +1,35 @@
+-- What a caller of `run` needs, in the order in which it is read.
+pub mod Tables
+pub mod Titles
+pub mod Lines
+pub mod Frontends
+pub mod Proxies
+pub mod LeftOut
+pub mod Options
+pub mod Addresses
+pub mod Formats
+pub mod Accounts
+pub mod Conditions
+pub mod Guards
+pub mod Quoted
+pub mod Setting
+pub mod Removing
+pub mod Replacing
+pub mod Reading
+pub mod Redirects
+pub mod Monitoring
+pub mod Said
+pub mod Assembling
+pub mod Fates
+pub mod Refusals
+pub mod Configuration
+pub mod Command
+pub mod Run
+pub mod Headline
+-- Views of the code, for private contracts.
+pub mod AppendView
+pub mod ConditionView
+pub mod FateView
+pub mod FormatView
+pub mod SaidView
+pub mod RunFault

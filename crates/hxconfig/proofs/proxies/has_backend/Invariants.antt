@@ -1,9 +1,0 @@
-use Rattle.std.proofs.Common.{◌≡◌, length}
-use Rattle.hxconfig.specs.Proxies.{has_backend}
-use Rattle.hxconfig.proofs.proxies.has_backend.Given as goal
-
-abbrev pub invariant-loop-rest : goal.invariant-loop-rest
-invariant-loop-rest l = has_backend l.name l.rest ≡ has_backend l.name l.lines
-
-abbrev pub decreases-loop-rest : goal.decreases-loop-rest
-decreases-loop-rest l = length l.rest
