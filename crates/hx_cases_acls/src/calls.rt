@@ -13,7 +13,7 @@ use hx_text::By;
 use std::alloc::{AllocError, Global};
 
 /// What a call does.
-#[derive(Clone, Copy, Debug)]
+#[derive(Clone, Copy)]
 pub enum Name {
     Add,
     AddMany,
@@ -33,7 +33,7 @@ pub enum Name {
 }
 
 /// A search by one of the uses of a reference.
-#[derive(Debug, Drop)]
+#[derive(Drop)]
 pub struct Search {
     pub by_use: Use,
     pub text: String,
@@ -41,7 +41,7 @@ pub struct Search {
 
 /// A call on the reference at the position `r`, and the search that follows it. It has words for a
 /// call of any name.
-#[derive(Debug, Drop)]
+#[derive(Drop)]
 pub struct Call {
     pub name: Name,
     pub r: u32,

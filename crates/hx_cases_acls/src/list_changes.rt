@@ -9,7 +9,7 @@ use std::alloc::Global;
 use std::mem;
 
 /// Which entries a call speaks of.
-#[derive(Clone, Copy, Debug)]
+#[derive(Clone, Copy)]
 pub enum Choice<'a> {
     Key(&'a str),
     Number(u64),

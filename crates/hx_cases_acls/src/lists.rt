@@ -9,7 +9,7 @@ use hx_text::By;
 use std::alloc::Global;
 
 /// A use of a reference, with its place among the uses that hx_refs tells of it.
-#[derive(Clone, Copy, Debug)]
+#[derive(Clone, Copy)]
 pub struct Use {
     pub place: u32,
     pub by: By,

@@ -24,7 +24,7 @@ impl Differences {
     fn compare_answers(
         &mut self,
         out: &mut String,
-        call: &Call,
+        number: u32,
         answer: &str,
         listed: &str,
     ) -> Result<(), CaseFault> {
@@ -32,7 +32,10 @@ impl Differences {
             return Ok(());
         }
         if self.answers == 0 {
-            write!(out, "{call:?} answers {answer}, and in lists {listed}; ")?;
+            write!(
+                out,
+                "call {number} answers {answer}, and in lists {listed}; "
+            )?;
         }
         self.answers = self.answers.saturating_add(1);
         Ok(())
@@ -42,7 +45,7 @@ impl Differences {
     fn compare_slots(
         &mut self,
         out: &mut String,
-        call: &Call,
+        number: u32,
         told: Slots,
         counted: Slots,
     ) -> Result<(), CaseFault> {
@@ -50,7 +53,8 @@ impl Differences {
             return Ok(());
         }
         if self.slots == 0 {
-            write!(out, "{call:?} leaves {told:?}, and counted {counted:?}; ")?;
+            write!(out, "call {number} leaves {} slots", told.used)?;
+            write!(out, ", and counted {}; ", counted.used)?;
         }
         self.slots = self.slots.saturating_add(1);
         Ok(())
@@ -61,6 +65,7 @@ impl Differences {
         &mut self,
         alloc: Global,
         out: &mut String,
+        number: u32,
         call: &Call,
         refs: &mut Refs,
         lists: &mut Vec<Reference>,
@@ -72,8 +77,8 @@ impl Differences {
         let (mut answer, mut listed) = (String::new(alloc), String::new(alloc));
         call_refs(alloc, &mut answer, refs, call)?;
         call_lists(alloc, &mut listed, lists.as_mut_slice(), call)?;
-        self.compare_answers(out, call, answer.as_str(), listed.as_str())?;
-        self.compare_slots(out, call, refs.slots(), counts.slots(lists.as_slice()))
+        self.compare_answers(out, number, answer.as_str(), listed.as_str())?;
+        self.compare_slots(out, number, refs.slots(), counts.slots(lists.as_slice()))
     }
 }
 
@@ -93,9 +98,17 @@ pub fn calls_case(alloc: Global, out: &mut String, args: &[Vec<u8>]) -> Result<(
         slots: 0,
     };
     let count = id(count.as_slice())?;
-    for _ in 0..count {
+    for number in 0..count {
         let call = some_call(alloc, &mut random, lists.as_slice())?;
-        differences.compare_call(alloc, out, &call, &mut refs, &mut lists, &mut counts)?;
+        differences.compare_call(
+            alloc,
+            out,
+            number,
+            &call,
+            &mut refs,
+            &mut lists,
+            &mut counts,
+        )?;
     }
     let Differences { answers, slots } = differences;
     Ok(write!(

@@ -1,6 +1,7 @@
 //! The references that the lines of a configuration bring, with their heads.
 
 use hx_cases_base::{CaseFault, show};
+use hx_cases_syntax::method_word;
 use hx_spell::{HeadSpec, TableSpec, TableSpecs};
 use std::fmt::Write;
 
@@ -52,9 +53,9 @@ fn show_reference(out: &mut String, spec: &TableSpec) -> Result<(), CaseFault> {
 }
 
 fn show_head(out: &mut String, head: HeadSpec) -> Result<(), CaseFault> {
-    let (table, by) = (head.table, head.by);
+    let (table, by) = (head.table, method_word(head.by));
     let case = if head.ci { "-i" } else { "" };
-    Ok(write!(out, "{table} {by:?}{case}|")?)
+    Ok(write!(out, "{table} {by}{case}|")?)
 }
 
 /// Writes references, and after > the heads, each with the position of its reference.

@@ -2,7 +2,7 @@ use hx_text::NoMemory;
 use std::alloc::{AllocError, AllocFailed};
 
 /// Why a line has no answer of its call.
-#[derive(Clone, Copy, Debug, PartialEq, Eq)]
+#[derive(Clone, Copy, PartialEq, Eq)]
 pub enum CaseFault {
     /// No call has this name.
     UnknownCall,

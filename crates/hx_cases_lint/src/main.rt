@@ -1,9 +1,22 @@
-//! Cases of lint: reads calls with their arguments, a line each, from standard input, and writes
-//! what each answers, a line each. `lint LINE..` is of a configuration of these lines, with the
-//! variable A of value `x`, and each line of its answer ends with `;`. `many COUNT LINE ANSWER`
-//! says whether so many lines have so many answers, where `@` is the number of a line.
+//! Cases of lint and of hxconfig: reads calls with their arguments, a line each, from standard
+//! input, and writes what each answers, a line each.
+//!
+//! `lint LINE..` is of a configuration of these lines, with the variable A of value `x`, and each
+//! line of its answer ends with `;`. `many COUNT LINE ANSWER` says whether so many lines have so
+//! many answers, where `@` is the number of a line.
+//!
+//! Lines of runs are read as they are. `file TEXT` is what the file `c` holds, where `~` stands for
+//! a line feed and a backtick for a carriage return; below `lines` the lines of that file follow,
+//! up to a run. `write N` lets the Nth write to either sink fail, which takes 16 bytes a write, in
+//! the run that follows. `run WORDS` is a command line of hxconfig with the variable A of value
+//! `x`, and its answer is `STATUS | TEXT | NOTES`. A line of `lines` answers what its run writes at
+//! its number, and ` | NOTE` for each note of it without its place; its run then answers the text
+//! and the notes that are left.
 #![tactic(auto)]
 
+mod runs;
+
+use crate::runs::Runs;
 use hx_cases_base::{Calls, CaseFault, answers, number};
 use hx_lint::lint;
 use hx_outside::{StdSink, StdSource, read_to_end, write_all};
@@ -103,15 +116,31 @@ fn many_case(alloc: Global, out: &mut String, args: &[Vec<u8>]) -> Result<(), Ca
     Ok(write!(out, "{verdict}, {len} bytes")?)
 }
 
+/// The lines of a text with their answers.
+fn answered(alloc: Global, text: &[u8]) -> Result<Vec<u8>, CaseFault> {
+    let mut out = Vec::new(alloc);
+    let mut runs = Runs::new(alloc);
+    for line in text
+        .strip_suffix(b"\n")
+        .unwrap_or(text)
+        .split(|b| *b == b'\n')
+    {
+        if !runs.take(alloc, &mut out, line)? {
+            out.extend_from_slice(answers(alloc, &mut LintCalls {}, line)?.as_bytes())?;
+        }
+    }
+    Ok(out)
+}
+
 fn main(rt: HostRuntime) -> ExitCode {
     let alloc = rt.alloc();
     let Ok(text) = read_to_end(alloc, &mut StdSource::new(rt.reader()), 16_777_216) else {
         return ExitCode::from(5);
     };
-    let Ok(out) = answers(alloc, &mut LintCalls {}, text.as_slice()) else {
+    let Ok(out) = answered(alloc, text.as_slice()) else {
         return ExitCode::from(7);
     };
-    match write_all(&mut StdSink::new(writer(&rt)), out.as_bytes()) {
+    match write_all(&mut StdSink::new(writer(&rt)), out.as_slice()) {
         Ok(()) => ExitCode::from(0),
         Err(_) => ExitCode::from(6),
     }

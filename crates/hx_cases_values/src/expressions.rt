@@ -6,6 +6,7 @@ ghost use Rattle.hx_expr.specs.Values.{HasTableHeads};
 
 use hx_ast::{AclUse, Conv, Decl, Expr, Statement};
 use hx_cases_base::{CaseFault, State, numbers, sample, show_all, show_occurrence};
+use hx_cases_syntax::show_statement;
 use hx_expr::{Plan, PlanFault, compile, eval, eval_all};
 use hx_fetch::World;
 use hx_outside::{FailMaker, PlainMaker, ReMaker};
@@ -33,11 +34,6 @@ fn spelled(alloc: Global, out: &mut String, line: &[u8]) -> Result<Option<Statem
         }
         Err(SpellFault::NoMemory) => Err(CaseFault::NoMemory),
     }
-}
-
-/// Writes a statement as it is kept.
-fn show_statement(out: &mut String, statement: &Statement) -> Result<(), CaseFault> {
-    Ok(write!(out, "{statement:?}")?)
 }
 
 /// `statement LINE`: the statement that the line spells, or the code of its fault.

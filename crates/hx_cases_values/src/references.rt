@@ -6,6 +6,7 @@ ghost use Rattle.hx_expr.specs.Values.{IsHeadBy};
 
 use crate::methods::way;
 use hx_cases_base::{CaseFault, id, pairs, show_option, show_pair};
+use hx_cases_syntax::method_word;
 use hx_outside::{PlainMaker, ReMaker};
 use hx_refs::{Limits, Pairs, RefFault, Refs};
 use hx_text::{By, Out, cut_at};
@@ -134,8 +135,8 @@ fn show_map(out: &mut String, refs: &Refs) -> Result<(), CaseFault>
 {
     for place in 0..23 {
         if let Some((by, ci, head)) = refs.use_at(0, place) {
-            let case = if ci { "-i" } else { "" };
-            write!(out, "{by:?}{case}={head}|")?;
+            let (by, case) = (method_word(by), if ci { "-i" } else { "" });
+            write!(out, "{by}{case}={head}|")?;
         }
     }
     for entry in refs.entries(0, None) {
