@@ -119,7 +119,7 @@ class Tried:
         self.write_configuration()
         for way in ("log", "pcap"):
             with open(self.path(f"{way}.rec"), "rb") as made:
-                self.run(f"{way}.answers", self.program, "run", self.path("cfg"), stdin=made)
+                self.run(f"{way}.answers", *self.program, "run", self.path("cfg"), stdin=made)
 
     def requests(self, way):
         """The requests of a record. Their keys are their client, and which of its requests each

@@ -83,9 +83,12 @@ def connect(frontend, source, seconds, tls):
     """A connection to a frontend, on which a client waits so many seconds."""
     port = proxy.PORTS[frontend] + proxy.TLS * tls
     family = 6 if ":" in source else 4
-    it = socket.create_connection((proxy.PROXY[family], port), seconds, (source, next(FREE_PORTS)))
+    it = socket.create_connection((proxy.PROXY[family], port), SECONDS, (source, next(FREE_PORTS)))
     it.setsockopt(socket.IPPROTO_TCP, socket.TCP_NODELAY, 1)
-    return CONTEXT.wrap_socket(it) if tls else it
+    it = CONTEXT.wrap_socket(it) if tls else it
+    # a connection is made also where no answer comes
+    it.settimeout(seconds)
+    return it
 
 
 def talk(answered, frontend, source, requests, how="in turn", *, seed=0, seconds=SECONDS,

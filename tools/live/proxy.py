@@ -1,8 +1,9 @@
 """A real HAProxy with the frontends of the examples, the server behind it, and a capture of what
-its clients send. Its whole configuration of another example stands in live/whole.py.
+its clients send. The whole configurations of other examples stand in live/whole.py.
 
 All of it runs in a network of its own, which has the addresses of ENDS and nothing else.
 """
+import itertools
 import os
 import re
 import signal
@@ -24,10 +25,14 @@ FRONTENDS = {
     "sessions": "tools/live/sessions.cfg",
     "rewrites": "tools/live/rewrites.cfg",
 }
-# Those of the whole configuration.
-WHOLE = ("plain", "shop", "api")
+# Those of whole configurations, by the file that has them.
+WHOLE = {
+    "examples/whole/haproxy.cfg": ("plain", "shop", "api"),
+    "examples/whole/members.cfg": ("members", "partners"),
+}
 # Where each takes plain traffic.
-PORTS = {name: port for port, name in enumerate([*FRONTENDS, *WHOLE], 8001)}
+NAMES = [*FRONTENDS, *itertools.chain(*WHOLE.values())]
+PORTS = {name: port for port, name in enumerate(NAMES, 8001)}
 # The port for TLS is the plain one and this.
 TLS = 1000
 SERVER_PORT = 9000
@@ -84,12 +89,12 @@ def backend(name):
 
 
 def configuration(folder):
-    """The configuration of HAProxy but for the whole one."""
+    """The configuration of HAProxy but for the whole ones."""
     log, *rules, log_format = logging_lines()
     # the clocks of several threads may be apart, so that a command and the request after it change
     # places
     lines = ["global", "nbthread 1", f"stats socket {folder}/socket level admin", log]
-    # the whole configuration has room for more connections than are needed here
+    # the whole configurations have room for more connections than are needed here
     lines += ["no strict-limits"]
     lines += ["defaults", "mode http", "log global", "timeout connect 5s", "timeout client 20s"]
     lines += ["timeout server 20s"]

@@ -1,72 +1,97 @@
-"""The whole configuration of an example: as HAProxy runs with it here, and its frontends as
-hxconfig takes them out of it for hxeval."""
+"""The whole configurations of an example: as HAProxy runs with them here, and their frontends as
+hxconfig takes them out of them for hxeval."""
+import os
 import re
 import subprocess
 
 from live import checks, proxy
 
-PATH = f"{proxy.TOP}/examples/whole/haproxy.cfg"
-# What hxeval refuses of it: a counter, and the version of TLS.
-REFUSED = {"plain": [], "shop": ["sc_http_req_rate(0)", "ssl_fc_protocol"], "api": []}
+# A text of each line that hxeval refuses of them, in their order: counters, the version of TLS, a
+# connection before its requests, another source, what the running proxy knows, and a token.
+REFUSED = {
+    "shop": ["sc_http_req_rate(0)", "ssl_fc_protocol"],
+    "members": ["tcp-request connection", "set-src", "sc_http_req_rate(0)", "nbsrv"],
+    "partners": ["http_auth_bearer"],
+}
 REFUSES = 3
 
 
-def changed(line, folder, title):
-    """What stands here in the place of a line of the file, below this title of a frontend. Ports,
-    certificate and servers are those of this network; the log is the one that makes records, and
-    has all requests; and who is kept waiting waits a moment."""
-    word, _, rest = line.strip().partition(" ")
-    if word == "frontend":
-        _, *rules, log_format = proxy.logging_lines()
-        return [line, *rules, log_format]
-    if word == "bind":
-        return proxy.binds(title, folder)
-    if word == "backend":
-        return proxy.backend(rest)
-    if word == "server" or rest.startswith("stdout"):
-        return []
-    if rest.startswith("connect "):
-        return [line, "timeout tarpit 100ms"]
-    return [line.replace("set-log-level silent", "set-log-level info")]
+class Here:
+    """What HAProxy runs with here in the place of the lines of a file. Ports, certificate and
+    servers are those of this network; the log is the one that makes records, and has all requests;
+    and who is kept waiting waits a moment."""
+
+    def __init__(self, folder):
+        self.folder = folder
+        _, *self.rules, self.log_format = proxy.logging_lines()
+        self.title, self.has_rules = None, False
+
+    def rule(self, line):
+        """A rule of a frontend, below those for the log, which stand above all rules."""
+        above = [] if self.has_rules else self.rules
+        self.has_rules = True
+        return [*above, line]
+
+    def lines(self, line):
+        """What stands here in the place of a line of the file."""
+        word, _, rest = line.strip().partition(" ")
+        if word == "frontend":
+            self.title, self.has_rules = rest, False
+            return [line, self.log_format]
+        if word == "bind":
+            return proxy.binds(self.title, self.folder)
+        if word == "backend":
+            return proxy.backend(rest)
+        if word == "server" or rest.startswith("stdout"):
+            return []
+        if rest.startswith("connect "):
+            return [line, "timeout tarpit 100ms"]
+        if word == "http-request":
+            return self.rule(line.replace("set-log-level silent", "set-log-level info"))
+        return [line]
 
 
-def configuration(folder):
-    """The whole configuration of HAProxy."""
-    lines, title = [], None
-    with open(PATH, encoding="utf-8") as it:
-        for line in it.read().splitlines():
-            title = line.split()[1] if line.startswith("frontend ") else title
-            lines += changed(line, folder, title)
-    return "\n".join([*lines, ""])
+def path_of(folder, path):
+    """Where this stands that HAProxy runs with in the place of a file."""
+    return f"{folder}/whole-{os.path.basename(path)}"
+
+
+def write_configuration(folder, path):
+    """Writes what HAProxy runs with in the place of this file; the answer is where."""
+    here = Here(folder)
+    with open(f"{proxy.TOP}/{path}", encoding="utf-8") as it:
+        lines = [new for line in it.read().splitlines() for new in here.lines(line)]
+    with open(path_of(folder, path), "w", encoding="utf-8") as it:
+        it.write("\n".join([*lines, ""]))
+    return path_of(folder, path)
 
 
 def listed(hxconfig, path):
     """The names of the sections that take traffic."""
-    words = [hxconfig, "frontends", path]
+    words = [*hxconfig, "frontends", path]
     ran = subprocess.run(words, cwd=proxy.TOP, stdout=subprocess.PIPE, check=True, encoding="utf-8")
     return tuple(line.split()[2] for line in ran.stdout.splitlines())
 
 
 class Tried(checks.Tried):
-    """A frontend of the whole configuration."""
+    """A frontend of a whole configuration."""
 
-    def __init__(self, name, folder, program, hxconfig):
+    def __init__(self, name, folder, program, hxconfig, path):
         super().__init__(name, folder, program)
-        self.hxconfig = hxconfig
+        self.hxconfig, self.whole = hxconfig, path_of(folder, path)
 
     def write_configuration(self):
         """Takes the frontend out of what HAProxy ran with, without the rules for the log and what
         hxeval refuses, as docs/manual/trying.md says."""
         port = str(self.port + proxy.TLS)
-        self.run("taken", self.hxconfig, "frontend", self.name, f"{self.folder}/whole.cfg",
-                 "--tls", port)
+        self.run("taken", *self.hxconfig, "frontend", self.name, self.whole, "--tls", port)
         with open(self.path("taken"), encoding="utf-8") as it:
             lines = ["" if "rec_" in line else line for line in it.read().split("\n")]
         refused = []
         while (number := self.refused_line(lines)):
             refused.append(lines[number - 1])
             lines[number - 1] = f"# {lines[number - 1]}"
-        expected = REFUSED[self.name]
+        expected = REFUSED.get(self.name, [])
         if len(refused) != len(expected) or not all(map(str.__contains__, refused, expected)):
             self.wrong.append(f"hxeval refuses {refused}")
 
@@ -74,7 +99,7 @@ class Tried(checks.Tried):
         """The number of the first line that hxeval refuses, or none."""
         with open(self.path("cfg"), "w", encoding="utf-8") as it:
             it.write("\n".join(lines))
-        self.run("checked", self.program, "check", self.path("cfg"), statuses=(0, REFUSES))
+        self.run("checked", *self.program, "check", self.path("cfg"), statuses=(0, REFUSES))
         with open(self.path("checked"), encoding="utf-8") as it:
             found = re.match(r"config (\d+) \d+", it.read())
         return int(found[1]) if found else None
