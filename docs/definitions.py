@@ -14,12 +14,12 @@ import signal
 import sys
 
 ROOT = pathlib.Path(__file__).resolve().parent.parent
-HEADLINE = [("hxeval.specs.Run", "Headline")]
-RUN = ("crates/hxeval/src/run.rt", "run")
+HEADLINE = [("hx_run.specs.Run", "Headline")]
+RUN = ("crates/hx_run/src/run.rt", "run")
 CRATES = (
-    "hxeval hx_replay hx_core hx_cli hx_record hx_http hx_rules hx_acl hx_expr hx_fetch hx_lists "
-    "hx_conv_text hx_conv_val hx_sample hx_match hx_refs hx_versions hx_load hx_spell hx_ast "
-    "hx_words hx_program hx_text hx_outside hx_base"
+    "hx_run hx_replay hx_core hx_cli hx_record hx_http hx_rules hx_acl hx_expr hx_fetch hx_lists "
+    "hx_conv_text hx_conv_val hx_sample hx_match hx_refs hx_versions hx_load hx_filling hx_spell hx_calls hx_ast "
+    "hx_words hx_program hx_gen hx_text hx_outside hx_base"
 ).split()
 NAME = r"[A-Za-z_][\w'-]*"
 
