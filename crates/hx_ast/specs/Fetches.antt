@@ -28,7 +28,7 @@ IsIpv6 ip = (n : ℕ) × (ip ≡ V6 n)
 abbrev pub IsFetch : Fetch → Type 0
 IsFetch (fetch.Ipv4 ip) = IsIpv4 ip
 IsFetch (fetch.Ipv6 ip) = IsIpv6 ip
-IsFetch (fetch.Var name) = IsVariable name
+IsFetch (fetch.Var name default) = IsVariable name
 IsFetch (fetch.ReqHdr name at) = IsHeader name at
 IsFetch (fetch.ReqFhdr name at) = IsHeader name at
 IsFetch (fetch.ReqHdrIp name at) = IsHeader name at

@@ -25,8 +25,8 @@ pub enum Fetch {
     Ipv4(Ip),
     /// `ipv6(A)`: the address A
     Ipv6(Ip),
-    /// `var(NAME)`: the value of the variable NAME
-    Var(VarName),
+    /// `var(NAME[,DEFAULT])`: the value of the variable NAME, or the text DEFAULT where it isn't set
+    Var(VarName, Option<Octets>),
     /// `src`: the address that the connection comes from
     Src,
     /// `dst`: the address that the connection goes to

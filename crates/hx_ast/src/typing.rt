@@ -23,7 +23,7 @@ impl Fetch {
             Fetch::ReqCook(_) | Fetch::UrlParam(_, _) => Kind::Str,
             Fetch::Bin(_) => Kind::Bin,
             Fetch::Method => Kind::Method,
-            Fetch::Var(_) => Kind::Any,
+            Fetch::Var(..) => Kind::Any,
         }
     }
 }

@@ -35,7 +35,8 @@ fetch_row fetch_name.Str = row (codes "str" ∷ []) (Required Text ∷ []) fetch
 fetch_row fetch_name.Bin = row (codes "bin" ∷ []) (Required Hexadecimal ∷ []) fetch.Bin
 fetch_row fetch_name.Ipv4 = row (codes "ipv4" ∷ []) (Required Ipv4Address ∷ []) fetch.Ipv4
 fetch_row fetch_name.Ipv6 = row (codes "ipv6" ∷ []) (Required Ipv6Address ∷ []) fetch.Ipv6
-fetch_row fetch_name.Var = row (codes "var" ∷ []) (Required Variable ∷ []) fetch.Var
+fetch_row fetch_name.Var =
+    row (codes "var" ∷ []) (Required Variable ∷ Optional Text ∷ []) fetch.Var
 fetch_row fetch_name.Src = row (codes "src" ∷ []) [] fetch.Src
 fetch_row fetch_name.Dst = row (codes "dst" ∷ []) [] fetch.Dst
 fetch_row fetch_name.SrcPort = row (codes "src_port" ∷ []) [] fetch.SrcPort

@@ -107,7 +107,7 @@ pub(crate) fn fetch(alloc: Global, name: FetchName, call: &Call) -> Result<Fetch
         FetchName::Bin => Ok(Fetch::Bin(single::<Hexadecimal>(alloc, call)?)),
         FetchName::Ipv4 => Ok(Fetch::Ipv4(single::<Ipv4Address>(alloc, call)?)),
         FetchName::Ipv6 => Ok(Fetch::Ipv6(single::<Ipv6Address>(alloc, call)?)),
-        FetchName::Var => Ok(Fetch::Var(single::<Variable>(alloc, call)?)),
+        FetchName::Var => var(alloc, call),
         FetchName::Src => bare(call, Fetch::Src),
         FetchName::Dst => bare(call, Fetch::Dst),
         FetchName::SrcPort => bare(call, Fetch::SrcPort),
@@ -127,6 +127,13 @@ pub(crate) fn fetch(alloc: Global, name: FetchName, call: &Call) -> Result<Fetch
         FetchName::ReqCookCnt => Ok(Fetch::ReqCookCnt(at_most_one::<Text>(alloc, call)?)),
         FetchName::UrlParam => url_param(alloc, call),
     }
+}
+
+fn var(alloc: Global, call: &Call) -> Result<Fetch, SpellFault>
+    ensures { AnswersAs result (made_by (fetch_row fetch_name.Var) call.now.args) }
+{
+    let (name, default) = one_or_two::<Variable, Text>(alloc, call)?;
+    Ok(Fetch::Var(name, default))
 }
 
 fn req_hdr(alloc: Global, call: &Call) -> Result<Fetch, SpellFault>

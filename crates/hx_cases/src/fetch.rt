@@ -110,7 +110,11 @@ fn fetch_with(alloc: Global, call: &Call, arg: &[u8]) -> Result<Fetch, CaseFault
         return Ok(Fetch::Ipv6(address(arg)?));
     }
     if at == b"var".as_slice() {
-        return Ok(Fetch::Var(variable(alloc, arg)?));
+        let default = match call.arg(1) {
+            Some(text) => Some(Octets::copy(alloc, text)?),
+            None => None,
+        };
+        return Ok(Fetch::Var(variable(alloc, arg)?, default));
     }
     named_fetch(call, Octets::copy(alloc, arg)?)
 }

@@ -1,9 +1,9 @@
 //! How fetches are written.
 
-use crate::words::{show_optional, show_text, show_word_of};
+use crate::words::{show_optional, show_text, show_variable};
 use hx_ast::Fetch;
 use hx_cases_base::{CaseFault, show, show_address};
-use hx_text::{Ip, Octets};
+use hx_text::{Ip, Octets, VarName};
 use std::fmt::Write;
 
 /// The word for a fetch that takes no arguments.
@@ -53,6 +53,21 @@ fn show_named(out: &mut String, word: &str, name: &Option<Octets>) -> Result<(),
     Ok(out.push(')')?)
 }
 
+/// Writes the fetch of a variable, with its default if there is one.
+fn show_var(
+    out: &mut String,
+    variable: &VarName,
+    default: &Option<Octets>,
+) -> Result<(), CaseFault> {
+    out.push_str("Var(")?;
+    show_variable(out, variable)?;
+    if let Some(text) = default {
+        out.push_str(", ")?;
+        show(out, text.as_slice())?;
+    }
+    Ok(out.push(')')?)
+}
+
 /// Writes a fetch that takes arguments and looks at a request.
 fn show_of_request(out: &mut String, fetch: &Fetch) -> Result<(), CaseFault> {
     match fetch {
@@ -84,7 +99,7 @@ pub(crate) fn show_fetch(out: &mut String, fetch: &Fetch) -> Result<(), CaseFaul
         Fetch::Bin(bytes) => show_text(out, "Bin", bytes),
         Fetch::Ipv4(ip) => show_ip(out, "Ipv4", *ip),
         Fetch::Ipv6(ip) => show_ip(out, "Ipv6", *ip),
-        Fetch::Var(variable) => show_word_of(out, "Var", variable),
+        Fetch::Var(variable, default) => show_var(out, variable, default),
         _ => show_of_request(out, fetch),
     }
 }

@@ -42,10 +42,11 @@ fn mapping(alloc: Global, by: By, kind: &[u8], default: &[u8]) -> Result<Expr, C
     let kind = type_of_values(kind)?;
     convs.push(Conv::Map(0, by, kind, default_of(alloc, default)?))?;
     let name = Octets::copy(alloc, b"case")?;
-    let fetch = Fetch::Var(VarName {
+    let variable = VarName {
         scope: Scope::Txn,
         name,
-    });
+    };
+    let fetch = Fetch::Var(variable, None);
     Ok(Expr { fetch, convs })
 }
 

@@ -42,7 +42,10 @@ pub(crate) fn copied_fetch(alloc: Global, fetch: &Fetch) -> Result<Fetch, NoMemo
         Fetch::Bin(bytes) => Ok(Fetch::Bin(copied(alloc, bytes)?)),
         Fetch::Ipv4(ip) => Ok(Fetch::Ipv4(*ip)),
         Fetch::Ipv6(ip) => Ok(Fetch::Ipv6(*ip)),
-        Fetch::Var(name) => Ok(Fetch::Var(copied_name(alloc, name)?)),
+        Fetch::Var(name, default) => Ok(Fetch::Var(
+            copied_name(alloc, name)?,
+            copied_text(alloc, default)?,
+        )),
         Fetch::Src => Ok(Fetch::Src),
         Fetch::Dst => Ok(Fetch::Dst),
         Fetch::SrcPort => Ok(Fetch::SrcPort),

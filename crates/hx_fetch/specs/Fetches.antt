@@ -1,6 +1,7 @@
 -- What each fetch finds, as the list of its occurrences, each a value or none (HAProxy
 -- configuration manual 2.4 sections 7.3.2 to 7.3.6).
-use Rattle.std.specs.Prelude.{ℕ, ◌-◌, ◌^◌, min, pos, Bool, true, false, List, [], ◌∷◌, ◌++◌, map, length, slice_get, codes, Option, Some, is_some, option_map, unwrap_or, ◌==◌, if◌then◌else◌}
+use Rattle.std.specs.Prelude.{ℕ, ◌-◌, ◌^◌, min, pos, Bool, true, false, List, [], ◌∷◌, ◌++◌, map, length, slice_get, codes, Option, Some, is_none, is_some, option_map, unwrap_or, ◌&&◌, ◌==◌, if◌then◌else◌}
+use Rattle.std.specs.Option.{option_or}
 use Rattle.std.specs.Str.{bytes_eq}
 use Rattle.hx_ast.specs.Types.{fetch_kind}
 use Rattle.hx_ast.specs.declared.fetch.Fetch.{Fetch}
@@ -12,6 +13,7 @@ use Rattle.hx_sample.specs.declared.sample.Value.TheVariants as value
 use Rattle.hx_sample.specs.Cast.{cast_of}
 use Rattle.hx_sample.specs.Vars.{var_of}
 use Rattle.hx_text.specs.declared.kinds.Kind.{Kind}
+use Rattle.hx_text.specs.declared.names.VarName.{VarName}
 use Rattle.hx_lists.specs.NamedValues.{params}
 use Rattle.hx_fetch.specs.Names.{values_by, header_lines, header_values, cookie_values}
 use Rattle.hx_fetch.specs.Picks.{selection, end_of}
@@ -27,6 +29,11 @@ base_of message =
 -- saturates
 abbrev pub count_of : {A : Type 0} → List A → Option Value
 count_of xs = Some (value.Int (pos (min (length xs) (2 ^ 63 - 1))))
+
+-- the value of a variable, or the text that is its default where it isn't set
+abbrev pub value_or_default : VarName → Option (List ℕ) → Context → Option Value
+value_or_default name default context =
+    option_or (var_of context.vars context.conn.id name) (option_map value.Str default)
 
 -- each text as a value of a kind, or none where it writes none
 abbrev pub text_occurrences : Kind → List (List ℕ) → List (Option Value)
@@ -56,7 +63,7 @@ occurrences_of (fetch.Str text) context = Some (value.Str text) ∷ []
 occurrences_of (fetch.Bin bytes) context = Some (value.Bin bytes) ∷ []
 occurrences_of (fetch.Ipv4 ip) context = Some (value.Ip ip) ∷ []
 occurrences_of (fetch.Ipv6 ip) context = Some (value.Ip ip) ∷ []
-occurrences_of (fetch.Var name) context = var_of context.vars context.conn.id name ∷ []
+occurrences_of (fetch.Var name default) context = value_or_default name default context ∷ []
 occurrences_of fetch.Src context = Some (value.Ip context.conn.src) ∷ []
 occurrences_of fetch.Dst context = Some (value.Ip context.conn.dst) ∷ []
 occurrences_of fetch.SrcPort context = Some (value.Int (pos context.conn.src_port)) ∷ []
@@ -72,11 +79,14 @@ occurrences_of (fetch.ReqHdrCnt name) context = count_of (header_values name con
 occurrences_of (fetch.ReqCookCnt name) context = count_of (cookie_values name context.message) ∷ []
 occurrences_of fetch context = text_occurrences (fetch_kind fetch) (texts_of fetch context.message)
 
--- Whether the value is bytes that are copied, and not lent: those of an argument, and those that
--- `base` puts together where there is a path.
+-- Whether the value is bytes that are copied, and not lent: those of an argument, of which the
+-- default of a variable is one where the variable isn't set, and those that `base` puts together
+-- where there is a path.
 abbrev pub is_copied : Fetch → Context → Bool
 is_copied (fetch.Str text) context = true
 is_copied (fetch.Bin bytes) context = true
+is_copied (fetch.Var name default) context =
+    is_some default && is_none (var_of context.vars context.conn.id name)
 is_copied fetch.Base context = is_some (path_of context.message.target)
 is_copied _ context = false
 

@@ -1,10 +1,11 @@
 ghost use Rattle.std.specs.Prelude.{◌≡◌, ◌==◌, [], ◌++◌, false, is_some, IfOk, IsOk, Some, codes, option_map, slice_get, unwrap_or, if◌then◌else◌};
 ghost use Rattle.std.specs.Option.{option_copied};
+ghost use Rattle.hx_ast.specs.declared.fetch.Fetch.TheVariants as fetch;
 ghost use Rattle.hx_sample.specs.declared.sample.Value.TheVariants as value;
 ghost use Rattle.hx_sample.specs.Seen.{bytes_of, occurrence_value};
 ghost use Rattle.hx_sample.specs.Vars.{var_of};
 ghost use Rattle.hx_http.specs.Target.{path_of};
-ghost use Rattle.hx_fetch.specs.Fetches.{base_of, is_copied, occurrences_of};
+ghost use Rattle.hx_fetch.specs.Fetches.{base_of, is_copied, occurrences_of, value_or_default};
 ghost use Rattle.hx_fetch.specs.Names.{cookie_values, header_lines, header_values};
 ghost use Rattle.hx_fetch.specs.Views.{found_occurrences, source_texts};
 ghost use Rattle.hx_fetch.specs.World.{context_of};
@@ -72,6 +73,25 @@ fn variable<'w>(world: &World<'w>, name: &VarName) -> Option<Sample<'w>>
     }
 }
 
+/// The value of a variable, or a copy of its default where it isn't set. Memory is taken for that
+/// copy alone.
+fn variable_or<'w>(
+    alloc: Global,
+    world: &World<'w>,
+    name: &VarName,
+    default: &Option<Octets>,
+) -> Result<Option<Sample<'w>>, NoMemory>
+    ensures value { IfOk result (λ occurrence. occurrence_value occurrence
+        ≡ value_or_default name.now default.now (context_of world.now)) }
+    ensures no_memory { is_copied (fetch.Var name.now default.now) (context_of world.now) ≡ false
+        → IsOk result }
+{
+    match (variable(world, name), default) {
+        (None, Some(text)) => Ok(Some(Sample::Str(copied(alloc, text)?))),
+        (occurrence, _) => Ok(occurrence),
+    }
+}
+
 fn lent_text<'w>(bytes: Option<&'w [u8]>) -> Option<Sample<'w>>
     ensures { occurrence_value result ≡ option_map value.Str (option_copied bytes.entry) }
 {
@@ -136,7 +156,7 @@ pub(crate) fn look_up<'f, 'w>(
         Fetch::Bin(bytes) => Found::One(Some(Sample::Bin(copied(alloc, bytes)?))),
         Fetch::Ipv4(ip) => Found::One(Some(Sample::Ip(*ip))),
         Fetch::Ipv6(ip) => Found::One(Some(Sample::Ip(*ip))),
-        Fetch::Var(name) => Found::One(variable(world, name)),
+        Fetch::Var(name, default) => Found::One(variable_or(alloc, world, name, default)?),
         Fetch::Src => Found::One(Some(Sample::Ip(conn.src))),
         Fetch::Dst => Found::One(Some(Sample::Ip(conn.dst))),
         Fetch::SrcPort => Found::One(Some(Sample::Int(i64::from(conn.src_port)))),

@@ -85,7 +85,7 @@ option_told lines number None = []
 option_told lines number (Some name) = name_told lines number name
 
 abbrev pub fetch_told : List JudgedLine → ℕ → Fetch → List ℕ
-fetch_told lines number (fetch.Var name) = name_told lines number name
+fetch_told lines number (fetch.Var name default) = name_told lines number name
 fetch_told lines number _ = []
 
 abbrev pub conv_told : List JudgedLine → ℕ → Conv → List ℕ

@@ -143,7 +143,7 @@ fn push_fetch(
         (out.new.items ≡ out.old.items ++ fetch_told lines.now number fetch.now) }
 {
     match fetch {
-        Fetch::Var(name) => push_name(out, lines, number, name),
+        Fetch::Var(name, _) => push_name(out, lines, number, name),
         _ => Ok(()),
     }
 }
