@@ -1,6 +1,6 @@
 //! Calls on references that look random.
 
-use crate::lists::{Reference, Use};
+use crate::lists::{Reference, Use, Version};
 use crate::random::Random;
 use crate::random_texts::{
     Kind, address_text, any_kind, key_text, kind_read_by, letters_text, number_text,
@@ -118,13 +118,26 @@ fn some_version(random: &mut Random, reference: &Reference) -> Option<u32> {
     }
 }
 
-/// The number of an entry of the version that is searched, or one that none has.
-fn some_number(random: &mut Random, reference: &Reference) -> u64 {
-    let entries = reference.current.entries.as_slice();
+/// A version of this number, or now and then that which is searched, as it is where there is none.
+fn version_or_current<'a>(
+    random: &mut Random,
+    reference: &'a Reference,
+    ver: Option<u32>,
+) -> &'a Version {
+    match reference.version(ver) {
+        Some(version) if random.below(4) != 0 => version,
+        _ => &reference.current,
+    }
+}
+
+/// The number of an entry, most often of this version, or one that none has.
+fn some_number(random: &mut Random, reference: &Reference, ver: Option<u32>) -> u64 {
+    let version = version_or_current(random, reference, ver);
+    let entries = version.entries.as_slice();
     let position = random.below(entries.len() as u64 + 2) as usize;
     match entries.get(position) {
         Some(entry) => entry.number,
-        None => u64::from(reference.current.number) * 0x1_0000_0000 + random.below(60),
+        None => u64::from(version.number) * 0x1_0000_0000 + random.below(60),
     }
 }
 
@@ -263,15 +276,16 @@ pub fn some_call(
         return Err(CaseFault::BadArguments);
     };
     let name = some_name(random);
+    let ver = some_version(random, reference);
     let (key, value) = some_pair(alloc, random, reference)?;
     let mut word = String::new(alloc);
     word_text(random, &mut word)?;
     Ok(Call {
         name,
         r: reference.position,
-        ver: some_version(random, reference),
+        ver,
         last: reference.next(),
-        number: some_number(random, reference),
+        number: some_number(random, reference, ver),
         key,
         value,
         pairs: some_pairs(alloc, random, reference)?,

@@ -131,24 +131,37 @@ impl Reference {
         Ok(())
     }
 
-    /// Removes entries from the version that is searched.
-    pub fn delete(&mut self, choice: &Choice<'_>) -> Result<(), RefFault> {
-        if !choice.has_any(self.current.entries.as_slice()) {
+    /// Removes entries from a version.
+    pub fn delete(&mut self, ver: Option<u32>, choice: &Choice<'_>) -> Result<(), RefFault> {
+        let Some(version) = self.version_mut(ver) else {
+            return Err(RefFault::BadVersion);
+        };
+        if !choice.has_any(version.entries.as_slice()) {
             return Err(RefFault::KeyNotFound);
         }
-        self.current.entries.retain(|entry| !choice.has(entry));
+        version.entries.retain(|entry| !choice.has(entry));
         Ok(())
     }
 
-    /// Sets the value of entries of the version that is searched.
-    pub fn set(&mut self, alloc: Global, choice: &Choice<'_>, value: &str) -> Result<(), RefFault> {
-        if !choice.has_any(self.current.entries.as_slice()) {
+    /// Sets the value of entries of a version.
+    pub fn set(
+        &mut self,
+        alloc: Global,
+        ver: Option<u32>,
+        choice: &Choice<'_>,
+        value: &str,
+    ) -> Result<(), RefFault> {
+        let refuses_value = self.refuses_value(value);
+        let Some(version) = self.version_mut(ver) else {
+            return Err(RefFault::BadVersion);
+        };
+        if !choice.has_any(version.entries.as_slice()) {
             return Err(RefFault::KeyNotFound);
         }
-        if self.refuses_value(value) {
+        if refuses_value {
             return Err(RefFault::BadValue);
         }
-        for entry in self.current.entries.iter_mut() {
+        for entry in version.entries.iter_mut() {
             if choice.has(entry) {
                 entry.value = String::from_str(alloc, value)?;
             }
@@ -204,9 +217,9 @@ impl Reference {
         let _ = match change {
             Name::ChangeAdd if is_there => Ok(()),
             Name::ChangeAdd => self.add(alloc, None, key, ""),
-            Name::ChangeSetMap if is_there => self.set(alloc, &choice, value),
+            Name::ChangeSetMap if is_there => self.set(alloc, None, &choice, value),
             Name::ChangeSetMap => self.add(alloc, None, key, value),
-            _ => self.delete(&choice),
+            _ => self.delete(None, &choice),
         };
     }
 

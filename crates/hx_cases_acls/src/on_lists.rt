@@ -16,10 +16,10 @@ fn change(alloc: Global, reference: &mut Reference, call: &Call) -> Result<(), R
     match call.name {
         Name::Add => reference.add(alloc, call.ver, key, value),
         Name::AddMany => reference.add_many(alloc, call.ver, call.pairs.as_slice()),
-        Name::DeleteKey => reference.delete(&Choice::Key(key)),
-        Name::DeleteNumber => reference.delete(&Choice::Number(call.number)),
-        Name::SetKey => reference.set(alloc, &Choice::Key(key), value),
-        Name::SetNumber => reference.set(alloc, &Choice::Number(call.number), value),
+        Name::DeleteKey => reference.delete(call.ver, &Choice::Key(key)),
+        Name::DeleteNumber => reference.delete(call.ver, &Choice::Number(call.number)),
+        Name::SetKey => reference.set(alloc, call.ver, &Choice::Key(key), value),
+        Name::SetNumber => reference.set(alloc, call.ver, &Choice::Number(call.number), value),
         _ => reference.commit(alloc, call.committed()),
     }
 }

@@ -31,10 +31,10 @@ fn change(alloc: Global, refs: &mut Refs, r: u32, call: &Call) -> Result<(), Ref
     match call.name {
         Name::Add => refs.add(r, call.ver, key, value, &mut PlainMaker::new()),
         Name::AddMany => add_many(alloc, refs, r, call),
-        Name::DeleteKey => refs.del_key(r, key),
-        Name::DeleteNumber => refs.del_id(r, call.number),
-        Name::SetKey => refs.set_key(r, key, value),
-        Name::SetNumber => refs.set_id(r, call.number, value),
+        Name::DeleteKey => refs.del_key(r, call.ver, key),
+        Name::DeleteNumber => refs.del_id(r, call.ver, call.number),
+        Name::SetKey => refs.set_key(r, call.ver, key, value),
+        Name::SetNumber => refs.set_id(r, call.ver, call.number, value),
         _ => commit_uncounted(refs, r, call.committed()),
     }
 }

@@ -170,39 +170,52 @@ fn add_many(
 }
 
 /// Sets the value of the entries with a key, for `KEY=VALUE`.
-fn set(out: &mut String, refs: &mut Refs, r: u32, text: &[u8]) -> Result<(), CaseFault>
+fn set(
+    out: &mut String,
+    refs: &mut Refs,
+    r: u32,
+    ver: Option<u32>,
+    text: &[u8],
+) -> Result<(), CaseFault>
     requires { r < length refs.old.content.references }
 {
     let (key, value) = cut_at(b'=', text).ok_or(CaseFault::BadArguments)?;
-    show_done(out, refs.set_key(r, key, value))
+    show_done(out, refs.set_key(r, ver, key, value))
 }
 
 /// Sets the value of the entry with a number, for `VERSION.SERIAL=VALUE`.
-fn set_id(out: &mut String, refs: &mut Refs, r: u32, text: &[u8]) -> Result<(), CaseFault>
+fn set_id(
+    out: &mut String,
+    refs: &mut Refs,
+    r: u32,
+    ver: Option<u32>,
+    text: &[u8],
+) -> Result<(), CaseFault>
     requires { r < length refs.old.content.references }
 {
     let (number, value) = cut_at(b'=', text).ok_or(CaseFault::BadArguments)?;
-    show_done(out, refs.set_id(r, entry_number(number)?, value))
+    show_done(out, refs.set_id(r, ver, entry_number(number)?, value))
 }
 
-/// The step of this name and this text on the version that is searched.
+/// The step of this name and this text on a version, or without one on that which is searched.
 fn text_step(
     alloc: Global,
     out: &mut String,
     refs: &mut Refs,
     r: u32,
     name: &[u8],
+    ver: Option<u32>,
     text: &[u8],
 ) -> Result<(), CaseFault>
     requires { r < length refs.old.content.references }
 {
     match name {
-        b"add" => add(out, refs, r, None, text),
-        b"addmany" => add_many(alloc, out, refs, r, None, text),
-        b"del" => show_done(out, refs.del_key(r, text)),
-        b"delid" => show_done(out, refs.del_id(r, entry_number(text)?)),
-        b"set" => set(out, refs, r, text),
-        b"setid" => set_id(out, refs, r, text),
+        b"add" => add(out, refs, r, ver, text),
+        b"addmany" => add_many(alloc, out, refs, r, ver, text),
+        b"del" => show_done(out, refs.del_key(r, ver, text)),
+        b"delid" => show_done(out, refs.del_id(r, ver, entry_number(text)?)),
+        b"set" => set(out, refs, r, ver, text),
+        b"setid" => set_id(out, refs, r, ver, text),
         _ => Err(CaseFault::BadArguments),
     }
 }
@@ -276,12 +289,10 @@ fn text_step_at(
     requires { r < length refs.old.content.references }
 {
     match name {
-        b"add" => add(out, refs, r, Some(id(at)?), text),
-        b"addmany" => add_many(alloc, out, refs, r, Some(id(at)?), text),
         b"resolve" => show_number(out, refs.resolve(text, side(at)?)),
         b"change" => change(out, refs, r, at, text),
         b"find" => find(alloc, out, refs, r, id(at)?, text),
-        _ => Err(CaseFault::BadArguments),
+        _ => text_step(alloc, out, refs, r, name, Some(id(at)?), text),
     }
 }
 
@@ -304,7 +315,7 @@ fn step(
     };
     match cut_at(b'@', head) {
         Some((name, at)) => text_step_at(alloc, out, refs, r, name, at, text),
-        None => text_step(alloc, out, refs, r, head, text),
+        None => text_step(alloc, out, refs, r, head, None, text),
     }
 }
 
@@ -314,9 +325,9 @@ fn step(
 /// PARTS are methods, which `-i` may follow, and outputs, as `=int`, or `-`. A step is on the first
 /// of them, and after `at@R` on that at the position R.
 ///
-/// The steps `add:KEY=VALUE`, `addmany:KEY=VALUE;..`, `clear` and `show` are on the version that is
-/// searched, and with `@VERSION` behind their name on that version. The others are `del:KEY`,
-/// `delid:VERSION.SERIAL`, `set:KEY=VALUE`, `setid:VERSION.SERIAL=VALUE`, `prepare`,
+/// The steps `add:KEY=VALUE`, `addmany:KEY=VALUE;..`, `del:KEY`, `delid:VERSION.SERIAL`,
+/// `set:KEY=VALUE`, `setid:VERSION.SERIAL=VALUE`, `clear` and `show` are on the version that is
+/// searched, and with `@VERSION` behind their name on that version. The others are `prepare`,
 /// `commit@VERSION`, `info`, `resolve@SIDE:WORD` with the sides `acl`, `write` and `map`, and
 /// `change@CHANGE:KEY` with the changes `add`, `del`, `delmap`, and `set`, which has KEY=VALUE;
 /// and `find@K:TEXT`, which answers the entry that is found by the K-th use, from 0, for the text,

@@ -9,7 +9,7 @@ use Rattle.std.proofs.lemmas.Slice.Eq.{bytes_eq-Decides}
 use Rattle.hx_base.specs.Bytes.{ascii}
 use Rattle.hx_cli.specs.declared.command.Command.{Command}
 use Rattle.hx_cli.specs.declared.command.Command.TheVariants.{ShowAll, Show, Get, Add, AddMany, Del, Set, Clear, Prepare, Commit}
-use Rattle.hx_cli.specs.Commands.{addition, begins_with_at, command_by, command_of, entry_words, is_command, is_entry, is_place, kind_word, of_two_words, of_word, payload_word, show_command, spelling, Spells, set_command, version_of_digits, version_words, versioned}
+use Rattle.hx_cli.specs.Commands.{addition, begins_with_at, command_by, command_of, entry_words, is_command, is_entry, is_place, kind_word, new_value, of_two_words, of_word, payload_word, show_command, spelling, Spells, version_of_digits, version_words, versioned}
 use Rattle.hx_cli.proofs.VersionLemmas.{version_found, version_written}
 
 -- the words after `commit`, the kind and the version
@@ -69,8 +69,11 @@ command_again (Add is_map ver name key value) is =
 command_again (AddMany is_map ver name) is =
     with_kind (codes "add") is_map (version_words ver ++ name ∷ payload_word ∷ [])
     ∙ at_place (addition is_map) ver name (payload_word ∷ []) is
-command_again (Del is_map name key) is = with_kind (codes "del") is_map (name ∷ key ∷ [])
-command_again (Set name key value) is = refl
+command_again (Del is_map ver name key) is =
+    with_kind (codes "del") is_map (version_words ver ++ name ∷ key ∷ [])
+    ∙ at_place (λ place. of_two_words (Del is_map place)) ver name (key ∷ []) is
+command_again (Set ver name key value) is =
+    at_place (new_value true) ver name (key ∷ value ∷ []) is
 command_again (Clear is_map ver name) is =
     with_kind (codes "clear") is_map (version_words ver ++ name ∷ [])
     ∙ at_place (λ place. of_word (Clear is_map place)) ver name [] is
@@ -225,6 +228,27 @@ of_name_spells verb is_map make words c is fits spelled =
           ∙ sym (spelled place.ver one.name);
     })
 
+of_place_spells : (verb : List ℕ) (is_map : Bool) (make : Option ℕ → List ℕ → List ℕ → Command)
+    (words : List (List ℕ)) (c : Command)
+    → versioned (λ ver. of_two_words (make ver)) words ≡ Some c
+    → ((ver : Option ℕ) (name word : List ℕ) → is_place ver name ≡ true
+    → is_command (make ver name word) ≡ true)
+    → ((ver : Option ℕ) (name word : List ℕ)
+    → spelling (make ver name word)
+    ≡ verb ∷ kind_word is_map ∷ version_words ver ++ name ∷ word ∷ [])
+    → Spells c (verb ∷ kind_word is_map ∷ words)
+of_place_spells verb is_map make words c is fits spelled =
+    let place = versioned_words (λ ver. of_two_words (make ver)) words c is in
+    let two = two_words (make place.ver) place.rest c place.made in
+    subst (λ (d : Command). Spells d (verb ∷ kind_word is_map ∷ words)) two.made
+    (record {
+      is = fits place.ver two.name two.word (place.fits two.name (two.word ∷ []) two.words_are);
+      words_are = ap (λ (ws : List (List ℕ)). verb ∷ kind_word is_map ∷ ws)
+          (place.whole
+          ∙ ap (λ (ws : List (List ℕ)). version_words place.ver ++ ws) two.words_are)
+          ∙ sym (spelled place.ver two.name two.word);
+    })
+
 show_spells : (is_map : Bool) (words : List (List ℕ)) (c : Command)
     → show_command is_map words ≡ Some c
     → Spells c (codes "show" ∷ kind_word is_map ∷ words)
@@ -317,17 +341,46 @@ add_spells is_map words c is =
           ∙ sym entry.spelled;
     }
 
+-- the words of a change of values in a version
+record IsNewValue (is_map : Bool) (ver : Option ℕ) (words : List (List ℕ))
+    (c : Command) : Type 0 where
+  name : List ℕ
+  key : List ℕ
+  value : List ℕ
+  words_are : words ≡ name ∷ key ∷ value ∷ []
+  made : Set ver name key value ≡ c
+  of_map : is_map ≡ true
+
+new_value_words : (is_map : Bool) (ver : Option ℕ) (words : List (List ℕ)) (c : Command)
+    → new_value is_map ver words ≡ Some c → IsNewValue is_map ver words c
+new_value_words false ver words c is = absurd (none-some c is)
+new_value_words true ver [] c is = absurd (none-some c is)
+new_value_words true ver (name ∷ []) c is = absurd (none-some c is)
+new_value_words true ver (name ∷ key ∷ []) c is = absurd (none-some c is)
+new_value_words true ver (name ∷ key ∷ value ∷ []) c is = record {
+  name = name;
+  key = key;
+  value = value;
+  words_are = refl;
+  made = same_Some (Set ver name key value) c is;
+  of_map = refl;
+}
+new_value_words true ver (name ∷ key ∷ value ∷ word ∷ words) c is = absurd (none-some c is)
+
 set_spells : (is_map : Bool) (words : List (List ℕ)) (c : Command)
-    → set_command is_map words ≡ Some c
+    → versioned (new_value is_map) words ≡ Some c
     → Spells c (codes "set" ∷ kind_word is_map ∷ words)
-set_spells false words c is = absurd (none-some c is)
-set_spells true [] c is = absurd (none-some c is)
-set_spells true (name ∷ []) c is = absurd (none-some c is)
-set_spells true (name ∷ key ∷ []) c is = absurd (none-some c is)
-set_spells true (name ∷ key ∷ value ∷ []) c is =
-    subst (λ (d : Command). Spells d (codes "set" ∷ kind_word true ∷ name ∷ key ∷ value ∷ []))
-    (same_Some (Set name key value) c is) (record { is = refl; words_are = refl })
-set_spells true (name ∷ key ∷ value ∷ word ∷ words) c is = absurd (none-some c is)
+set_spells is_map words c is =
+    let place = versioned_words (new_value is_map) words c is in
+    let set = new_value_words is_map place.ver place.rest c place.made in
+    subst (λ (d : Command). Spells d (codes "set" ∷ kind_word is_map ∷ words)) set.made
+    (record {
+      is = place.fits set.name (set.key ∷ set.value ∷ []) set.words_are;
+      words_are = ap (λ (kind : Bool). codes "set" ∷ kind_word kind ∷ words) set.of_map
+          ∙ ap (λ (ws : List (List ℕ)). codes "set" ∷ codes "map" ∷ ws)
+          (place.whole
+          ∙ ap (λ (ws : List (List ℕ)). version_words place.ver ++ ws) set.words_are);
+    })
 
 commit_spells : (is_map : Bool) (words : List (List ℕ)) (c : Command)
     → versioned (λ ver rest. option_and_then (λ n. of_word (Commit is_map n) rest) ver) words ≡ Some c
@@ -373,8 +426,8 @@ verbs_spell verb is_map words c =
     (λ test is. at (codes "add") test (add_spells is_map words c is))
     (λ _. by_test (bytes_eq verb (codes "del")) _ _ c
     (λ test is. at (codes "del") test
-    (of_two_spells (codes "del") is_map (Del is_map) words c is
-    (λ name word. refl) (λ name word. refl)))
+    (of_place_spells (codes "del") is_map (Del is_map) words c is
+    (λ ver name word fits. fits) (λ ver name word. refl)))
     (λ _. by_test (bytes_eq verb (codes "set")) _ _ c
     (λ test is. at (codes "set") test (set_spells is_map words c is))
     (λ _. by_test (bytes_eq verb (codes "clear")) _ _ c

@@ -59,9 +59,9 @@ command_keeps (Get is_map name text) refs =
 command_keeps (Add is_map ver name key v) refs =
     addition_keeps is_map ver name (record { key = key; value = v } ∷ []) refs
 command_keeps (AddMany is_map ver name) refs = same_keeps refs
-command_keeps (Del is_map name key) refs =
+command_keeps (Del is_map ver name key) refs =
     resolved_keeps refs _ (resolution refs name (looking is_map)) (λ r. done_keeps refs _ _ (change_keeps refs r _))
-command_keeps (Set name key v) refs =
+command_keeps (Set ver name key v) refs =
     resolved_keeps refs _ (resolution refs name side.Map) (λ r. done_keeps refs _ _ (change_keeps refs r _))
 command_keeps (Clear is_map ver name) refs =
     resolved_keeps refs _ (resolution refs name (looking is_map)) (λ r. change_keeps refs r _)

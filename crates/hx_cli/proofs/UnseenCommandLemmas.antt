@@ -1,7 +1,7 @@
 -- Commands, and a version that isn't searched: those that name it change nothing else, and the
 -- others do and answer the same as if nothing was added to it.
 use Rattle.std.proofs.Common.{◌≡◌, ◌≢◌, ℕ, ◌+◌, ◌==◌, Bool, true, false, List, [], ◌∷◌, map, length, refl, ap, sym, subst, ◌∙◌}
-use Rattle.std.specs.Prelude.{Option, None, Some, IfSome, ◌&&◌, not, option_and_then, slice_get, unwrap_or, Result, Ok, Err}
+use Rattle.std.specs.Prelude.{Option, None, Some, is_some, IfSome, ◌&&◌, not, option_and_then, slice_get, unwrap_or, Result, Ok, Err}
 use Rattle.std.specs.List.{list_any}
 use Rattle.std.specs.Option.{option_map_or, option_or}
 use Rattle.std.proofs.lemmas.Bool.{and_parts, eq-eqb, eqb-false, eqb-true, false≢true}
@@ -16,7 +16,7 @@ use Rattle.hx_refs.specs.Additions.{addition_fault, after_addition, demands_on, 
 use Rattle.hx_refs.specs.Changes.{after_change_of_value, after_clearing, after_commit, after_deletion, after_preparation, commit_fault, deletion_fault, fault_at, fault_unless, preparation_fault, prepared_version, value_fault, with_current_version, with_entries, with_new_version, with_version}
 use Rattle.hx_refs.specs.Naming.{resolution}
 use Rattle.hx_refs.specs.Numbers.{IsNotSearched}
-use Rattle.hx_refs.specs.References.{entries_in, refuses_value, searched_lists, version_entries, version_of, with_reference, Reference, References, Version}
+use Rattle.hx_refs.specs.References.{entries_in, refuses_value, searched_lists, version_entries, version_of, version_place, with_reference, Reference, References, Version}
 use Rattle.hx_refs.specs.Uses.{uses_in_order, uses_of}
 use Rattle.hx_refs.specs.Rows.{changed_entries}
 use Rattle.hx_refs.specs.Versions.{with_new_entries}
@@ -184,7 +184,7 @@ addition_along r v refs is_map ver name pairs apart other =
     (addition_fault_alike r v refs at ver pairs apart off)
     (λ none. done_along r v refs [] [] at (with_pairs ver pairs) apart refl (addition_is_along r v refs at ver pairs apart off)))
 
--- ---- changes of the entries that are searched, and of a version
+-- ---- changes of the entries of a version
 
 pub entries_is_along : (r v : ℕ) (refs : References) (at : ℕ) (ver : Option ℕ) (change : List Entry → List Entry) → IsNotSearched refs r v
     → (at ≡ r → is_given ver v ≡ false) → IsAlong r v refs at (with_entries ver change)
@@ -193,59 +193,72 @@ entries_is_along r v refs at ver change apart other = record {
   here = λ here. if_some (slice_get refs.references r) (λ x off. change_along ver (changed_entries change) v x (other here) off) apart;
 }
 
-deletion_is : (test : Entry → Bool) (v : ℕ) (x : Reference) → v ≢ x.curr
-    → deletion_fault test (without_additions v x) ≡ deletion_fault test x
-deletion_is test v x off =
-    ap (λ (entries : List Entry). fault_unless (list_any test entries) KeyNotFound) (entries_are None v x refl off)
+place_is : (ver : Option ℕ) (v : ℕ) (x : Reference) → version_place (without_additions v x) ver ≡ version_place x ver
+place_is None v x = refl
+place_is (Some n) v x = refl
 
-pub deletion_fault_alike : (r v : ℕ) (refs : References) (at : ℕ) (test : Entry → Bool) → IsNotSearched refs r v
-    → fault_at (with_empty_version r v refs) at (deletion_fault test) ≡ fault_at refs at (deletion_fault test)
-deletion_fault_alike r v refs at test apart =
-    read_alike (deletion_fault test) None refs r v at
-    (λ here. if_some (slice_get refs.references r) (λ x off. deletion_is test v x off) apart)
+deletion_is : (ver : Option ℕ) (test : Entry → Bool) (v : ℕ) (x : Reference) → is_given ver v ≡ false → v ≢ x.curr
+    → deletion_fault ver test (without_additions v x) ≡ deletion_fault ver test x
+deletion_is ver test v x other off =
+    ap (λ (place : Option ℕ). option_or (fault_unless (is_some place) BadVersion) (fault_unless (list_any test (version_entries (without_additions v x) ver)) KeyNotFound))
+    (place_is ver v x)
+    ∙ ap (λ (entries : List Entry). option_or (fault_unless (is_some (version_place x ver)) BadVersion) (fault_unless (list_any test entries) KeyNotFound))
+    (entries_are ver v x other off)
 
-pub value_fault_alike : (r v : ℕ) (refs : References) (at : ℕ) (test : Entry → Bool) (text : List ℕ) → IsNotSearched refs r v
-    → fault_at (with_empty_version r v refs) at (value_fault test text) ≡ fault_at refs at (value_fault test text)
-value_fault_alike r v refs at test text apart =
-    read_alike (value_fault test text) None refs r v at
+pub deletion_fault_alike : (r v : ℕ) (refs : References) (at : ℕ) (ver : Option ℕ) (test : Entry → Bool) → IsNotSearched refs r v
+    → (at ≡ r → is_given ver v ≡ false)
+    → fault_at (with_empty_version r v refs) at (deletion_fault ver test) ≡ fault_at refs at (deletion_fault ver test)
+deletion_fault_alike r v refs at ver test apart other =
+    read_alike (deletion_fault ver test) None refs r v at
+    (λ here. if_some (slice_get refs.references r) (λ x off. deletion_is ver test v x (other here) off) apart)
+
+pub value_fault_alike : (r v : ℕ) (refs : References) (at : ℕ) (ver : Option ℕ) (test : Entry → Bool) (text : List ℕ) → IsNotSearched refs r v
+    → (at ≡ r → is_given ver v ≡ false)
+    → fault_at (with_empty_version r v refs) at (value_fault ver test text) ≡ fault_at refs at (value_fault ver test text)
+value_fault_alike r v refs at ver test text apart other =
+    read_alike (value_fault ver test text) None refs r v at
     (λ here.
     if_some (slice_get refs.references r)
     (λ x off.
     ap (λ (fault : Option RefFault). option_or fault (fault_unless (not (refuses_value x.outputs text)) BadValue))
-    (deletion_is test v x off))
+    (deletion_is ver test v x (other here) off))
     apart)
 
-deletion_along : (r v : ℕ) (refs : References) (name : List ℕ) (wanted : Side) (test : Entry → Bool) → IsNotSearched refs r v
+deletion_along : (r v : ℕ) (refs : References) (name : List ℕ) (wanted : Side) (ver : Option ℕ) (test : Entry → Bool) → IsNotSearched refs r v
+    → names_version refs r v ver name ≡ false
     → EffectAlong r v refs
     (on_reference refs name wanted
-    (λ at. unless refs (fault_at refs at (deletion_fault test)) (done [] (after_deletion refs at test))))
+    (λ at. unless refs (fault_at refs at (deletion_fault ver test)) (done [] (after_deletion refs at ver test))))
     (on_reference (with_empty_version r v refs) name wanted
     (λ at.
-    unless (with_empty_version r v refs) (fault_at (with_empty_version r v refs) at (deletion_fault test))
-    (done [] (after_deletion (with_empty_version r v refs) at test))))
-deletion_along r v refs name wanted test apart =
+    unless (with_empty_version r v refs) (fault_at (with_empty_version r v refs) at (deletion_fault ver test))
+    (done [] (after_deletion (with_empty_version r v refs) at ver test))))
+deletion_along r v refs name wanted ver test apart other =
     reference_along r v refs name wanted _ _ apart
     (λ at here.
-    unless_along r v refs _ _ _ _ apart (deletion_fault_alike r v refs at test apart)
+    let off = λ (same : at ≡ r). other_version refs r v ver name other (here same) in
+    unless_along r v refs _ _ _ _ apart (deletion_fault_alike r v refs at ver test apart off)
     (λ none.
-    done_along r v refs [] [] at (with_entries None (without_chosen test)) apart refl
-    (entries_is_along r v refs at None (without_chosen test) apart (λ same. refl))))
+    done_along r v refs [] [] at (with_entries ver (without_chosen test)) apart refl
+    (entries_is_along r v refs at ver (without_chosen test) apart off)))
 
-value_along : (r v : ℕ) (refs : References) (name : List ℕ) (wanted : Side) (test : Entry → Bool) (text : List ℕ) → IsNotSearched refs r v
+value_along : (r v : ℕ) (refs : References) (name : List ℕ) (wanted : Side) (ver : Option ℕ) (test : Entry → Bool) (text : List ℕ)
+    → IsNotSearched refs r v → names_version refs r v ver name ≡ false
     → EffectAlong r v refs
     (on_reference refs name wanted
-    (λ at. unless refs (fault_at refs at (value_fault test text)) (done [] (after_change_of_value refs at test text))))
+    (λ at. unless refs (fault_at refs at (value_fault ver test text)) (done [] (after_change_of_value refs at ver test text))))
     (on_reference (with_empty_version r v refs) name wanted
     (λ at.
-    unless (with_empty_version r v refs) (fault_at (with_empty_version r v refs) at (value_fault test text))
-    (done [] (after_change_of_value (with_empty_version r v refs) at test text))))
-value_along r v refs name wanted test text apart =
+    unless (with_empty_version r v refs) (fault_at (with_empty_version r v refs) at (value_fault ver test text))
+    (done [] (after_change_of_value (with_empty_version r v refs) at ver test text))))
+value_along r v refs name wanted ver test text apart other =
     reference_along r v refs name wanted _ _ apart
     (λ at here.
-    unless_along r v refs _ _ _ _ apart (value_fault_alike r v refs at test text apart)
+    let off = λ (same : at ≡ r). other_version refs r v ver name other (here same) in
+    unless_along r v refs _ _ _ _ apart (value_fault_alike r v refs at ver test text apart off)
     (λ none.
-    done_along r v refs [] [] at (with_entries None (map (with_value test text))) apart refl
-    (entries_is_along r v refs at None (map (with_value test text)) apart (λ same. refl))))
+    done_along r v refs [] [] at (with_entries ver (map (with_value test text))) apart refl
+    (entries_is_along r v refs at ver (map (with_value test text)) apart off)))
 
 -- ---- versions
 
@@ -309,11 +322,11 @@ command_along r v refs (Add is_map ver name key text) apart other =
     record { reply = along.reply; refs_are = along.refs_are; follows = along.follows }
 command_along r v refs (AddMany is_map ver name) apart other =
     record { reply = refl; refs_are = refl; follows = stays refs r v apart }
-command_along r v refs (Del is_map name key) apart other =
-    let along = deletion_along r v refs name (looking is_map) (is_meant key) apart in
+command_along r v refs (Del is_map ver name key) apart other =
+    let along = deletion_along r v refs name (looking is_map) ver (is_meant key) apart other in
     record { reply = along.reply; refs_are = along.refs_are; follows = along.follows }
-command_along r v refs (Set name key text) apart other =
-    let along = value_along r v refs name side.Map (is_meant key) text apart in
+command_along r v refs (Set ver name key text) apart other =
+    let along = value_along r v refs name side.Map ver (is_meant key) text apart other in
     record { reply = along.reply; refs_are = along.refs_are; follows = along.follows }
 command_along r v refs (Clear is_map ver name) apart other =
     let along =
@@ -413,6 +426,30 @@ clearing_hidden r v refs is_map ver name apart here =
     (resolved_hidden r v refs name (looking is_map) (λ at. done [] (after_clearing refs at (Some v))) apart parts.1
     (changed_hidden r v refs (changed_entries (λ _. [])) apart))
 
+deletion_hidden : (r v : ℕ) (refs : References) (is_map : Bool) (ver : Option ℕ) (name key : List ℕ) → IsNotSearched refs r v
+    → names_version refs r v ver name ≡ true → IsHidden r v refs (command_effect (Del is_map ver name key) refs).refs
+deletion_hidden r v refs is_map ver name key apart here =
+    let parts = and_parts (is_given ver v) (names_reference refs r name) here in
+    let test = is_meant key in
+    subst (λ (given : Option ℕ). IsHidden r v refs (command_effect (Del is_map given name key) refs).refs)
+    (sym (given_is ver v parts.0))
+    (resolved_hidden r v refs name (looking is_map)
+    (λ at. unless refs (fault_at refs at (deletion_fault (Some v) test)) (done [] (after_deletion refs at (Some v) test))) apart parts.1
+    (unless_hidden r v refs (fault_at refs r (deletion_fault (Some v) test)) (done [] (after_deletion refs r (Some v) test)) apart
+    (changed_hidden r v refs (changed_entries (without_chosen test)) apart)))
+
+value_hidden : (r v : ℕ) (refs : References) (ver : Option ℕ) (name key text : List ℕ) → IsNotSearched refs r v
+    → names_version refs r v ver name ≡ true → IsHidden r v refs (command_effect (Set ver name key text) refs).refs
+value_hidden r v refs ver name key text apart here =
+    let parts = and_parts (is_given ver v) (names_reference refs r name) here in
+    let test = is_meant key in
+    subst (λ (given : Option ℕ). IsHidden r v refs (command_effect (Set given name key text) refs).refs)
+    (sym (given_is ver v parts.0))
+    (resolved_hidden r v refs name side.Map
+    (λ at. unless refs (fault_at refs at (value_fault (Some v) test text)) (done [] (after_change_of_value refs at (Some v) test text))) apart parts.1
+    (unless_hidden r v refs (fault_at refs r (value_fault (Some v) test text)) (done [] (after_change_of_value refs r (Some v) test text)) apart
+    (changed_hidden r v refs (changed_entries (map (with_value test text))) apart)))
+
 -- a command that isn't done changes nothing
 undone : (refs : References) (fault : ℕ → Option RefFault) (after : ℕ → References) (answer : Result ℕ RefFault)
     → ((on_resolved refs (λ at. unless refs (fault at) (done [] (after at))) answer).reply.code == 0) ≡ false
@@ -455,8 +492,8 @@ command_hidden r v refs (Get is_map name text) apart here undone = never here
 command_hidden r v refs (Add is_map ver name key text) apart here undone =
     addition_hidden r v refs is_map ver name (record { key = key; value = text } ∷ []) apart here
 command_hidden r v refs (AddMany is_map ver name) apart here undone = same_hidden r v refs apart
-command_hidden r v refs (Del is_map name key) apart here undone = never here
-command_hidden r v refs (Set name key text) apart here undone = never here
+command_hidden r v refs (Del is_map ver name key) apart here undone = deletion_hidden r v refs is_map ver name key apart here
+command_hidden r v refs (Set ver name key text) apart here undone = value_hidden r v refs ver name key text apart here
 command_hidden r v refs (Clear is_map ver name) apart here undone = clearing_hidden r v refs is_map ver name apart here
 command_hidden r v refs (Prepare is_map name) apart here undone = never here
 command_hidden r v refs (Commit is_map ver name) apart here undone =

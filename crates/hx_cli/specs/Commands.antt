@@ -42,8 +42,10 @@ spelling (Add is_map ver name key value) =
     codes "add" ∷ kind_word is_map ∷ version_words ver ++ name ∷ entry_words is_map key value
 spelling (AddMany is_map ver name) =
     codes "add" ∷ kind_word is_map ∷ version_words ver ++ name ∷ payload_word ∷ []
-spelling (Del is_map name key) = codes "del" ∷ kind_word is_map ∷ name ∷ key ∷ []
-spelling (Set name key value) = codes "set" ∷ codes "map" ∷ name ∷ key ∷ value ∷ []
+spelling (Del is_map ver name key) =
+    codes "del" ∷ kind_word is_map ∷ version_words ver ++ name ∷ key ∷ []
+spelling (Set ver name key value) =
+    codes "set" ∷ codes "map" ∷ version_words ver ++ name ∷ key ∷ value ∷ []
 spelling (Clear is_map ver name) = codes "clear" ∷ kind_word is_map ∷ version_words ver ++ name ∷ []
 spelling (Prepare is_map name) = codes "prepare" ∷ kind_word is_map ∷ name ∷ []
 spelling (Commit is_map ver name) =
@@ -73,6 +75,8 @@ abbrev pub is_command : Command → Bool
 is_command (Show is_map ver name) = is_place ver name
 is_command (Add is_map ver name key value) = is_place ver name && is_entry is_map key value
 is_command (AddMany is_map ver name) = is_place ver name
+is_command (Del is_map ver name key) = is_place ver name
+is_command (Set ver name key value) = is_place ver name
 is_command (Clear is_map ver name) = is_place ver name
 is_command (Commit is_map ver name) = is_version ver
 is_command _ = true
@@ -125,10 +129,10 @@ addition is_map ver (name ∷ key ∷ value ∷ []) =
     if is_map then Some (Add true ver name key value) else None
 addition is_map ver _ = None
 
--- the words after `set` and the kind; only a map has values
-abbrev pub set_command : Bool → List (List ℕ) → Option Command
-set_command true (name ∷ key ∷ value ∷ []) = Some (Set name key value)
-set_command _ _ = None
+-- a change of values in a version, or in that which is searched; only a map has values
+abbrev pub new_value : Bool → Option ℕ → List (List ℕ) → Option Command
+new_value true ver (name ∷ key ∷ value ∷ []) = Some (Set ver name key value)
+new_value _ ver _ = None
 
 -- the command of a first word, for lists or for maps, with the words after these two; a commit
 -- names its version
@@ -137,8 +141,8 @@ command_by verb is_map words =
     if bytes_eq verb (codes "show") then show_command is_map words
     else if bytes_eq verb (codes "get") then of_two_words (Get is_map) words
     else if bytes_eq verb (codes "add") then versioned (addition is_map) words
-    else if bytes_eq verb (codes "del") then of_two_words (Del is_map) words
-    else if bytes_eq verb (codes "set") then set_command is_map words
+    else if bytes_eq verb (codes "del") then versioned (λ ver. of_two_words (Del is_map ver)) words
+    else if bytes_eq verb (codes "set") then versioned (new_value is_map) words
     else if bytes_eq verb (codes "clear") then versioned (λ ver. of_word (Clear is_map ver)) words
     else if bytes_eq verb (codes "prepare") then of_word (Prepare is_map) words
     else if bytes_eq verb (codes "commit")

@@ -142,14 +142,14 @@ command_effect (Get is_map name text) refs =
 command_effect (Add is_map ver name key v) refs =
     addition_effect is_map ver name (record { key = key; value = v } ∷ []) refs
 command_effect (AddMany is_map ver name) refs = done [] refs
-command_effect (Del is_map name key) refs =
+command_effect (Del is_map ver name key) refs =
     on_reference refs name (looking is_map)
-    (λ r. unless refs (fault_at refs r (deletion_fault (is_meant key)))
-    (done [] (after_deletion refs r (is_meant key))))
-command_effect (Set name key v) refs =
+    (λ r. unless refs (fault_at refs r (deletion_fault ver (is_meant key)))
+    (done [] (after_deletion refs r ver (is_meant key))))
+command_effect (Set ver name key v) refs =
     on_reference refs name side.Map
-    (λ r. unless refs (fault_at refs r (value_fault (is_meant key) v))
-    (done [] (after_change_of_value refs r (is_meant key) v)))
+    (λ r. unless refs (fault_at refs r (value_fault ver (is_meant key) v))
+    (done [] (after_change_of_value refs r ver (is_meant key) v)))
 command_effect (Clear is_map ver name) refs =
     on_reference refs name (looking is_map) (λ r. done [] (after_clearing refs r ver))
 command_effect (Prepare is_map name) refs =

@@ -15,7 +15,7 @@ use Rattle.hx_cli.specs.Commands.{command_of}
 use Rattle.hx_cli.specs.Payloads.{line_effect, OpenPayloads, PayloadParts}
 use Rattle.hx_cli.specs.Replies.{ReplyParts}
 use Rattle.hx_cli.specs.declared.command.Command.{Command}
-use Rattle.hx_cli.specs.declared.command.Command.TheVariants.{ShowAll, Show, Add, AddMany, Clear, Commit}
+use Rattle.hx_cli.specs.declared.command.Command.TheVariants.{ShowAll, Show, Add, AddMany, Del, Set, Clear, Commit}
 
 -- ---- which lines work on the version
 
@@ -33,6 +33,8 @@ abbrev pub is_on_version : References → ℕ → ℕ → Command → Bool
 is_on_version refs r v (Show is_map ver name) = names_version refs r v ver name
 is_on_version refs r v (Add is_map ver name key value) = names_version refs r v ver name
 is_on_version refs r v (AddMany is_map ver name) = names_version refs r v ver name
+is_on_version refs r v (Del is_map ver name key) = names_version refs r v ver name
+is_on_version refs r v (Set ver name key value) = names_version refs r v ver name
 is_on_version refs r v (Clear is_map ver name) = names_version refs r v ver name
 is_on_version refs r v (Commit is_map ver name) = names_version refs r v (Some ver) name
 is_on_version refs r v _ = false

@@ -57,39 +57,48 @@ pub(crate) fn add<M: ReMaker>(
     }
 }
 
-/// `del acl`, `del map`: the entries of which a word speaks are removed.
-pub(crate) fn del(alloc: Global, refs: &mut Refs, is_map: bool, name: &[u8], key: &[u8]) -> Reply
-    ensures reply { result ≡ (command_effect (Del is_map name.now key.now) refs.old.content).reply }
-    ensures refs { refs.new.content ≡ (command_effect (Del is_map name.now key.now)
+/// `del acl`, `del map`: the entries of a version of which a word speaks are removed.
+pub(crate) fn del(
+    alloc: Global,
+    refs: &mut Refs,
+    is_map: bool,
+    ver: Option<u32>,
+    name: &[u8],
+    key: &[u8],
+) -> Reply
+    ensures reply { result
+        ≡ (command_effect (Del is_map ver name.now key.now) refs.old.content).reply }
+    ensures refs { refs.new.content ≡ (command_effect (Del is_map ver name.now key.now)
         refs.old.content).refs }
 {
     match refs.resolve(name, looking(is_map)) {
         Ok(r) => {
-            let answer = delete(refs, r, key);
+            let answer = delete(refs, r, ver, key);
             change_reply(alloc, answer)
         }
         Err(fault) => refusal_reply(alloc, fault),
     }
 }
 
-/// `set map`: the entries of which a word speaks get a value.
+/// `set map`: the entries of a version of which a word speaks get a value.
 pub(crate) fn set(
     alloc: Global,
     refs: &mut Refs,
+    ver: Option<u32>,
     name: &[u8],
     key: &[u8],
     value: &[u8],
 ) -> Result<Reply, NoMemory>
     ensures reply { IfOk result (λ reply.
-        reply ≡ (command_effect (Set name.now key.now value.now) refs.old.content).reply) }
+        reply ≡ (command_effect (Set ver name.now key.now value.now) refs.old.content).reply) }
     ensures refs { OnOk result
         (refs.new.content
-        ≡ (command_effect (Set name.now key.now value.now) refs.old.content).refs) }
+        ≡ (command_effect (Set ver name.now key.now value.now) refs.old.content).refs) }
     ensures kept { OnErr result (refs.new ≡ refs.old) }
 {
     match refs.resolve(name, Side::Map) {
         Ok(r) => {
-            let answer = set_value(refs, r, key, value);
+            let answer = set_value(refs, r, ver, key, value);
             value_reply(alloc, answer)
         }
         Err(fault) => Ok(refusal_reply(alloc, fault)),

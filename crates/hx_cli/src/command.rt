@@ -37,14 +37,17 @@ pub enum Command {
         ver: Option<u32>,
         name: Octets,
     },
-    /// `del acl NAME KEY`: the entries with a key, or the one of a number, are removed.
+    /// `del acl [@VER] NAME KEY`: the entries of a version with a key, or the one of a number, are
+    /// removed. That a version can be named here and with `set` is hxeval's own.
     Del {
         map: bool,
+        ver: Option<u32>,
         name: Octets,
         key: Octets,
     },
-    /// `set map NAME KEY VALUE`: the same get a value.
+    /// `set map [@VER] NAME KEY VALUE`: the same get a value.
     Set {
+        ver: Option<u32>,
         name: Octets,
         key: Octets,
         value: Octets,

@@ -44,13 +44,22 @@ pub(crate) fn run<M: ReMaker>(
             add(alloc, refs, *map, *ver, name.as_slice(), &pairs, maker)
         }
         Command::AddMany { .. } => Ok(Reply::new(alloc, 0)),
-        Command::Del { map, name, key } => {
-            Ok(del(alloc, refs, *map, name.as_slice(), key.as_slice()))
-        }
-        Command::Set { name, key, value } => {
+        Command::Del {
+            map,
+            ver,
+            name,
+            key,
+        } => { Ok(del(alloc, refs, *map, *ver, name.as_slice(), key.as_slice())) }
+        Command::Set {
+            ver,
+            name,
+            key,
+            value,
+        } => {
             Ok(set(
                 alloc,
                 refs,
+                *ver,
                 name.as_slice(),
                 key.as_slice(),
                 value.as_slice(),

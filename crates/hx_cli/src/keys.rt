@@ -1,9 +1,10 @@
-ghost use Rattle.std.specs.Prelude.{◌≡◌, ◌<◌, length, None, IfErr, OnOk, OnErr};
+ghost use Rattle.std.specs.Prelude.{◌≡◌, ◌<◌, ◌&&◌, nat_le, true, false, length, None, Some, IfErr, OnOk, OnErr};
+ghost use Rattle.std.specs.Option.{option_map_or};
 ghost use Rattle.hx_refs.specs.Changes.{after_change_of_value, after_deletion, answer, deletion_fault, fault_at, value_fault, MayFail};
 ghost use Rattle.hx_cli.specs.Effects.{is_meant, number_after_sign};
 
 use hex::FromHex;
-use hx_refs::{RefFault, Refs};
+use hx_refs::{RefFault, RefInfo, Refs};
 
 /// The number of an entry that a word writes after `#`.
 #[tactic(auto, unfolding(crate::specs::Effects::number_after_sign))]
@@ -17,41 +18,70 @@ fn number_after_sign(text: &[u8]) -> Option<u64>
     }
 }
 
-/// Removes the entries of which a word speaks.
-pub(crate) fn delete(refs: &mut Refs, r: u32, word: &[u8]) -> Result<(), RefFault>
+/// Whether a reference has a version, of which this is told.
+fn has_version(info: RefInfo, ver: Option<u32>) -> bool
+    ensures { result ≡ option_map_or (λ n. nat_le info.curr n && nat_le n info.next) ver true }
+{
+    match ver {
+        Some(number) => info.curr <= number && number <= info.next,
+        None => true,
+    }
+}
+
+/// Why nothing is done with the entry of a number that is none: the reference has no such version,
+/// or the version has no such entry.
+fn no_number_fault(refs: &Refs, r: u32, ver: Option<u32>) -> RefFault
+    requires { r < length refs.now.content.references }
+    ensures { fault_at refs.now.content r (deletion_fault ver (λ _. false)) ≡ Some result }
+{
+    if has_version(refs.info(r), ver) {
+        RefFault::KeyNotFound
+    } else {
+        RefFault::BadVersion
+    }
+}
+
+/// Removes the entries of a version of which a word speaks.
+pub(crate) fn delete(refs: &mut Refs, r: u32, ver: Option<u32>, word: &[u8]) -> Result<(), RefFault>
     requires { r < length refs.old.content.references }
     ensures answer { result
-        ≡ answer tt (fault_at refs.old.content r (deletion_fault (is_meant word.now))) }
-    ensures ok { OnOk result (refs.new.content ≡ after_deletion refs.old.content r
+        ≡ answer tt (fault_at refs.old.content r (deletion_fault ver (is_meant word.now))) }
+    ensures ok { OnOk result (refs.new.content ≡ after_deletion refs.old.content r ver
         (is_meant word.now)) }
     ensures err { OnErr result (refs.new ≡ refs.old) }
 {
     let Some(rest) = word.strip_prefix(b"#") else {
-        return refs.del_key(r, word);
+        return refs.del_key(r, ver, word);
     };
     match number_after_sign(rest) {
-        Some(number) => refs.del_id(r, number),
-        None => Err(RefFault::KeyNotFound),
+        Some(number) => refs.del_id(r, ver, number),
+        None => Err(no_number_fault(refs, r, ver)),
     }
 }
 
-/// Changes the value of the entries of which a word speaks.
-pub(crate) fn set_value(refs: &mut Refs, r: u32, word: &[u8], value: &[u8]) -> Result<(), RefFault>
+/// Changes the value of the entries of a version of which a word speaks.
+pub(crate) fn set_value(
+    refs: &mut Refs,
+    r: u32,
+    ver: Option<u32>,
+    word: &[u8],
+    value: &[u8],
+) -> Result<(), RefFault>
     requires { r < length refs.old.content.references }
     ensures ok { OnOk result
         (refs.new.content
-        ≡ after_change_of_value refs.old.content r (is_meant word.now) value.now) }
+        ≡ after_change_of_value refs.old.content r ver (is_meant word.now) value.now) }
     ensures none { OnOk result
-        (fault_at refs.old.content r (value_fault (is_meant word.now) value.now) ≡ None) }
+        (fault_at refs.old.content r (value_fault ver (is_meant word.now) value.now) ≡ None) }
     ensures refused { IfErr result
-        (MayFail (fault_at refs.old.content r (value_fault (is_meant word.now) value.now))) }
+        (MayFail (fault_at refs.old.content r (value_fault ver (is_meant word.now) value.now))) }
     ensures kept { OnErr result (refs.new ≡ refs.old) }
 {
     let Some(rest) = word.strip_prefix(b"#") else {
-        return refs.set_key(r, word, value);
+        return refs.set_key(r, ver, word, value);
     };
     match number_after_sign(rest) {
-        Some(number) => refs.set_id(r, number, value),
-        None => Err(RefFault::KeyNotFound),
+        Some(number) => refs.set_id(r, ver, number, value),
+        None => Err(no_number_fault(refs, r, ver)),
     }
 }

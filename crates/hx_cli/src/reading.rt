@@ -3,8 +3,8 @@ ghost use Rattle.std.specs.Prelude.{IfOk, IfSome, IsErrOf, IsTrue, MatchOption, 
 ghost use Rattle.std.specs.Prelude.{if◌then◌else◌, length, slice_index, true};
 ghost use Rattle.std.specs.Str.{bytes_eq};
 ghost use Rattle.hx_cli.specs.CommandLine.{words_of};
-ghost use Rattle.hx_cli.specs.Commands.{addition, command_by, command_of, of_two_words};
-ghost use Rattle.hx_cli.specs.Commands.{of_word, set_command, show_command, Spells};
+ghost use Rattle.hx_cli.specs.Commands.{addition, command_by, command_of, new_value};
+ghost use Rattle.hx_cli.specs.Commands.{of_two_words, of_word, show_command, Spells};
 ghost use Rattle.hx_cli.specs.Commands.{version_of_digits, versioned};
 ghost use Rattle.hx_cli.specs.declared.command.Command.{Command};
 ghost use Rattle.hx_cli.specs.declared.command.Command.TheVariants.{Clear, Commit, Del, Get, Prepare};
@@ -256,13 +256,18 @@ fn addition_of_two(
 
 /// The words after `del` and the kind.
 fn del_command(alloc: Global, is_map: bool, words: &[Octets]) -> Result<Option<Command>, NoMemory>
-    ensures { IfOk result (λ found. found ≡ of_two_words (Del is_map) words.now) }
+    ensures { IfOk result (λ found.
+        found ≡ versioned (λ ver. of_two_words (Del is_map ver)) words.now) }
 {
-    let [name, key] = words else {
+    let Some(after) = after_version(words) else {
+        return Ok(None);
+    };
+    let [name, key] = after.words else {
         return Ok(None);
     };
     Ok(Some(Command::Del {
         map: is_map,
+        ver: after.ver,
         name: Octets::copy(alloc, name.as_slice())?,
         key: Octets::copy(alloc, key.as_slice())?,
     }))
@@ -270,7 +275,22 @@ fn del_command(alloc: Global, is_map: bool, words: &[Octets]) -> Result<Option<C
 
 /// The words after `set` and the kind.
 fn set_command(alloc: Global, is_map: bool, words: &[Octets]) -> Result<Option<Command>, NoMemory>
-    ensures { IfOk result (λ found. found ≡ set_command is_map words.now) }
+    ensures { IfOk result (λ found. found ≡ versioned (new_value is_map) words.now) }
+{
+    match after_version(words) {
+        Some(after) => new_value(alloc, is_map, after.ver, after.words),
+        None => Ok(None),
+    }
+}
+
+/// A change of values in a version, or in that which is searched.
+fn new_value(
+    alloc: Global,
+    is_map: bool,
+    ver: Option<u32>,
+    words: &[Octets],
+) -> Result<Option<Command>, NoMemory>
+    ensures { IfOk result (λ found. found ≡ new_value is_map ver words.now) }
 {
     if !is_map {
         return Ok(None);
@@ -279,6 +299,7 @@ fn set_command(alloc: Global, is_map: bool, words: &[Octets]) -> Result<Option<C
         return Ok(None);
     };
     Ok(Some(Command::Set {
+        ver,
         name: Octets::copy(alloc, name.as_slice())?,
         key: Octets::copy(alloc, key.as_slice())?,
         value: Octets::copy(alloc, value.as_slice())?,

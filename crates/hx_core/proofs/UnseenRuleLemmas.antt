@@ -104,13 +104,13 @@ fit_along r v refs at (Removal key) apart =
 fit_along r v refs at (NewValue key text) apart =
     let empty = with_empty_version r v refs in
     either_along r v refs (is_key_of refs at key) (is_key_of empty at key)
-    (unless_refused (fault_at refs at (value_fault (has_key key) text)) (after_change_of_value refs at (has_key key) text) refs)
+    (unless_refused (fault_at refs at (value_fault None (has_key key) text)) (after_change_of_value refs at None (has_key key) text) refs)
     (with_pair refs at (pair_of key text))
-    (unless_refused (fault_at empty at (value_fault (has_key key) text)) (after_change_of_value empty at (has_key key) text) empty)
+    (unless_refused (fault_at empty at (value_fault None (has_key key) text)) (after_change_of_value empty at None (has_key key) text) empty)
     (with_pair empty at (pair_of key text)) (key_alike r v refs at key apart)
-    (unless_along r v refs (after_change_of_value refs at (has_key key) text) (after_change_of_value empty at (has_key key) text)
-    (fault_at refs at (value_fault (has_key key) text)) (fault_at empty at (value_fault (has_key key) text)) apart
-    (value_fault_alike r v refs at (has_key key) text apart)
+    (unless_along r v refs (after_change_of_value refs at None (has_key key) text) (after_change_of_value empty at None (has_key key) text)
+    (fault_at refs at (value_fault None (has_key key) text)) (fault_at empty at (value_fault None (has_key key) text)) apart
+    (value_fault_alike r v refs at None (has_key key) text apart (λ here. refl))
     (changed_along r v refs at (with_entries None (map (with_value (has_key key) text))) apart
     (entries_is_along r v refs at None (map (with_value (has_key key) text)) apart (λ here. refl))))
     (pair_along r v refs at (pair_of key text) apart)

@@ -1,22 +1,22 @@
 -- A change of one version of one of the references.
-use Rattle.std.proofs.Common.{◌≡◌, ℕ, ◌+◌, ◌<◌, ◌≤◌, Bool, true, false, List, [], ◌∷◌, length, refl, ap, subst, sym, ◌∙◌, arith}
-use Rattle.std.specs.Prelude.{Option, None, Some, Result, Ok, Err, IfOk, OnOk, OnErr, slice_get, slice_index_or, slice_set, option_and_then, unwrap_or}
+use Rattle.std.proofs.Common.{◌≡◌, ℕ, ◌+◌, ◌<◌, ◌≤◌, Bool, true, false, List, [], length, refl, ap, subst, sym}
+use Rattle.std.specs.Prelude.{Option, None, Some, is_some, IfNone, IfSome, Result, Ok, Err, IfOk, OnOk, OnErr, slice_get, slice_index_or, slice_set, option_and_then, unwrap_or}
 use Rattle.std.specs.List.{list_any}
 use Rattle.hx_text.specs.declared.kinds.By.{By}
 use Rattle.hx_outside.specs.Makers.{ExpressionText}
 use Rattle.hx_sample.specs.Find.{Entry}
 use Rattle.hx_refs.specs.Additions.{new_entries, pairs_fault, with_pairs, Pair, PairsAskFor, VersionAsksFor}
-use Rattle.hx_refs.specs.Changes.{commit_fault, deletion_fault, value_fault, with_version}
+use Rattle.hx_refs.specs.Changes.{commit_fault, deletion_fault, value_fault, with_version, MayFail}
 use Rattle.hx_refs.specs.declared.limits.Limits.{Limits}
 use Rattle.hx_refs.specs.Kept.{all_filled, filled, kept_demands, kept_fault, version_fault, with_kept, AreFilled, IsAdded, IsFilled, Kept}
 use Rattle.hx_refs.specs.Numbers.{HasRisingNumbers}
 use Rattle.hx_refs.specs.References.{refuses_value, version_entries, version_of, version_place, Reference, Version}
 use Rattle.hx_refs.specs.declared.fault.RefFault.{RefFault}
-use Rattle.hx_refs.specs.declared.fault.RefFault.TheVariants.{BadValue, KeyNotFound}
+use Rattle.hx_refs.specs.declared.fault.RefFault.TheVariants.{BadValue, BadVersion, KeyNotFound, NoMemory}
 use Rattle.hx_versions.specs.Rows.{row_at, use_ways, version_numbered, with_last_entries, AreCounted, AreSearchedBy, Changes, StoreView}
 use Rattle.hx_refs.specs.Versions.{HasVersion}
 use Rattle.hx_refs.proofs.FilledLemmas.{filled_get, kept_at, row_changed, row_filled, row_within, same_rows, seen_from, set_itself}
-use Rattle.hx_refs.proofs.ReferenceLemmas.{change_shown, committable, entries_numbered, few_added, filled_after, none_appended, pairs_shown, rising_with_added, searched_place, version_here}
+use Rattle.hx_refs.proofs.ReferenceLemmas.{change_shown, committable, entries_numbered, few_added, filled_after, none_appended, pairs_shown, place_within, rising_with_added, version_here}
 
 -- the references stay filled, and what is seen of them is changed
 pub record Changed (kept : List Kept) (old new : StoreView) (r : ℕ) (change : Reference → Reference) : Type 0 where
@@ -60,17 +60,6 @@ module _ (kept : List Kept) (old new : StoreView) (r : ℕ) (k : Kept) (requires
     shown = row_changed kept old new r k found (row_within kept old r requires all) all others (with_version ver change)
         (change_shown k ver number change (row_at old r) (row_at new r) here has place changes);
   }
-
-  -- that which is searched
-  pub searched_changed : (number : ℕ) (change : Version → Version) → number ≡ k.shown.curr
-      → Changes number change (row_at old r) (row_at new r)
-      → ((ways : List (By × Bool)) → AreSearchedBy ways (row_at old r) → AreSearchedBy ways (row_at new r))
-      → (AreCounted (row_at old r) → AreCounted (row_at new r))
-      → ((version : Version) → HasRisingNumbers number version → HasRisingNumbers number (change version))
-      → Changed kept old new r (with_version None change)
-  searched_changed number change same changes searched counted rising =
-      version_changed number None change (omega (arith, same), omega (arith, same, here.order))
-      (rw same (searched_place k.shown here.order)) changes searched counted rising
 
   -- entries that pairs become are appended
   pub entries_appended : (number : ℕ) (pairs : List Pair) (entries : List Entry) (serial : ℕ) → HasVersion k.shown number
@@ -222,24 +211,45 @@ with_pairs_at kept r ver number pairs k found place given =
 
 -- ---- removals and changes of values
 
-pub lacking_deletion : (test : Entry → Bool) (reference : Reference) → list_any test (version_entries reference None) ≡ false
-    → deletion_fault test reference ≡ Some KeyNotFound
-lacking_deletion test reference none = rw none refl
+-- there is no version where it has no number
+pub unknown_version : (number place : Option ℕ) → is_some number ≡ false → IfNone number (place ≡ None) → place ≡ None
+unknown_version None place is none = none
+unknown_version (Some n) place is none = absurd (cc)
 
-pub chosen_deletion : (test : Entry → Bool) (reference : Reference) → list_any test (version_entries reference None) ≡ true
-    → deletion_fault test reference ≡ None
-chosen_deletion test reference some = rw some refl
+-- there is one where it has a number
+pub known_version : (reference : Reference) (ver number : Option ℕ) → is_some number ≡ true
+    → IfSome number (λ n. version_place reference ver ≡ version_place reference (Some n)) → IfSome number (HasVersion reference)
+    → is_some (version_place reference ver) ≡ true
+known_version reference ver None is place has = absurd (cc)
+known_version reference ver (Some n) is place has = rw (place, place_within reference n has) refl
 
-pub lacking_value : (test : Entry → Bool) (value : List ℕ) (reference : Reference)
-    → list_any test (version_entries reference None) ≡ false → value_fault test value reference ≡ Some KeyNotFound
-lacking_value test value reference none = rw none refl
+pub unknown_deletion : (ver : Option ℕ) (test : Entry → Bool) (reference : Reference) → version_place reference ver ≡ None
+    → deletion_fault ver test reference ≡ Some BadVersion
+unknown_deletion ver test reference none = rw none refl
 
-pub refused_value : (test : Entry → Bool) (value : List ℕ) (reference : Reference)
-    → list_any test (version_entries reference None) ≡ true → refuses_value reference.outputs value ≡ true
-    → value_fault test value reference ≡ Some BadValue
-refused_value test value reference some refused = rw (some, refused) refl
+pub lacking_deletion : (ver : Option ℕ) (test : Entry → Bool) (reference : Reference) → is_some (version_place reference ver) ≡ true
+    → list_any test (version_entries reference ver) ≡ false → deletion_fault ver test reference ≡ Some KeyNotFound
+lacking_deletion ver test reference has none = rw (has, none) refl
 
-pub fine_value : (test : Entry → Bool) (value : List ℕ) (reference : Reference)
-    → list_any test (version_entries reference None) ≡ true → refuses_value reference.outputs value ≡ false
-    → value_fault test value reference ≡ None
-fine_value test value reference some fine = rw (some, fine) refl
+pub chosen_deletion : (ver : Option ℕ) (test : Entry → Bool) (reference : Reference) → is_some (version_place reference ver) ≡ true
+    → list_any test (version_entries reference ver) ≡ true → deletion_fault ver test reference ≡ None
+chosen_deletion ver test reference has some = rw (has, some) refl
+
+pub lacking_value : (ver : Option ℕ) (test : Entry → Bool) (value : List ℕ) (reference : Reference) (fault : RefFault)
+    → deletion_fault ver test reference ≡ Some fault → value_fault ver test value reference ≡ Some fault
+lacking_value ver test value reference fault is = rw is refl
+
+pub refused_value : (ver : Option ℕ) (test : Entry → Bool) (value : List ℕ) (reference : Reference)
+    → deletion_fault ver test reference ≡ None → refuses_value reference.outputs value ≡ true
+    → value_fault ver test value reference ≡ Some BadValue
+refused_value ver test value reference none refused = rw (none, refused) refl
+
+pub fine_value : (ver : Option ℕ) (test : Entry → Bool) (value : List ℕ) (reference : Reference)
+    → deletion_fault ver test reference ≡ None → refuses_value reference.outputs value ≡ false
+    → value_fault ver test value reference ≡ None
+fine_value ver test value reference none fine = rw (none, fine) refl
+
+-- a change may fail by its own fault
+pub may_own : (own : Option RefFault) (fault : RefFault) → Some fault ≡ own → MayFail own fault
+may_own own NoMemory is = tt
+may_own own fault is = sym is

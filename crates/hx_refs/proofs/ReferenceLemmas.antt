@@ -25,13 +25,6 @@ pub place_within : (reference : Reference) (number : ℕ) → HasVersion referen
 place_within reference number has =
     rw (le-leb reference.curr number has.0, le-leb number reference.next has.1) refl
 
--- the version that is searched has the first number
-pub searched_place : (reference : Reference) → reference.curr ≤ reference.next
-    → version_place reference None ≡ version_place reference (Some reference.curr)
-searched_place reference order =
-    let none : 0 ≡ reference.curr - reference.curr = omega arith in
-    ap (λ (n : ℕ). Some n) none ∙ sym (place_within reference reference.curr (omega arith, order))
-
 pub version_here : (k : Kept) (row : List ShownVersion) (number : ℕ) → HasVersion k.shown number
     → version_of (filled k row).shown (Some number) ≡ Some (version_numbered number row)
 version_here k row number has =

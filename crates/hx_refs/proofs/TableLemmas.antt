@@ -207,7 +207,7 @@ none_deleted test (version ∷ versions) none =
     ap (λ (entries : List Entry). record version { entries = entries } ∷ versions) (sym (none_chosen test version.entries none))
 
 unchanged : (refs : References) (r : ℕ) (test : Entry → Bool) (found : Option Reference) (fault : RefFault) → slice_get refs.references r ≡ found
-    → Some fault ≡ fault_at refs r (deletion_fault test) → refs ≡ after_deletion refs r test
+    → Some fault ≡ fault_at refs r (deletion_fault None test) → refs ≡ after_deletion refs r None test
 unchanged refs r test None fault is refused = absurd (cc (rw is at refused))
 unchanged refs r test (Some reference) fault is refused =
     let none = none_by (list_any test (version_entries reference None)) fault (rw is at refused) in
@@ -221,12 +221,12 @@ refusal x (Some other) fault is = cc
 
 -- so a removal is done, whatever is answered
 pub deleted : (a : Result ⊤ RefFault) (old new : References) (r : ℕ) (test : Entry → Bool)
-    → a ≡ answer tt (fault_at old r (deletion_fault test)) → OnOk a (new ≡ after_deletion old r test) → OnErr a (new ≡ old)
-    → new ≡ after_deletion old r test
+    → a ≡ answer tt (fault_at old r (deletion_fault None test)) → OnOk a (new ≡ after_deletion old r None test) → OnErr a (new ≡ old)
+    → new ≡ after_deletion old r None test
 deleted (Ok x) old new r test is done kept = done
 deleted (Err fault) old new r test is done kept =
     let x : ⊤ = tt in
-    kept ∙ unchanged old r test (slice_get old.references r) fault refl (refusal x (fault_at old r (deletion_fault test)) fault is)
+    kept ∙ unchanged old r test (slice_get old.references r) fault refl (refusal x (fault_at old r (deletion_fault None test)) fault is)
 
 removed : (refs : References) (r : ℕ) (key : List ℕ) (reference : Reference) → slice_get refs.references r ≡ Some reference
     → ChangesFit true r (Removal key) (searched_lists refs) (searched_lists (after_fit_change refs r (Removal key)))
@@ -239,12 +239,12 @@ removed refs r key reference is =
 valued : (refs : References) (r : ℕ) (key value : List ℕ) (reference : Reference) → slice_get refs.references r ≡ Some reference
     → list_any (has_key key) (version_entries reference None) ≡ true
     → ChangesFit true r (NewValue key value) (searched_lists refs)
-    (searched_lists (unless_refused (fault_at refs r (value_fault (has_key key) value)) (after_change_of_value refs r (has_key key) value) refs))
-valued refs r key value reference is here = go (fault_at refs r (value_fault (has_key key) value))
+    (searched_lists (unless_refused (fault_at refs r (value_fault None (has_key key) value)) (after_change_of_value refs r None (has_key key) value) refs))
+valued refs r key value reference is here = go (fault_at refs r (value_fault None (has_key key) value))
   where
     go : (own : Option RefFault)
         → ChangesFit true r (NewValue key value) (searched_lists refs)
-        (searched_lists (unless_refused own (after_change_of_value refs r (has_key key) value) refs))
+        (searched_lists (unless_refused own (after_change_of_value refs r None (has_key key) value) refs))
     go (Some fault) =
         same_list (NewValue key value) (searched_lists refs) r (version_entries reference None) (list_at refs r reference is)
         (rw here (inl refl))
@@ -260,7 +260,7 @@ set_or_added refs r key value reference is = go (is_key_of refs r key) (key_here
   where
     go : (here : Bool) → here ≡ list_any (has_key key) (version_entries reference None)
         → ChangesFit true r (NewValue key value) (searched_lists refs)
-        (searched_lists (if here then unless_refused (fault_at refs r (value_fault (has_key key) value)) (after_change_of_value refs r (has_key key) value) refs
+        (searched_lists (if here then unless_refused (fault_at refs r (value_fault None (has_key key) value)) (after_change_of_value refs r None (has_key key) value) refs
         else with_pair refs r (record { key = key; value = value })))
     go true here = valued refs r key value reference is (sym here)
     go false none =
@@ -322,7 +322,7 @@ absent_by true false is = absurd (cc)
 
 -- no entry has the key where a change of its value is refused for that
 pub key_absent : (refs : References) (r : ℕ) (key value : List ℕ) → r < length refs.references
-    → fault_at refs r (value_fault (has_key key) value) ≡ Some KeyNotFound → is_key_of refs r key ≡ false
+    → fault_at refs r (value_fault None (has_key key) value) ≡ Some KeyNotFound → is_key_of refs r key ≡ false
 key_absent refs r key value within refused =
     let found = reference_at refs r within in
     key_here refs r key found.0 found.1
@@ -347,7 +347,7 @@ there_where_fine false fine is = absurd (cc)
 
 -- an entry has the key where a change of its value is refused for something else, or isn't refused
 key_there : (refs : References) (r : ℕ) (key value : List ℕ) (fault : RefFault) → r < length refs.references
-    → ¬ (fault ≡ KeyNotFound) → fault_at refs r (value_fault (has_key key) value) ≡ Some fault → is_key_of refs r key ≡ true
+    → ¬ (fault ≡ KeyNotFound) → fault_at refs r (value_fault None (has_key key) value) ≡ Some fault → is_key_of refs r key ≡ true
 key_there refs r key value fault within other refused =
     let found = reference_at refs r within in
     key_here refs r key found.0 found.1
@@ -355,7 +355,7 @@ key_there refs r key value fault within other refused =
     (rw found.1 at refused)
 
 key_changed : (refs : References) (r : ℕ) (key value : List ℕ) → r < length refs.references
-    → fault_at refs r (value_fault (has_key key) value) ≡ None → is_key_of refs r key ≡ true
+    → fault_at refs r (value_fault None (has_key key) value) ≡ None → is_key_of refs r key ≡ true
 key_changed refs r key value within none =
     let found = reference_at refs r within in
     key_here refs r key found.0 found.1
@@ -363,16 +363,16 @@ key_changed refs r key value within none =
     (rw found.1 at none)
 
 stays_where_refused : (old new : References) (r : ℕ) (key value : List ℕ) (fault : RefFault) → r < length old.references
-    → ¬ (fault ≡ KeyNotFound) → fault_at old r (value_fault (has_key key) value) ≡ Some fault → new ≡ old
+    → ¬ (fault ≡ KeyNotFound) → fault_at old r (value_fault None (has_key key) value) ≡ Some fault → new ≡ old
     → new ≡ after_fit_change old r (NewValue key value)
 stays_where_refused old new r key value fault within other refused same =
     rw (key_there old r key value fault within other refused, refused) same
 
 -- what a change of a value makes of the references, where an entry has the key
 pub value_answered : (a : Result ⊤ RefFault) (old new : RefsState) (r : ℕ) (key value : List ℕ) → r < length old.content.references
-    → lacks_key a ≡ false → OnOk a (new.content ≡ after_change_of_value old.content r (has_key key) value)
-    → OnOk a (fault_at old.content r (value_fault (has_key key) value) ≡ None)
-    → IfErr a (MayFail (fault_at old.content r (value_fault (has_key key) value))) → OnErr a (new ≡ old)
+    → lacks_key a ≡ false → OnOk a (new.content ≡ after_change_of_value old.content r None (has_key key) value)
+    → OnOk a (fault_at old.content r (value_fault None (has_key key) value) ≡ None)
+    → IfErr a (MayFail (fault_at old.content r (value_fault None (has_key key) value))) → OnErr a (new ≡ old)
     → OnOk (table_answer a) (new.content ≡ after_fit_change old.content r (NewValue key value))
 value_answered (Ok x) old new r key value within other done fine refused kept =
     rw (key_changed old.content r key value within fine, fine) done
@@ -425,7 +425,7 @@ never_large false fine is = cc
 
 -- a change of a value asks no maker
 pub value_counts : (a : Result ⊤ RefFault) (refs : References) (r : ℕ) (key value : List ℕ) (Asked : ExpressionText → Type 0)
-    (state : MakerState) → r < length refs.references → IfErr a (MayFail (fault_at refs r (value_fault (has_key key) value)))
+    (state : MakerState) → r < length refs.references → IfErr a (MayFail (fault_at refs r (value_fault None (has_key key) value)))
     → ChangeCountsLarge (table_answer a) Asked state state
 value_counts (Ok x) refs r key value Asked state within refused = (refl, refl)
 value_counts (Err TooLarge) refs r key value Asked state within refused =

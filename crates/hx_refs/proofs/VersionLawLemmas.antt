@@ -1,11 +1,13 @@
 -- What is searched after changes of versions that aren't, and after a commit.
-use Rattle.std.proofs.Common.{◌≡◌, ◌≢◌, ℕ, zero, suc, ◌-◌, ◌<◌, ◌≤◌, Bool, true, false, List, [], ◌∷◌, ◌++◌, length, drop, refl, ap, sym, ◌∙◌, arith, inl, inr}
+use Rattle.std.proofs.Common.{◌≡◌, ◌≢◌, ℕ, zero, suc, ◌-◌, ◌<◌, ◌≤◌, Bool, true, false, List, [], ◌∷◌, ◌++◌, length, map, drop, refl, ap, sym, ◌∙◌, arith, inl, inr}
 use Rattle.std.specs.Prelude.{Option, None, Some, IfSome, slice_get, slice_set, ◌&&◌, nat_le, nat_lt}
 use Rattle.std.specs.Option.{option_map_or}
 use Rattle.std.proofs.lemmas.Bool.{and_parts, cases_Bool, le-leb, leb-true, ltb-true}
 use Rattle.std.proofs.lemmas.Option.{slice_get_cases}
+use Rattle.hx_sample.specs.Changes.{with_value, without_chosen}
+use Rattle.hx_sample.specs.Find.{Entry}
 use Rattle.hx_refs.specs.Additions.{after_addition, Pair}
-use Rattle.hx_refs.specs.Changes.{after_clearing, after_commit, after_preparation, commit_fault, fault_at, fault_unless, with_current_version, with_new_version, with_version}
+use Rattle.hx_refs.specs.Changes.{after_change_of_value, after_clearing, after_commit, after_deletion, after_preparation, commit_fault, fault_at, fault_unless, with_current_version, with_new_version, with_version}
 use Rattle.hx_refs.specs.Numbers.{IsNotSearched}
 use Rattle.hx_refs.specs.References.{changed_at, empty_version, entries_in, searched_lists, version_entries, with_reference, Reference, References, Version}
 use Rattle.hx_versions.specs.Rows.{changed_entries}
@@ -97,6 +99,18 @@ pub lists_after_clearing : (refs : References) (r number : ℕ) → IsNotSearche
 lists_after_clearing refs r number apart =
     lists_stay refs r (with_version (Some number) (changed_entries (λ _. [])))
     (if_some (slice_get refs.references r) (searched_apart number (changed_entries (λ _. []))) apart)
+
+pub lists_after_deletion : (refs : References) (r number : ℕ) (test : Entry → Bool) → IsNotSearched refs r number
+    → searched_lists (after_deletion refs r (Some number) test) ≡ searched_lists refs
+lists_after_deletion refs r number test apart =
+    lists_stay refs r (with_version (Some number) (changed_entries (without_chosen test)))
+    (if_some (slice_get refs.references r) (searched_apart number (changed_entries (without_chosen test))) apart)
+
+pub lists_after_change_of_value : (refs : References) (r number : ℕ) (test : Entry → Bool) (value : List ℕ) → IsNotSearched refs r number
+    → searched_lists (after_change_of_value refs r (Some number) test value) ≡ searched_lists refs
+lists_after_change_of_value refs r number test value apart =
+    lists_stay refs r (with_version (Some number) (changed_entries (map (with_value test value))))
+    (if_some (slice_get refs.references r) (searched_apart number (changed_entries (map (with_value test value)))) apart)
 
 pub lists_after_preparation : (refs : References) (r : ℕ) → searched_lists (after_preparation refs r) ≡ searched_lists refs
 lists_after_preparation refs r =

@@ -1,7 +1,7 @@
 -- What removals, changes of values and the calls on versions make of the references, and why they
 -- are refused (HAProxy management guide 2.4, section 9.3, `del map`, `set map`, `clear map`,
 -- `prepare map`, `commit map`, and the same of `acl`).
-use Rattle.std.specs.Prelude.{◌≡◌, ℕ, ◌+◌, ◌-◌, ◌&&◌, nat_le, nat_lt, Bool, not, List, [], ◌∷◌, ◌++◌, map, drop, slice_get, Option, None, Some, Result, Ok, Err, if◌then◌else◌, ⊤}
+use Rattle.std.specs.Prelude.{◌≡◌, ℕ, ◌+◌, ◌-◌, ◌&&◌, nat_le, nat_lt, Bool, not, is_some, List, [], ◌∷◌, ◌++◌, map, drop, slice_get, Option, None, Some, Result, Ok, Err, if◌then◌else◌, ⊤}
 use Rattle.std.specs.List.{list_any}
 use Rattle.std.specs.Option.{option_map_or, option_or}
 use Rattle.hx_sample.specs.Find.{Entry}
@@ -39,14 +39,16 @@ with_current_version number old =
 
 -- ---- the references
 
--- without the entries that a test chooses in the version that is searched
-abbrev pub after_deletion : References → ℕ → (Entry → Bool) → References
-after_deletion refs r test = with_reference r (with_entries None (without_chosen test)) refs
+-- without the entries that a test chooses in a version
+abbrev pub after_deletion : References → ℕ → Option ℕ → (Entry → Bool) → References
+after_deletion refs r number test =
+    with_reference r (with_entries number (without_chosen test)) refs
 
--- with the value in the entries that a test chooses in the version that is searched
-abbrev pub after_change_of_value : References → ℕ → (Entry → Bool) → List ℕ → References
-after_change_of_value refs r test value =
-    with_reference r (with_entries None (map (with_value test value))) refs
+-- with the value in the entries that a test chooses in a version
+abbrev pub after_change_of_value :
+    References → ℕ → Option ℕ → (Entry → Bool) → List ℕ → References
+after_change_of_value refs r number test value =
+    with_reference r (with_entries number (map (with_value test value))) refs
 
 -- without the entries of a version
 abbrev pub after_clearing : References → ℕ → Option ℕ → References
@@ -64,15 +66,16 @@ after_commit refs r number = with_reference r (with_current_version number) refs
 abbrev pub fault_unless : Bool → RefFault → Option RefFault
 fault_unless fine fault = if fine then None else Some fault
 
--- a removal: a test chooses no entry of the version that is searched
-abbrev pub deletion_fault : (Entry → Bool) → Reference → Option RefFault
-deletion_fault test reference =
-    fault_unless (list_any test (version_entries reference None)) KeyNotFound
+-- a removal: there is no such version, or a test chooses no entry of it
+abbrev pub deletion_fault : Option ℕ → (Entry → Bool) → Reference → Option RefFault
+deletion_fault number test reference =
+    option_or (fault_unless (is_some (version_place reference number)) BadVersion)
+    (fault_unless (list_any test (version_entries reference number)) KeyNotFound)
 
 -- a change of a value: the same, or else that an output can't read the value
-abbrev pub value_fault : (Entry → Bool) → List ℕ → Reference → Option RefFault
-value_fault test value reference =
-    option_or (deletion_fault test reference)
+abbrev pub value_fault : Option ℕ → (Entry → Bool) → List ℕ → Reference → Option RefFault
+value_fault number test value reference =
+    option_or (deletion_fault number test reference)
     (fault_unless (not (refuses_value reference.outputs value)) BadValue)
 
 -- a preparation: the last version that there may be is prepared

@@ -27,11 +27,11 @@ with_pair refs r pair =
 abbrev pub after_fit_change : References → ℕ → ListChange → References
 after_fit_change refs r (Addition key) =
     if is_key_of refs r key then refs else with_pair refs r (record { key = key; value = [] })
-after_fit_change refs r (Removal key) = after_deletion refs r (has_key key)
+after_fit_change refs r (Removal key) = after_deletion refs r None (has_key key)
 after_fit_change refs r (NewValue key value) =
     if is_key_of refs r key
-    then unless_refused (fault_at refs r (value_fault (has_key key) value))
-    (after_change_of_value refs r (has_key key) value) refs
+    then unless_refused (fault_at refs r (value_fault None (has_key key) value))
+    (after_change_of_value refs r None (has_key key) value) refs
     else with_pair refs r (record { key = key; value = value })
 
 -- what a change of the list at a position makes of them; one that isn't fit does nothing

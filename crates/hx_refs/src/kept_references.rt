@@ -201,14 +201,15 @@ impl KeptReferences {
         self.store.entries::<Brand>(r, number, Blank::new(1))
     }
 
-    /// Whether an entry is chosen in the version of the reference at a position that is searched.
-    pub(crate) fn has_chosen(&self, r: u32, choice: &Choice<'_>) -> bool
+    /// Whether an entry is chosen in a version of the reference at a position.
+    pub(crate) fn has_chosen(&self, r: u32, ver: Option<u32>, choice: &Choice<'_>) -> bool
         requires { r < length self.now.kept }
         ensures { (k : Kept) → slice_get self.now.kept r ≡ Some k
-            → result ≡ list_any (is_chosen choice.now) (version_entries k.shown None) }
+            → result ≡ list_any (is_chosen choice.now) (version_entries k.shown ver) }
     {
+        // No version has a number outside those of the reference.
         let reference = &self.references[r as usize];
-        let number = reference.current();
+        let number = reference.number_or_current(ver);
         self.store
             .has_chosen::<Brand>(r, number, choice, Blank::new(1))
     }
@@ -368,68 +369,125 @@ impl KeptReferences {
         Ok(())
     }
 
-    /// Removes the entries that are chosen from the version of the reference at a position that is
-    /// searched.
-    pub(crate) fn delete(&mut self, r: u32, choice: &Choice<'_>) -> Result<(), RefFault>
+    /// Why the entries that are chosen aren't removed from a version of the reference at a
+    /// position.
+    fn deletion_fault(&self, r: u32, ver: Option<u32>, choice: &Choice<'_>) -> Option<RefFault>
+        requires { r < length self.now.kept }
+        ensures { result
+            ≡ kept_fault self.now.kept r (deletion_fault ver (is_chosen choice.now)) }
+    {
+        let reference = &self.references[r as usize];
+        if reference.number(ver).is_none() {
+            return Some(RefFault::BadVersion);
+        }
+        if !self.has_chosen(r, ver, choice) {
+            return Some(RefFault::KeyNotFound);
+        }
+        None
+    }
+
+    /// Removes the entries that are chosen from a version of the reference at a position.
+    pub(crate) fn delete(
+        &mut self,
+        r: u32,
+        ver: Option<u32>,
+        choice: &Choice<'_>,
+    ) -> Result<(), RefFault>
         requires { r < length self.old.kept }
         ensures answer { result
-            ≡ answer tt (kept_fault self.old.kept r (deletion_fault (is_chosen choice.now))) }
+            ≡ answer tt (kept_fault self.old.kept r (deletion_fault ver (is_chosen choice.now))) }
         ensures ok { OnOk result (self.new.kept
-            ≡ with_kept r (with_entries None (without_chosen (is_chosen choice.now)))
+            ≡ with_kept r (with_entries ver (without_chosen (is_chosen choice.now)))
             self.old.kept) }
         ensures err { OnErr result (self.new ≡ self.old) }
     {
-        if !self.has_chosen(r, choice) {
-            return Err(RefFault::KeyNotFound);
+        if let Some(fault) = self.deletion_fault(r, ver, choice) {
+            return Err(fault);
         }
-        self.remove(r, choice);
+        self.remove(r, ver, choice);
         Ok(())
     }
 
-    fn remove(&mut self, r: u32, choice: &Choice<'_>)
+    /// The same where nothing is refused. A version that the reference hasn't changes nothing.
+    fn remove(&mut self, r: u32, ver: Option<u32>, choice: &Choice<'_>)
         requires { r < length self.old.kept }
         ensures { self.new.kept
-            ≡ with_kept r (with_entries None (without_chosen (is_chosen choice.now)))
+            ≡ with_kept r (with_entries ver (without_chosen (is_chosen choice.now)))
             self.old.kept }
     {
         let reference = &self.references[r as usize];
-        let number = reference.current();
-        self.store.delete::<Brand>(r, number, choice, Blank::new(1));
+        if let Some(number) = reference.number(ver) {
+            self.store.delete::<Brand>(r, number, choice, Blank::new(1));
+        }
     }
 
-    /// Changes the value of the entries that are chosen in the version of the reference at a
-    /// position that is searched, of all of them or of none.
-    pub(crate) fn set(&mut self, r: u32, choice: &Choice<'_>, value: &[u8]) -> Result<(), RefFault>
-        requires { r < length self.old.kept }
-        ensures ok { OnOk result (self.new.kept
-            ≡ with_kept r (with_entries None (map (with_value (is_chosen choice.now) value.now)))
-            self.old.kept) }
-        ensures none { OnOk result (kept_fault self.old.kept r
-            (value_fault (is_chosen choice.now) value.now) ≡ None) }
-        ensures refused { IfErr result (MayFail (kept_fault self.old.kept r
-            (value_fault (is_chosen choice.now) value.now))) }
-        ensures kept { OnErr result (self.new ≡ self.old) }
+    /// Why the value of the entries that are chosen isn't changed in a version of the reference at
+    /// a position.
+    fn value_fault(
+        &self,
+        r: u32,
+        ver: Option<u32>,
+        choice: &Choice<'_>,
+        value: &[u8],
+    ) -> Option<RefFault>
+        requires { r < length self.now.kept }
+        ensures { result
+            ≡ kept_fault self.now.kept r (value_fault ver (is_chosen choice.now) value.now) }
     {
-        if !self.has_chosen(r, choice) {
-            return Err(RefFault::KeyNotFound);
+        if let Some(fault) = self.deletion_fault(r, ver, choice) {
+            return Some(fault);
         }
         let reference = &self.references[r as usize];
         if reference.refuses_value(value) {
-            return Err(RefFault::BadValue);
+            return Some(RefFault::BadValue);
         }
-        self.set_values(r, choice, value)?;
+        None
+    }
+
+    /// Changes the value of the entries that are chosen in a version of the reference at a
+    /// position, of all of them or of none.
+    pub(crate) fn set(
+        &mut self,
+        r: u32,
+        ver: Option<u32>,
+        choice: &Choice<'_>,
+        value: &[u8],
+    ) -> Result<(), RefFault>
+        requires { r < length self.old.kept }
+        ensures ok { OnOk result (self.new.kept
+            ≡ with_kept r (with_entries ver (map (with_value (is_chosen choice.now) value.now)))
+            self.old.kept) }
+        ensures none { OnOk result (kept_fault self.old.kept r
+            (value_fault ver (is_chosen choice.now) value.now) ≡ None) }
+        ensures refused { IfErr result (MayFail (kept_fault self.old.kept r
+            (value_fault ver (is_chosen choice.now) value.now))) }
+        ensures kept { OnErr result (self.new ≡ self.old) }
+    {
+        if let Some(fault) = self.value_fault(r, ver, choice, value) {
+            return Err(fault);
+        }
+        self.set_values(r, ver, choice, value)?;
         Ok(())
     }
 
-    fn set_values(&mut self, r: u32, choice: &Choice<'_>, value: &[u8]) -> Result<(), NoMemory>
+    /// The same where nothing is refused. A version that the reference hasn't changes nothing.
+    fn set_values(
+        &mut self,
+        r: u32,
+        ver: Option<u32>,
+        choice: &Choice<'_>,
+        value: &[u8],
+    ) -> Result<(), NoMemory>
         requires { r < length self.old.kept }
         ensures ok { OnOk result (self.new.kept
-            ≡ with_kept r (with_entries None (map (with_value (is_chosen choice.now) value.now)))
+            ≡ with_kept r (with_entries ver (map (with_value (is_chosen choice.now) value.now)))
             self.old.kept) }
         ensures err { OnErr result (self.new ≡ self.old) }
     {
         let reference = &self.references[r as usize];
-        let number = reference.current();
+        let Some(number) = reference.number(ver) else {
+            return Ok(());
+        };
         self.store
             .set::<Brand>(r, number, choice, value, Blank::new(1))
     }

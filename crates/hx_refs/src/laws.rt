@@ -1,7 +1,8 @@
 //! Laws: what the definitions of versions imply, and what holds of references at any time.
 ghost use Rattle.std.specs.Prelude.{◌≡◌, ◌≢◌, ℕ, ◌+◌, ◌<◌, ◌≤◌, Bool, List, Option, None, Some, All, IfSome, length, slice_get};
+ghost use Rattle.hx_sample.specs.Find.{Entry};
 ghost use Rattle.hx_refs.specs.Additions.{after_addition, Pair};
-ghost use Rattle.hx_refs.specs.Changes.{after_clearing, after_commit, after_preparation, commit_fault, fault_at};
+ghost use Rattle.hx_refs.specs.Changes.{after_change_of_value, after_clearing, after_commit, after_deletion, after_preparation, commit_fault, fault_at};
 ghost use Rattle.hx_refs.specs.Numbers.{HasVersionsInOrder, HaveOwnNames, IsNotSearched, NumbersRise};
 ghost use Rattle.hx_refs.specs.References.{entries_in, searched_lists, with_new, with_reference, Reference, References};
 ghost use Rattle.hx_refs.specs.SlotCounts.{least_slots, most_slots, slots_in_all};
@@ -24,6 +25,25 @@ pub fn clearing_of_another_version_changes_no_search()
         → searched_lists (after_clearing refs r (Some number)) ≡ searched_lists refs }
     ensures heads { (refs : References) (r number : ℕ)
         → (after_clearing refs r (Some number)).heads ≡ refs.heads }
+{}
+
+/// Nor where entries are removed from such a version.
+pub fn deletion_from_another_version_changes_no_search()
+    ensures lists { (refs : References) (r number : ℕ) (test : Entry → Bool)
+        → IsNotSearched refs r number
+        → searched_lists (after_deletion refs r (Some number) test) ≡ searched_lists refs }
+    ensures heads { (refs : References) (r number : ℕ) (test : Entry → Bool)
+        → (after_deletion refs r (Some number) test).heads ≡ refs.heads }
+{}
+
+/// Nor where the value of entries of such a version is changed.
+pub fn change_of_a_value_in_another_version_changes_no_search()
+    ensures lists { (refs : References) (r number : ℕ) (test : Entry → Bool) (value : List ℕ)
+        → IsNotSearched refs r number
+        → searched_lists (after_change_of_value refs r (Some number) test value)
+        ≡ searched_lists refs }
+    ensures heads { (refs : References) (r number : ℕ) (test : Entry → Bool) (value : List ℕ)
+        → (after_change_of_value refs r (Some number) test value).heads ≡ refs.heads }
 {}
 
 /// Nor where a version is prepared.

@@ -1,4 +1,4 @@
-ghost use Rattle.std.specs.Prelude.{◌≡◌, ◌<◌, [], true, length, OnOk, OnErr};
+ghost use Rattle.std.specs.Prelude.{◌≡◌, ◌<◌, [], true, None, length, OnOk, OnErr};
 ghost use Rattle.hx_sample.specs.Changes.{change_of, has_key, is_entry_key, is_entry_text, is_fit, Addition, ChangeAsksFor, ChangeCountsLarge, IsReadBy, NewValue, Removal};
 ghost use Rattle.hx_refs.specs.Changes.{after_deletion};
 ghost use Rattle.hx_refs.specs.References.{searched_lists};
@@ -101,10 +101,10 @@ impl Refs {
     /// Removes all entries with the key from the version that is searched.
     fn delete_all(&mut self, r: u32, key: &[u8])
         requires { r < length self.old.content.references }
-        ensures { self.new.content ≡ after_deletion self.old.content r (has_key key.now) }
+        ensures { self.new.content ≡ after_deletion self.old.content r None (has_key key.now) }
     {
         // Where no entry has the key there is nothing to remove.
-        let _ = self.del_key(r, key);
+        let _ = self.del_key(r, None, key);
     }
 
     /// Changes the value of all entries with the key, and appends one where there is none.
@@ -124,7 +124,7 @@ impl Refs {
             (searched_lists self.old.content) r (NewValue key.now value.now))
             (M.state maker.old) (M.state maker.new) }
     {
-        let answer = self.set_key(r, key, value);
+        let answer = self.set_key(r, None, key, value);
         if lacks_key(&answer) {
             return self.append_pair(r, key, value, maker);
         }

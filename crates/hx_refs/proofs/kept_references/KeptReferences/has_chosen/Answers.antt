@@ -1,5 +1,4 @@
 use Rattle.std.proofs.Common.{ap, sym, ◌∙◌, arith}
-use Rattle.std.specs.Prelude.{None}
 use Rattle.std.specs.List.{list_any}
 use Rattle.hx_refs.specs.Kept.{Kept}
 use Rattle.hx_refs.specs.References.{version_entries}
@@ -7,6 +6,7 @@ use Rattle.hx_versions.specs.Rows.{row_at, version_numbered}
 use Rattle.hx_versions.specs.Versions.{is_chosen}
 use Rattle.hx_refs.proofs.ChangeLemmas.{holds_here}
 use Rattle.hx_refs.proofs.FilledLemmas.{row_within, seen_from, filled_length}
+use Rattle.hx_refs.proofs.ReferenceLemmas.{entries_numbered}
 use Rattle.hx_refs.proofs.kept_references.KeptReferences.has_chosen.Goals as goal
 
 pub has_chosen-requires-clause-row : goal.has_chosen-requires-clause-row
@@ -22,8 +22,9 @@ returns c seen is =
     let test = is_chosen c.args.choice.now in
     let here = holds_here kept c.self.inside.store c.args.r k requires c.index-reference.ensures c.self.invariant in
     c.has_chosen.ensures k.shown.curr k.shown.next here.numbers
-    ∙ ap (λ n. list_any test (version_numbered n row).entries) c.current-number.ensures
-    ∙ ap (λ (x : Kept). list_any test (version_entries x.shown None))
+    ∙ ap (λ n. list_any test (version_numbered n row).entries) c.number_or_current-number.ensures
+    ∙ ap (list_any test) (sym (entries_numbered k row c.args.ver here))
+    ∙ ap (λ (x : Kept). list_any test (version_entries x.shown c.args.ver))
     (sym (seen_from kept c.self.inside.store c.args.r k seen requires c.index-reference.ensures (rw (← c.self.view_is) at is)))
 
 pub index-reference-requires : goal.index-reference-requires

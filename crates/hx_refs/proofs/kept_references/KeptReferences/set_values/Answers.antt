@@ -4,7 +4,7 @@ use Rattle.std.proofs.lemmas.Result.{on_ok_weaker, on_err_weaker}
 use Rattle.hx_sample.specs.Changes.{with_value}
 use Rattle.hx_versions.specs.Rows.{changed_entries}
 use Rattle.hx_versions.specs.Versions.{is_chosen}
-use Rattle.hx_refs.proofs.ChangeLemmas.{either, searched_changed}
+use Rattle.hx_refs.proofs.ChangeLemmas.{either, holds_here, none_changed, version_changed}
 use Rattle.hx_refs.proofs.NumberLemmas.{rising_with}
 use Rattle.hx_refs.proofs.kept_references.KeptReferences.set_values.Goals as goal
 
@@ -12,11 +12,11 @@ pub invariant_of-self : goal.invariant_of-self
 invariant_of-self c =
     either c.set.result
     (λ changes.
-    (searched_changed c.self.inside.references.items c.self.inside.store c.set.new.self c.args.r c.index-reference.result.now
+    (version_changed c.self.inside.references.items c.self.inside.store c.set.new.self c.args.r c.index-reference.result.now
     (rw (← c.self.view_is) at c.requires) c.index-reference.ensures c.self.invariant c.set.ensures.others
-    c.current-number.result (changed_entries (map (with_value (is_chosen c.args.choice.now) c.args.value.now))) c.current-number.ensures
+    c.in-Some.number c.args.ver (changed_entries (map (with_value (is_chosen c.args.choice.now) c.args.value.now))) c.in-Some.ensures.version c.in-Some.ensures.place
     changes c.set.ensures.searched c.set.ensures.counted
-    (rising_with c.current-number.result (is_chosen c.args.choice.now) c.args.value.now)).is_filled)
+    (rising_with c.in-Some.number (is_chosen c.args.choice.now) c.args.value.now)).is_filled)
     (λ same. rw same c.self.invariant) c.set.ensures.ok c.set.ensures.err
 
 pub returns-clause-ok : goal.returns-clause-ok
@@ -24,11 +24,11 @@ returns-clause-ok c =
     rw (← c.self.view_is)
     (on_ok_weaker c.set.result
     (λ changes.
-    (searched_changed c.self.inside.references.items c.self.inside.store c.set.new.self c.args.r c.index-reference.result.now
+    (version_changed c.self.inside.references.items c.self.inside.store c.set.new.self c.args.r c.index-reference.result.now
     (rw (← c.self.view_is) at c.requires) c.index-reference.ensures c.self.invariant c.set.ensures.others
-    c.current-number.result (changed_entries (map (with_value (is_chosen c.args.choice.now) c.args.value.now))) c.current-number.ensures
+    c.in-Some.number c.args.ver (changed_entries (map (with_value (is_chosen c.args.choice.now) c.args.value.now))) c.in-Some.ensures.version c.in-Some.ensures.place
     changes c.set.ensures.searched c.set.ensures.counted
-    (rising_with c.current-number.result (is_chosen c.args.choice.now) c.args.value.now)).shown)
+    (rising_with c.in-Some.number (is_chosen c.args.choice.now) c.args.value.now)).shown)
     c.set.ensures.ok)
 
 pub index-reference-requires : goal.index-reference-requires
@@ -43,3 +43,15 @@ pub returns-clause-err : goal.returns-clause-err
 returns-clause-err c =
     rw (← c.self.view_is)
     (on_err_weaker c.set.result (ap (state_of c.self.inside.references.items)) c.set.ensures.err)
+
+pub number-requires : goal.number-requires
+number-requires c =
+    (holds_here c.self.inside.references.items c.self.inside.store c.args.r c.index-reference.result.now
+    (rw (← c.self.view_is) at c.requires) c.index-reference.ensures c.self.invariant).order
+
+pub returns-in_default-clause-ok : goal.returns-in_default-clause-ok
+returns-in_default-clause-ok c =
+    rw (← c.self.view_is)
+    (none_changed c.self.inside.references.items c.self.inside.store c.args.r c.index-reference.result.now
+    (rw (← c.self.view_is) at c.requires) c.index-reference.ensures c.self.invariant c.args.ver
+    (changed_entries (map (with_value (is_chosen c.args.choice.now) c.args.value.now))) c.in_default.ensures.none)
