@@ -23,7 +23,7 @@ next_number refs none = λ k d within. λ same. absurd (omega (arith, none.numbe
 pub none_in_more : (refs : References) (file : Option (List ℕ)) (two acl : Bool) → HaveHadNone refs
     → HaveHadNone (with_new refs (length refs.references) file two acl)
 none_in_more refs file two acl none =
-    let new : Reference = new_reference (length refs.references) file two acl in
+    let new : Reference = new_reference refs.first (length refs.references) file two acl in
     let more : length (refs.references ++ new ∷ []) ≡ length refs.references + 1 =
     length-append refs.references (new ∷ []) in
     let IsBelow : ℕ → Reference → Type 0 = λ n reference. reference.id < n in

@@ -106,14 +106,14 @@ fn some_name(random: &mut Random) -> Name {
 /// No version, that which is searched, the last one, or one of or beside those that are there.
 fn some_version(random: &mut Random, reference: &Reference) -> Option<u32> {
     let (first, last) = (reference.current.number, reference.next());
-    let span = last.saturating_sub(first).saturating_add(3);
+    let span = last.wrapping_sub(first).saturating_add(3);
     match random.below(4) {
         0 => None,
         1 => Some(first),
         2 => Some(last),
         _ => {
             let further = random.below(u64::from(span)) as u32;
-            Some(first.saturating_sub(1).saturating_add(further))
+            Some(first.wrapping_sub(1).wrapping_add(further))
         }
     }
 }

@@ -177,7 +177,7 @@ fn add_reference(refs: &mut Refs, text: &[u8]) -> Result<(), CaseFault> {
 }
 
 /// The limits `ENTRIES,ADDITIONS,VERSIONS`, or the usual ones for `-`.
-pub fn limits(text: &[u8]) -> Result<Limits, CaseFault> {
+fn limits_without(text: &[u8]) -> Result<Limits, CaseFault> {
     if text == b"-".as_slice() {
         return Ok(Limits::usual());
     }
@@ -190,9 +190,19 @@ pub fn limits(text: &[u8]) -> Result<Limits, CaseFault> {
     })
 }
 
+/// Limits, and the number of the version with which a reference begins, which may follow after `@`
+/// and else is 0.
+pub fn limits(text: &[u8]) -> Result<(Limits, u32), CaseFault> {
+    match cut_at(b'@', text) {
+        Some((most, first)) => Ok((limits_without(most)?, id(first)?)),
+        None => Ok((limits_without(text)?, 0)),
+    }
+}
+
 /// The references that are described, with `;` between.
 pub fn references(alloc: Global, most: &[u8], text: &[u8]) -> Result<Refs, CaseFault> {
-    let mut refs = Refs::new(alloc, limits(most)?);
+    let (limits, first) = limits(most)?;
+    let mut refs = Refs::start(alloc, limits, first);
     for piece in text.split(|b| *b == b';') {
         add_reference(&mut refs, piece)?;
     }

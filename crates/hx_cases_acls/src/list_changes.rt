@@ -178,11 +178,10 @@ impl Reference {
 
     /// Prepares one version more, and answers its number.
     pub fn prepare(&mut self, alloc: Global) -> Result<u32, RefFault> {
-        let last = self.next();
-        if last >= self.limits.versions {
+        if self.later.len() as u64 >= u64::from(self.limits.versions) {
             return Err(RefFault::NoMoreVersions);
         }
-        let number = last.saturating_add(1);
+        let number = self.next().wrapping_add(1);
         self.later.push(Version::new(alloc, number))?;
         Ok(number)
     }
@@ -197,11 +196,13 @@ impl Reference {
         if !self.is_later(ver) {
             return Err(RefFault::BadVersion);
         }
+        let mut is_done = false;
         for version in mem::replace(&mut self.later, Vec::new(alloc)) {
-            if version.number <= ver {
-                self.current = version;
-            } else {
+            if is_done {
                 self.later.push(version)?;
+            } else {
+                is_done = version.number == ver;
+                self.current = version;
             }
         }
         Ok(())

@@ -143,10 +143,10 @@ fn has_word(described: &[u8], word: &[u8]) -> bool {
 }
 
 /// A list without entries, like the reference of hx_refs at the position `r`, which was described
-/// so.
+/// so. Its first version has the number that stands beside the limits.
 fn listed(
     alloc: Global,
-    limits: Limits,
+    (limits, first): (Limits, u32),
     described: &[u8],
     refs: &Refs,
     r: u32,
@@ -165,7 +165,7 @@ fn listed(
         reads_int: has_word(described, b"=int"),
         reads_ip: has_word(described, b"=ip"),
         limits,
-        current: Version::new(alloc, 0),
+        current: Version::new(alloc, first),
         later: Vec::new(alloc),
     })
 }
@@ -173,7 +173,7 @@ fn listed(
 /// Lists without entries like the references of hx_refs, which were described so.
 pub fn all_listed(
     alloc: Global,
-    limits: Limits,
+    limits: (Limits, u32),
     described: &[u8],
     refs: &Refs,
 ) -> Result<Vec<Reference>, CaseFault> {

@@ -72,7 +72,8 @@ fn show(out: &mut String, refs: &Refs, r: u32) -> Result<(), CaseFault>
 {
     let info = refs.info(r);
     write!(out, " {info:?}")?;
-    for ver in info.curr..=info.next {
+    for distance in 0..=info.next.wrapping_sub(info.curr) {
+        let ver = info.curr.wrapping_add(distance);
         write!(out, " {ver}:")?;
         for entry in refs.entries(r, Some(ver)) {
             show_pair(out, entry.key, entry.value)?;

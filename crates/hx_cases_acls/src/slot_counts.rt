@@ -22,13 +22,14 @@ fn version_slots(reference: &Reference, version: &Version) -> u64 {
         .saturating_add(1)
 }
 
-/// The slots of the versions before that of a number.
-fn slots_before(reference: &Reference, number: u32) -> u64 {
+/// The slots of the versions before that of a number, or without one of all versions.
+fn slots_before(reference: &Reference, number: Option<u32>) -> u64 {
     let mut slots = version_slots(reference, &reference.current);
     for version in reference.later.iter() {
-        if version.number < number {
-            slots = slots.saturating_add(version_slots(reference, version));
+        if Some(version.number) == number {
+            return slots;
         }
+        slots = slots.saturating_add(version_slots(reference, version));
     }
     slots
 }
@@ -45,7 +46,7 @@ fn cleared_slots(reference: &Reference, ver: Option<u32>) -> u64 {
 /// The slots that wait from then on because a version is committed.
 fn dropped_slots(reference: &Reference, ver: u32) -> u64 {
     if reference.is_later(ver) {
-        slots_before(reference, ver)
+        slots_before(reference, Some(ver))
     } else {
         0
     }
@@ -75,8 +76,7 @@ impl SlotCounts {
     pub fn slots(&self, lists: &[Reference]) -> Slots {
         let mut used = self.waiting;
         for reference in lists {
-            // No version has this number.
-            used = used.saturating_add(slots_before(reference, u32::MAX));
+            used = used.saturating_add(slots_before(reference, None));
         }
         Slots {
             used,

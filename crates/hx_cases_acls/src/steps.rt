@@ -8,7 +8,7 @@ use crate::searches::find_at;
 use hx_cases_base::{CaseFault, id, show_pair};
 use hx_outside::PlainMaker;
 use hx_pool::Steps;
-use hx_refs::{Entries, Pairs, RefFault, Refs, Side};
+use hx_refs::{Entries, Pairs, RefFault, Refs, Side, Slots};
 use hx_sample::{Change, TableFault, Tables};
 use hx_text::cut_at;
 use std::alloc::Global;
@@ -66,6 +66,12 @@ fn show_info(out: &mut String, refs: &Refs, r: u32) -> Result<(), CaseFault>
     Ok(write!(out, "{info:?}|")?)
 }
 
+/// Writes how many slots of memory are in use, and how many of these wait to be given back.
+fn show_slots(out: &mut String, refs: &Refs) -> Result<(), CaseFault> {
+    let Slots { used, retired } = refs.slots();
+    Ok(write!(out, "{used}.{retired}|")?)
+}
+
 /// Commits a version, with steps that nothing reads.
 fn commit_counted<L: Ledger>(
     refs: &mut Refs,
@@ -101,6 +107,7 @@ fn plain_step(out: &mut String, refs: &mut Refs, r: u32, name: &[u8]) -> Result<
         }
         b"show" => show_entries(out, refs.info(r).curr, refs.entries(r, None)),
         b"info" => show_info(out, refs, r),
+        b"slots" => show_slots(out, refs),
         _ => Err(CaseFault::BadArguments),
     }
 }
@@ -138,6 +145,28 @@ fn add(
 {
     let (key, value) = pair(text);
     show_done(out, refs.add(r, ver, key, value, &mut PlainMaker::new()))
+}
+
+/// Prepares a version with one entry, for `KEY=VALUE`, commits it, and gives back 64 slots.
+fn replace(refs: &mut Refs, r: u32, text: &[u8]) -> Result<(), RefFault>
+    requires { r < length refs.old.content.references }
+{
+    let (key, value) = pair(text);
+    let ver = refs.prepare(r)?;
+    add_to(refs, r, ver, key, value)
+}
+
+/// Adds an entry to a version, commits this, and gives back 64 slots.
+fn add_to(refs: &mut Refs, r: u32, ver: u32, key: &[u8], value: &[u8]) -> Result<(), RefFault> {
+    if r >= refs.len() {
+        return Err(RefFault::UnknownRef);
+    }
+    refs.add(r, Some(ver), key, value, &mut PlainMaker::new())?;
+    if r < refs.len() {
+        commit_uncounted(refs, r, ver)?;
+    }
+    refs.tidy(64);
+    Ok(())
 }
 
 /// Keys and values, with `;` between, or none for `-`.
@@ -216,6 +245,7 @@ fn text_step(
         b"delid" => show_done(out, refs.del_id(r, ver, entry_number(text)?)),
         b"set" => set(out, refs, r, ver, text),
         b"setid" => set_id(out, refs, r, ver, text),
+        b"replace" => show_done(out, replace(refs, r, text)),
         _ => Err(CaseFault::BadArguments),
     }
 }
@@ -320,7 +350,8 @@ fn step(
 }
 
 /// `references LIMITS REFERENCES STEP ..`: what each step on references answers. LIMITS is
-/// `ENTRIES,ADDITIONS,VERSIONS` or `-`. REFERENCES stand with `;` between, each as
+/// `ENTRIES,ADDITIONS,VERSIONS` or `-`, and after it `@FIRST` may say with which version references
+/// begin. REFERENCES stand with `;` between, each as
 /// `COLUMNS,NUMBER,FILE,PARTS`: COLUMNS is `acl`, `map`, `both` or `neither`, FILE may be `-`, and
 /// PARTS are methods, which `-i` may follow, and outputs, as `=int`, or `-`. A step is on the first
 /// of them, and after `at@R` on that at the position R.
@@ -328,7 +359,8 @@ fn step(
 /// The steps `add:KEY=VALUE`, `addmany:KEY=VALUE;..`, `del:KEY`, `delid:VERSION.SERIAL`,
 /// `set:KEY=VALUE`, `setid:VERSION.SERIAL=VALUE`, `clear` and `show` are on the version that is
 /// searched, and with `@VERSION` behind their name on that version. The others are `prepare`,
-/// `commit@VERSION`, `info`, `resolve@SIDE:WORD` with the sides `acl`, `write` and `map`, and
+/// `commit@VERSION`, `replace:KEY=VALUE`, which prepares a version with that entry, commits it and
+/// gives back 64 slots, `info`, `slots`, `resolve@SIDE:WORD` with the sides `acl`, `write` and `map`, and
 /// `change@CHANGE:KEY` with the changes `add`, `del`, `delmap`, and `set`, which has KEY=VALUE;
 /// and `find@K:TEXT`, which answers the entry that is found by the K-th use, from 0, for the text,
 /// or for the number or the address that it writes.

@@ -1,18 +1,17 @@
 -- Which entries a word of a removal or of a change of value speaks of.
-use Rattle.std.proofs.Common.{◌≡◌, ℕ, ◌-◌, Bool, true, false, List, [], ◌∷◌, drop, take, refl, ap}
-use Rattle.std.specs.Prelude.{codes, not, nat_le, ◌&&◌, Option, None, Some, is_some, option_map, slice_get, if◌then◌else◌}
+use Rattle.std.proofs.Common.{◌≡◌, ℕ, ◌<◌, Bool, true, false, List, [], ◌∷◌, length, drop, take, refl, ap, arith, inl, inr}
+use Rattle.std.specs.Prelude.{codes, not, Option, None, Some, is_some, slice_get, if◌then◌else◌}
 use Rattle.std.specs.List.{list_any}
 use Rattle.std.specs.Option.{option_map_or, option_or}
-use Rattle.std.proofs.lemmas.Option.{same_Some}
+use Rattle.std.proofs.lemmas.Option.{slice_get_cases}
 use Rattle.std.specs.Str.{bytes_eq}
 use Rattle.hx_base.specs.Bytes.{is_given}
 use Rattle.hx_sample.specs.Changes.{has_key}
 use Rattle.hx_sample.specs.Find.{Entry}
 use Rattle.hx_refs.specs.Changes.{deletion_fault, fault_at, fault_unless, value_fault}
-use Rattle.hx_refs.specs.References.{info_of, refuses_value, version_entries, version_place, Reference, References}
+use Rattle.hx_refs.specs.References.{has_version, refuses_value, version_entries, version_place, Reference, References}
 use Rattle.hx_refs.specs.declared.fault.RefFault.{RefFault}
 use Rattle.hx_refs.specs.declared.fault.RefFault.TheVariants.{BadValue, BadVersion, KeyNotFound}
-use Rattle.hx_refs.specs.declared.info.RefInfo.{RefInfo}
 use Rattle.hx_cli.specs.Effects.{is_meant, number_after_sign}
 
 -- the entry has the number, if there is one
@@ -32,35 +31,19 @@ none_chosen : (entries : List Entry) → list_any (has_this_number None) entries
 none_chosen [] = refl
 none_chosen (entry ∷ entries) = none_chosen entries
 
--- a reference has the version, by what is told of it
-has_place : (x : Reference) (ver : Option ℕ)
-    → is_some (version_place x ver) ≡ option_map_or (λ n. nat_le x.curr n && nat_le n x.next) ver true
-has_place x None = refl
-has_place x (Some n) = go (nat_le x.curr n && nat_le n x.next)
-  where
-    go : (has : Bool) → is_some (if has then Some (n - x.curr) else None) ≡ has
-    go true = refl
-    go false = refl
-
 -- the fault of a removal that chooses no entry
-pub none_deleted : (refs : References) (r : ℕ) (ver : Option ℕ) (info : RefInfo) (has : Bool)
-    → Some info ≡ option_map info_of (slice_get refs.references r)
-    → has ≡ option_map_or (λ n. nat_le info.curr n && nat_le n info.next) ver true
-    → fault_at refs r (deletion_fault ver (has_this_number None)) ≡ Some (if has then KeyNotFound else BadVersion)
-none_deleted refs r ver info has told here = go (slice_get refs.references r) told
+pub none_deleted : (refs : References) (r : ℕ) (ver : Option ℕ) → r < length refs.references
+    → fault_at refs r (deletion_fault ver (has_this_number None))
+    ≡ Some (if has_version refs r ver then KeyNotFound else BadVersion)
+none_deleted refs r ver within = elim (slice_get_cases refs.references r).1 [
+  | inl w ↦ rw (w.2, none_chosen (version_entries w.0 ver)) (by_place (is_some (version_place w.0 ver)))
+  | inr past ↦ absurd (omega (arith, past.0, within))
+]
   where
-    by_version : (b : Bool) → has ≡ b
-        → option_or (fault_unless b BadVersion) (fault_unless false KeyNotFound) ≡ Some (if has then KeyNotFound else BadVersion)
-    by_version true is = rw is refl
-    by_version false is = rw is refl
-
-    go : (found : Option Reference) → Some info ≡ option_map info_of found
-        → option_map_or (deletion_fault ver (has_this_number None)) found None ≡ Some (if has then KeyNotFound else BadVersion)
-    go None told = absurd (cc)
-    go (Some x) told =
-        let same : info ≡ info_of x = same_Some info (info_of x) told in
-        rw (has_place x ver, none_chosen (version_entries x ver))
-        (by_version (option_map_or (λ n. nat_le x.curr n && nat_le n x.next) ver true) (rw same at here))
+    by_place : (has : Bool)
+        → option_or (fault_unless has BadVersion) (fault_unless false KeyNotFound) ≡ Some (if has then KeyNotFound else BadVersion)
+    by_place true = refl
+    by_place false = refl
 
 -- a change of a value is refused as a removal is
 pub none_valued : (refs : References) (r : ℕ) (ver : Option ℕ) (test : Entry → Bool) (v : List ℕ) (fault : RefFault)

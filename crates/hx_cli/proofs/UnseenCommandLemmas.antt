@@ -1,6 +1,6 @@
 -- Commands, and a version that isn't searched: those that name it change nothing else, and the
 -- others do and answer the same as if nothing was added to it.
-use Rattle.std.proofs.Common.{◌≡◌, ◌≢◌, ℕ, ◌+◌, ◌==◌, Bool, true, false, List, [], ◌∷◌, map, length, refl, ap, sym, subst, ◌∙◌}
+use Rattle.std.proofs.Common.{◌≡◌, ◌≢◌, ℕ, ◌==◌, Bool, true, false, List, [], ◌∷◌, map, length, refl, ap, sym, subst, ◌∙◌}
 use Rattle.std.specs.Prelude.{Option, None, Some, is_some, IfSome, ◌&&◌, not, option_and_then, slice_get, unwrap_or, Result, Ok, Err}
 use Rattle.std.specs.List.{list_any}
 use Rattle.std.specs.Option.{option_map_or, option_or}
@@ -15,7 +15,9 @@ use Rattle.hx_sample.specs.declared.sample.Value.TheVariants as value
 use Rattle.hx_refs.specs.Additions.{addition_fault, after_addition, demands_on, pairs_fault, with_pairs, Demands, Pair}
 use Rattle.hx_refs.specs.Changes.{after_change_of_value, after_clearing, after_commit, after_deletion, after_preparation, commit_fault, deletion_fault, fault_at, fault_unless, preparation_fault, prepared_version, value_fault, with_current_version, with_entries, with_new_version, with_version}
 use Rattle.hx_refs.specs.Naming.{resolution}
-use Rattle.hx_refs.specs.Numbers.{IsNotSearched}
+use Rattle.hx_refs.specs.declared.limits.Limits.{Limits}
+use Rattle.hx_refs.specs.Numbers.{IsAnotherVersion, IsNotSearched}
+use Rattle.hx_refs.specs.VersionNumbers.{number_ahead}
 use Rattle.hx_refs.specs.References.{entries_in, refuses_value, searched_lists, version_entries, version_of, version_place, with_reference, Reference, References, Version}
 use Rattle.hx_refs.specs.Uses.{uses_in_order, uses_of}
 use Rattle.hx_refs.specs.Rows.{changed_entries}
@@ -105,7 +107,7 @@ pub entries_alike : (r v : ℕ) (refs : References) (at : ℕ) (ver : Option ℕ
     → (at ≡ r → is_given ver v ≡ false) → entries_in (with_empty_version r v refs) at ver ≡ entries_in refs at ver
 entries_alike r v refs at ver apart other =
     read_alike (λ reference. version_entries reference ver) [] refs r v at
-    (λ here. if_some (slice_get refs.references r) (λ x off. entries_are ver v x (other here) off) apart)
+    (λ here. if_some (slice_get refs.references r) (λ x off. entries_are refs.limits ver v x (other here) off) apart)
 
 use_lines : Bool → List TableHead → List (List Entry) → ℕ → List ℕ → List (List ℕ)
 use_lines is_map heads lists at text =
@@ -126,10 +128,10 @@ uses_alike r v refs is_map at text apart =
 
 -- ---- additions
 
-pub pairs_along : (ver : Option ℕ) (pairs : List Pair) (v : ℕ) (old : Reference) → is_given ver v ≡ false → v ≢ old.curr
-    → GoesAlong v (with_pairs ver pairs) old
-pairs_along ver pairs v old other apart =
-    let goes = change_along ver (with_new_entries (unwrap_or ver old.curr) pairs) v old other apart in
+pub pairs_along : (limits : Limits) (ver : Option ℕ) (pairs : List Pair) (v : ℕ) (old : Reference) → is_given ver v ≡ false
+    → IsAnotherVersion limits v old → GoesAlong limits v (with_pairs ver pairs) old
+pairs_along limits ver pairs v old other apart =
+    let goes = change_along limits ver (with_new_entries (unwrap_or ver old.curr) pairs) v old other apart in
     record { apart = goes.apart; same = goes.same }
 
 pairs_keep_names : (ver : Option ℕ) (pairs : List Pair) → KeepsNames (with_pairs ver pairs)
@@ -142,7 +144,7 @@ pub addition_is_along : (r v : ℕ) (refs : References) (at : ℕ) (ver : Option
     → (at ≡ r → is_given ver v ≡ false) → IsAlong r v refs at (with_pairs ver pairs)
 addition_is_along r v refs at ver pairs apart other = record {
   keeps = pairs_keep_names ver pairs;
-  here = λ here. if_some (slice_get refs.references r) (λ x off. pairs_along ver pairs v x (other here) off) apart;
+  here = λ here. if_some (slice_get refs.references r) (λ x off. pairs_along refs.limits ver pairs v x (other here) off) apart;
 }
 
 version_fault : Demands → List Pair → Option Version → Option RefFault
@@ -163,7 +165,7 @@ addition_fault_alike r v refs at ver pairs apart other =
     ∙ read_alike (λ reference. version_fault (demands_on refs at reference) pairs (version_of reference ver)) None refs r v at
     (λ here.
     if_some (slice_get refs.references r)
-    (λ x off. ap (λ (found : Option Version). version_fault (demands_on refs at x) pairs found) (version_is ver v x (other here) off))
+    (λ x off. ap (λ (found : Option Version). version_fault (demands_on refs at x) pairs found) (version_is refs.limits ver v x (other here) off))
     apart)
     ∙ sym (addition_fault_is refs at ver pairs)
 
@@ -190,27 +192,28 @@ pub entries_is_along : (r v : ℕ) (refs : References) (at : ℕ) (ver : Option 
     → (at ≡ r → is_given ver v ≡ false) → IsAlong r v refs at (with_entries ver change)
 entries_is_along r v refs at ver change apart other = record {
   keeps = version_keeps_names ver (changed_entries change);
-  here = λ here. if_some (slice_get refs.references r) (λ x off. change_along ver (changed_entries change) v x (other here) off) apart;
+  here = λ here. if_some (slice_get refs.references r) (λ x off. change_along refs.limits ver (changed_entries change) v x (other here) off) apart;
 }
 
 place_is : (ver : Option ℕ) (v : ℕ) (x : Reference) → version_place (without_additions v x) ver ≡ version_place x ver
 place_is None v x = refl
 place_is (Some n) v x = refl
 
-deletion_is : (ver : Option ℕ) (test : Entry → Bool) (v : ℕ) (x : Reference) → is_given ver v ≡ false → v ≢ x.curr
+deletion_is : (limits : Limits) (ver : Option ℕ) (test : Entry → Bool) (v : ℕ) (x : Reference) → is_given ver v ≡ false
+    → IsAnotherVersion limits v x
     → deletion_fault ver test (without_additions v x) ≡ deletion_fault ver test x
-deletion_is ver test v x other off =
+deletion_is limits ver test v x other off =
     ap (λ (place : Option ℕ). option_or (fault_unless (is_some place) BadVersion) (fault_unless (list_any test (version_entries (without_additions v x) ver)) KeyNotFound))
     (place_is ver v x)
     ∙ ap (λ (entries : List Entry). option_or (fault_unless (is_some (version_place x ver)) BadVersion) (fault_unless (list_any test entries) KeyNotFound))
-    (entries_are ver v x other off)
+    (entries_are limits ver v x other off)
 
 pub deletion_fault_alike : (r v : ℕ) (refs : References) (at : ℕ) (ver : Option ℕ) (test : Entry → Bool) → IsNotSearched refs r v
     → (at ≡ r → is_given ver v ≡ false)
     → fault_at (with_empty_version r v refs) at (deletion_fault ver test) ≡ fault_at refs at (deletion_fault ver test)
 deletion_fault_alike r v refs at ver test apart other =
     read_alike (deletion_fault ver test) None refs r v at
-    (λ here. if_some (slice_get refs.references r) (λ x off. deletion_is ver test v x (other here) off) apart)
+    (λ here. if_some (slice_get refs.references r) (λ x off. deletion_is refs.limits ver test v x (other here) off) apart)
 
 pub value_fault_alike : (r v : ℕ) (refs : References) (at : ℕ) (ver : Option ℕ) (test : Entry → Bool) (text : List ℕ) → IsNotSearched refs r v
     → (at ≡ r → is_given ver v ≡ false)
@@ -221,7 +224,7 @@ value_fault_alike r v refs at ver test text apart other =
     if_some (slice_get refs.references r)
     (λ x off.
     ap (λ (fault : Option RefFault). option_or fault (fault_unless (not (refuses_value x.outputs text)) BadValue))
-    (deletion_is ver test v x (other here) off))
+    (deletion_is refs.limits ver test v x (other here) off))
     apart)
 
 deletion_along : (r v : ℕ) (refs : References) (name : List ℕ) (wanted : Side) (ver : Option ℕ) (test : Entry → Bool) → IsNotSearched refs r v
@@ -262,23 +265,29 @@ value_along r v refs name wanted ver test text apart other =
 
 -- ---- versions
 
-preparation_is_along : (r v : ℕ) (refs : References) (at : ℕ) → IsNotSearched refs r v → IsAlong r v refs at with_new_version
-preparation_is_along r v refs at apart = record {
+preparation_is_along : (r v : ℕ) (refs : References) (at : ℕ) → IsNotSearched refs r v
+    → fault_at refs at (preparation_fault refs.limits) ≡ None → IsAlong r v refs at with_new_version
+preparation_is_along r v refs at apart none = record {
   keeps = new_keeps_names;
-  here = λ here. if_some (slice_get refs.references r) (λ x off. new_along v x off) apart;
-}
-
-commit_is_along : (r v : ℕ) (refs : References) (at ver : ℕ) → (at ≡ r → ver ≢ v) → fault_at refs at (commit_fault ver) ≡ None
-    → IsAlong r v refs at (with_current_version ver)
-commit_is_along r v refs at ver other none = record {
-  keeps = commit_keeps_names ver;
-  here = λ here. go (slice_get refs.references r) (other here) (rw here at none);
+  here = λ here. go (slice_get refs.references r) apart (rw here at none);
 }
   where
-    go : (found : Option Reference) → ver ≢ v → option_map_or (commit_fault ver) found None ≡ None
-        → IfSome found (GoesAlong v (with_current_version ver))
-    go None other none = tt
-    go (Some x) other none = commit_along ver v x other none
+    go : (found : Option Reference) → IfSome found (IsAnotherVersion refs.limits v)
+        → option_map_or (preparation_fault refs.limits) found None ≡ None → IfSome found (GoesAlong refs.limits v with_new_version)
+    go None off none = tt
+    go (Some x) off none = new_along refs.limits v x off none
+
+commit_is_along : (r v : ℕ) (refs : References) (at ver : ℕ) → IsNotSearched refs r v → (at ≡ r → ver ≢ v)
+    → fault_at refs at (commit_fault ver) ≡ None → IsAlong r v refs at (with_current_version ver)
+commit_is_along r v refs at ver apart other none = record {
+  keeps = commit_keeps_names ver;
+  here = λ here. go (slice_get refs.references r) apart (other here) (rw here at none);
+}
+  where
+    go : (found : Option Reference) → IfSome found (IsAnotherVersion refs.limits v) → ver ≢ v
+        → option_map_or (commit_fault ver) found None ≡ None → IfSome found (GoesAlong refs.limits v (with_current_version ver))
+    go None off other none = tt
+    go (Some x) off other none = commit_along refs.limits ver v x other off none
 
 -- ---- commands that don't name the version
 
@@ -349,8 +358,8 @@ command_along r v refs (Prepare is_map name) apart other =
     (read_alike (preparation_fault refs.limits) None refs r v at (λ same. always (slice_get refs.references r) (λ x. refl)))
     (λ none.
     done_along r v refs (prepared_text (prepared_version refs at) ∷ []) (prepared_text (prepared_version (with_empty_version r v refs) at) ∷ []) at with_new_version apart
-    (ap (λ (n : ℕ). prepared_text n ∷ []) (read_alike (λ old. old.next + 1) 0 refs r v at (λ same. always (slice_get refs.references r) (λ x. refl))))
-    (preparation_is_along r v refs at apart))) in
+    (ap (λ (n : ℕ). prepared_text n ∷ []) (read_alike (λ old. number_ahead old.next 1) 0 refs r v at (λ same. always (slice_get refs.references r) (λ x. refl))))
+    (preparation_is_along r v refs at apart none))) in
     record { reply = along.reply; refs_are = along.refs_are; follows = along.follows }
 command_along r v refs (Commit is_map ver name) apart other =
     let along =
@@ -365,7 +374,7 @@ command_along r v refs (Commit is_map ver name) apart other =
     (read_alike (commit_fault ver) None refs r v at (λ same. always (slice_get refs.references r) (λ x. refl)))
     (λ none.
     done_along r v refs [] [] at (with_current_version ver) apart refl
-    (commit_is_along r v refs at ver
+    (commit_is_along r v refs at ver apart
     (λ same is. eqb-false v ver (other_version refs r v (Some ver) name other (here same)) (sym is)) none))) in
     record { reply = along.reply; refs_are = along.refs_are; follows = along.follows }
 

@@ -1,6 +1,6 @@
 -- Lines of the management socket, and a version that isn't searched: without those that work on it
 -- alone, the others do and answer the same.
-use Rattle.std.proofs.Common.{◌≡◌, ◌≢◌, ℕ, ◌==◌, Bool, true, false, cond, List, [], ◌∷◌, refl, ap, sym, subst, ◌∙◌}
+use Rattle.std.proofs.Common.{◌≡◌, ℕ, ◌==◌, Bool, true, false, cond, List, [], ◌∷◌, refl, ap, sym, subst, ◌∙◌}
 use Rattle.std.specs.Prelude.{Option, None, Some, IfSome, ◌&&◌, option_map, slice_get}
 use Rattle.std.specs.Cmp.{nat_cmp_total, unsigned_tied}
 use Rattle.std.specs.FinMap as finite
@@ -10,7 +10,7 @@ use Rattle.std.specs.Option.{option_map_or}
 use Rattle.std.specs.Ordering.{eq_by_cmp, nat_cmp}
 use Rattle.std.proofs.lemmas.Bool.{eqb-true, false≢true}
 use Rattle.hx_base.specs.Bytes.{is_blank, is_given}
-use Rattle.hx_refs.specs.Numbers.{number_at, IsNotSearched}
+use Rattle.hx_refs.specs.Numbers.{number_at, IsAnotherVersion, IsNotSearched}
 use Rattle.hx_refs.specs.References.{Reference, References}
 use Rattle.hx_cli.specs.declared.command.Command.{Command}
 use Rattle.hx_cli.specs.declared.command.Command.TheVariants.{ShowAll, Show, Get, Add, AddMany, Del, Set, Clear, Prepare, Commit}
@@ -22,7 +22,7 @@ use Rattle.hx_cli.specs.Replies.{ReplyParts}
 use Rattle.hx_cli.specs.Unseen.{is_commit_line, is_commit_of, is_for_version, is_line_on_version, is_on_version, line_command, line_reply_without_count, names_reference, names_version, other_payload, reply_without_count, with_empty_version, without_additions, AreAlike}
 use Rattle.hx_cli.proofs.PositionLemmas.{item_here}
 use Rattle.hx_cli.proofs.UnseenCommandLemmas.{addition_along, addition_hidden, command_along, command_hidden, IsHidden}
-use Rattle.hx_cli.proofs.UnseenReferenceLemmas.{empty_follows, Follows}
+use Rattle.hx_cli.proofs.UnseenReferenceLemmas.{another_filled, empty_follows, Follows}
 
 -- ---- references that are alike
 
@@ -30,10 +30,10 @@ unchanged_apart : (r v : ℕ) (refs : References) → IsNotSearched (with_empty_
 unchanged_apart r v refs apart =
     go (slice_get refs.references r) (rw (item_here r (without_additions v) refs.references) at apart)
   where
-    go : (found : Option Reference) → IfSome (option_map (without_additions v) found) (λ x. v ≢ x.curr)
-        → IfSome found (λ x. v ≢ x.curr)
+    go : (found : Option Reference) → IfSome (option_map (without_additions v) found) (IsAnotherVersion refs.limits v)
+        → IfSome found (IsAnotherVersion refs.limits v)
     go None apart = tt
-    go (Some x) apart = apart
+    go (Some x) apart = another_filled refs.limits v x apart
 
 pub second_follows : (r v : ℕ) (first second : References) → IsNotSearched first r v
     → with_empty_version r v second ≡ with_empty_version r v first → Follows r v first second

@@ -1,7 +1,7 @@
 -- What the management socket has to do with one version of a reference that isn't searched: which
 -- lines work on it alone, what is equal where they are left out, and how replies are compared
 -- (HAProxy management guide 2.4, section 9.3, `prepare map`).
-use Rattle.std.specs.Prelude.{◌≡◌, ℕ, ◌-◌, ◌&&◌, ◌==◌, nat_le, Bool, false, List, ◌++◌, codes, map, Option, None, Some, option_and_then, if◌then◌else◌}
+use Rattle.std.specs.Prelude.{◌≡◌, ℕ, ◌&&◌, ◌==◌, Bool, false, List, ◌++◌, codes, map, Option, None, Some, option_and_then, if◌then◌else◌}
 use Rattle.std.specs.FinMap as finite
 use Rattle.std.specs.Fmt.{decimal}
 use Rattle.std.specs.List.{before_last, position_or_len, starts_with}
@@ -9,7 +9,8 @@ use Rattle.std.specs.Option.{option_map_or}
 use Rattle.hx_base.specs.Bytes.{ascii, is_given}
 use Rattle.hx_refs.specs.Naming.{is_named, named_number}
 use Rattle.hx_refs.specs.Numbers.{number_at, IsNotSearched}
-use Rattle.hx_refs.specs.References.{changed_at, empty_version, with_reference, Reference, References}
+use Rattle.hx_refs.specs.References.{changed_at, empty_version, is_open, with_reference, Reference, References}
+use Rattle.hx_refs.specs.VersionNumbers.{ahead}
 use Rattle.hx_cli.specs.CommandLine.{words_of}
 use Rattle.hx_cli.specs.Commands.{command_of}
 use Rattle.hx_cli.specs.Payloads.{line_effect, OpenPayloads, PayloadParts}
@@ -71,7 +72,7 @@ is_commit_line r v session text payloads refs =
 abbrev pub without_additions : ℕ → Reference → Reference
 without_additions v old = record old {
   versions =
-      if nat_le old.curr v then changed_at (v - old.curr) (λ _. empty_version) old.versions
+      if is_open old v then changed_at (ahead old.curr v) (λ _. empty_version) old.versions
       else old.versions;
 }
 

@@ -2,6 +2,7 @@ ghost use Rattle.std.specs.Prelude.{◌≡◌, ◌<◌, [], ◌∷◌, IfOk, OnO
 ghost use Rattle.hx_sample.specs.Changes.{ChangeCountsLarge};
 ghost use Rattle.hx_refs.specs.Changes.{after_commit, after_preparation, answer, commit_fault, fault_at, preparation_fault, prepared_version};
 ghost use Rattle.hx_cli.specs.Effects.{addition_effect, command_effect, done, unless, AdditionCommandAsksFor};
+ghost use Rattle.hx_refs.specs.VersionNumbers.{number_ahead};
 ghost use Rattle.hx_cli.specs.Replies.{prepared_text};
 ghost use Rattle.hx_cli.specs.declared.command.Command.TheVariants.{Clear, Commit, Del, Prepare, Set};
 
@@ -126,6 +127,14 @@ pub(crate) fn clear(
     }
 }
 
+/// The number of the version after that of a number. Numbers wrap.
+#[tactic(auto, unfolding(hx_refs::specs::VersionNumbers::number_ahead))]
+fn number_after(number: u32) -> u32
+    ensures { result ≡ number_ahead number 1 }
+{
+    if number < u32::MAX { number + 1 } else { 0 }
+}
+
 /// One version more of the reference at a position. Its line is made first, so that nothing is
 /// changed where memory runs out.
 fn prepare_at(alloc: Global, refs: &mut Refs, r: u32) -> Result<Reply, NoMemory>
@@ -142,9 +151,9 @@ fn prepare_at(alloc: Global, refs: &mut Refs, r: u32) -> Result<Reply, NoMemory>
         (after_preparation refs.old.content r))).refs) }
     ensures kept { OnErr result (refs.new ≡ refs.old) }
 {
-    let version = u64::from(refs.info(r).next) + 1;
+    let version = number_after(refs.info(r).next);
     let mut reply = Reply::new(alloc, 0);
-    reply.push(prepared_line(alloc, version)?)?;
+    reply.push(prepared_line(alloc, u64::from(version))?)?;
     match refs.prepare(r) {
         Ok(_) => Ok(reply),
         Err(fault) => Ok(refusal_reply(alloc, fault)),

@@ -1,10 +1,9 @@
-ghost use Rattle.std.specs.Prelude.{◌≡◌, ◌<◌, ◌&&◌, nat_le, true, false, length, None, Some, IfErr, OnOk, OnErr};
-ghost use Rattle.std.specs.Option.{option_map_or};
+ghost use Rattle.std.specs.Prelude.{◌≡◌, ◌<◌, false, length, None, Some, IfErr, OnOk, OnErr};
 ghost use Rattle.hx_refs.specs.Changes.{after_change_of_value, after_deletion, answer, deletion_fault, fault_at, value_fault, MayFail};
 ghost use Rattle.hx_cli.specs.Effects.{is_meant, number_after_sign};
 
 use hex::FromHex;
-use hx_refs::{RefFault, RefInfo, Refs};
+use hx_refs::{RefFault, Refs};
 
 /// The number of an entry that a word writes after `#`.
 #[tactic(auto, unfolding(crate::specs::Effects::number_after_sign))]
@@ -18,23 +17,13 @@ fn number_after_sign(text: &[u8]) -> Option<u64>
     }
 }
 
-/// Whether a reference has a version, of which this is told.
-fn has_version(info: RefInfo, ver: Option<u32>) -> bool
-    ensures { result ≡ option_map_or (λ n. nat_le info.curr n && nat_le n info.next) ver true }
-{
-    match ver {
-        Some(number) => info.curr <= number && number <= info.next,
-        None => true,
-    }
-}
-
-/// Why nothing is done with the entry of a number that is none: the reference has no such version,
-/// or the version has no such entry.
+/// Why a word is refused that writes no number after `#`: the reference has no such version, or
+/// else the version has no such entry.
 fn no_number_fault(refs: &Refs, r: u32, ver: Option<u32>) -> RefFault
     requires { r < length refs.now.content.references }
     ensures { fault_at refs.now.content r (deletion_fault ver (λ _. false)) ≡ Some result }
 {
-    if has_version(refs.info(r), ver) {
+    if refs.has_version(r, ver) {
         RefFault::KeyNotFound
     } else {
         RefFault::BadVersion

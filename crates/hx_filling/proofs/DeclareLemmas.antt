@@ -183,10 +183,10 @@ one_count (x ∷ xs) y = let more = one_count xs y in omega (arith, more)
 
 table_shown : {B : Type 0} (g : Reference → B) → IsFreeOfOutputs g → (n : ℕ) (spec : TableSpec) (refs : References)
     → map g (with_table n spec refs).references
-    ≡ map g refs.references ++ g (new_reference n spec.file spec.two_column spec.acl) ∷ []
+    ≡ map g refs.references ++ g (new_reference refs.first n spec.file spec.two_column spec.acl) ∷ []
 table_shown g free n spec refs =
     outputs_keep g free (length refs.references) spec (with_new refs n spec.file spec.two_column spec.acl)
-    ∙ map_more g refs.references (new_reference n spec.file spec.two_column spec.acl)
+    ∙ map_more g refs.references (new_reference refs.first n spec.file spec.two_column spec.acl)
 
 table_count : (n : ℕ) (spec : TableSpec) (refs : References)
     → length (with_table n spec refs).references ≡ length refs.references + 1

@@ -14,7 +14,7 @@ use Rattle.hx_refs.specs.Kept.{kept_demands, shown_references, version_fault, Ar
 use Rattle.hx_versions.specs.NewEntries.{added_entry, prepared_patterns, AreReadyFor, IsReadyFor}
 use Rattle.hx_versions.specs.declared.content.NewEntry.{NewEntry}
 use Rattle.hx_refs.specs.References.{version_of, Reference}
-use Rattle.hx_refs.specs.Uses.{uses_of, Use}
+use Rattle.hx_refs.specs.Uses.{uses_of}
 use Rattle.hx_refs.specs.declared.fault.RefFault.{RefFault}
 use Rattle.hx_refs.specs.declared.fault.RefFault.TheVariants.{UnknownRef, BadVersion, KeyNotFound, BadPattern, BadValue, NeedsMap, UsedAsMap, VersionFull, VersionWorn, NoMoreVersions, TooLarge, NoMemory}
 use Rattle.hx_refs.specs.declared.limits.Limits.{Limits}
@@ -46,20 +46,20 @@ asked_wider (Err NoMemory) A B before now wider counts = counts
 -- ---- the reference at a position
 
 -- an addition is refused as the reference at the position refuses it
-pub fault_at : (limits : Limits) (heads : List TableHead) (kept : List Kept) (r : ℕ) (k : Kept) (number : Option ℕ) (pairs : List Pair)
+pub fault_at : (limits : Limits) (first : ℕ) (heads : List TableHead) (kept : List Kept) (r : ℕ) (k : Kept) (number : Option ℕ) (pairs : List Pair)
     → AreKept heads kept → slice_get kept r ≡ Some k
-    → addition_fault (record { limits = limits; heads = heads; references = shown_references kept }) r number pairs
+    → addition_fault (record { limits = limits; first = first; heads = heads; references = shown_references kept }) r number pairs
     ≡ version_fault (kept_demands k limits) (version_of k.shown number) pairs
-fault_at limits heads kept r k number pairs all found =
+fault_at limits first heads kept r k number pairs all found =
     let same : uses_of heads r ≡ k.uses = rw found at (all.uses r) in
     rw (slice_get-map {A = Kept} {B = Reference} (λ l. l.shown) kept r, found, same) refl
 
 -- what the reference at the position asks for is asked for
-pub asked_at : (limits : Limits) (heads : List TableHead) (kept : List Kept) (r : ℕ) (k : Kept) (number : Option ℕ) (pairs : List Pair)
+pub asked_at : (limits : Limits) (first : ℕ) (heads : List TableHead) (kept : List Kept) (r : ℕ) (k : Kept) (number : Option ℕ) (pairs : List Pair)
     → AreKept heads kept → slice_get kept r ≡ Some k → (text : ExpressionText)
     → VersionAsksFor (kept_demands k limits) (version_of k.shown number) pairs text
-    → AdditionAsksFor (record { limits = limits; heads = heads; references = shown_references kept }) r number pairs text
-asked_at limits heads kept r k number pairs all found text asked =
+    → AdditionAsksFor (record { limits = limits; first = first; heads = heads; references = shown_references kept }) r number pairs text
+asked_at limits first heads kept r k number pairs all found text asked =
     let same : uses_of heads r ≡ k.uses = rw found at (all.uses r) in
     rw (slice_get-map {A = Kept} {B = Reference} (λ l. l.shown) kept r, found, same) asked
 

@@ -1,5 +1,5 @@
 -- What the code keeps of references stays as it is kept, and is shown as it is changed.
-use Rattle.std.proofs.Common.{◌≡◌, ◌≢◌, ℕ, zero, suc, ◌-◌, ◌<◌, ◌==◌, Bool, true, false, List, [], ◌∷◌, ◌++◌, length, All, refl, ap, sym, ◌∙◌, arith, inl, inr, length-append, length-set}
+use Rattle.std.proofs.Common.{◌≡◌, ◌≢◌, ℕ, zero, suc, ◌<◌, ◌==◌, Bool, true, false, List, [], ◌∷◌, ◌++◌, length, All, refl, ap, sym, ◌∙◌, arith, inl, inr, length-append, length-set}
 use Rattle.std.specs.Prelude.{Option, None, Some, Result, Ok, Err, OnOk, OnErr, IfSome, is_some, option_map, slice_get, slice_index_or, slice_set, if◌then◌else◌}
 use Rattle.std.specs.Option.{option_map_or}
 use Rattle.std.proofs.lemmas.Bool.{cases_Bool, cases_eq, eqb-true, eqb-false, cases_lt}
@@ -34,8 +34,8 @@ more_methods (v ∷ uses) u found bool methods =
 -- ---- the reference at a position
 
 -- there is one
-pub found_within : (kept : List Kept) (r : ℕ) → r < length kept → (k : Kept) × (slice_get kept r ≡ Some k)
-found_within [] r within = absurd (omega arith)
+pub found_within : {A : Type 0} → (kept : List A) (r : ℕ) → r < length kept → (k : A) × (slice_get kept r ≡ Some k)
+found_within [] r within = absurd (omega (arith, within))
 found_within (k ∷ kept) zero within = (k, refl)
 found_within (k ∷ kept) (suc r) within = found_within kept r (omega (arith, within))
 
@@ -53,9 +53,9 @@ changed_shown kept r change = go (slice_get kept r) refl
         rw (map-set {A = Kept} {B = Reference} (λ l. l.shown) kept r (record k { shown = change k.shown }), slice_get-map {A = Kept} {B = Reference} (λ l. l.shown) kept r, is) refl
 
 -- the fault of the reference at a position is its own
-pub fault_shown : (limits : Limits) (heads : List TableHead) (kept : List Kept) (r : ℕ) (own : Reference → Option RefFault)
-    → fault_at (record { limits = limits; heads = heads; references = shown_references kept }) r own ≡ kept_fault kept r own
-fault_shown limits heads kept r own =
+pub fault_shown : (limits : Limits) (first : ℕ) (heads : List TableHead) (kept : List Kept) (r : ℕ) (own : Reference → Option RefFault)
+    → fault_at (record { limits = limits; first = first; heads = heads; references = shown_references kept }) r own ≡ kept_fault kept r own
+fault_shown limits first heads kept r own =
     rw (slice_get-map {A = Kept} {B = Reference} (λ k. k.shown) kept r) (go (slice_get kept r))
   where
     go : (found : Option Kept)
@@ -80,20 +80,20 @@ reference_within heads kept i h all within read =
     impossible : false ≡ true → ⊥
     impossible e = cc
 
-pub found_here : (limits : Limits) (heads : List TableHead) (kept : List Kept) (i : ℕ) (h : TableHead) (k : Kept) (v : Value)
+pub found_here : (limits : Limits) (first : ℕ) (heads : List TableHead) (kept : List Kept) (i : ℕ) (h : TableHead) (k : Kept) (v : Value)
     → i < length heads → h ≡ slice_index_or heads i h → slice_get kept h.list ≡ Some k
     → found_entry h.by h.ci (version_entries k.shown None) v
-    ≡ found_at heads (searched_lists (record { limits = limits; heads = heads; references = shown_references kept })) i v
-found_here limits heads kept i h k v within read is =
+    ≡ found_at heads (searched_lists (record { limits = limits; first = first; heads = heads; references = shown_references kept })) i v
+found_here limits first heads kept i h k v within read is =
     let head : slice_get heads i ≡ Some h = slice_get_read heads (length heads) i h refl within read in
     rw (head, slice_get-map {A = Reference} {B = List Entry} (λ reference. version_entries reference None) (shown_references kept) h.list, slice_get-map {A = Kept} {B = Reference} (λ l. l.shown) kept h.list, is) refl
 
 -- what a search by a head costs
-pub cost_here : (limits : Limits) (heads : List TableHead) (kept : List Kept) (i : ℕ) (h : TableHead) (k : Kept) (v : Value)
+pub cost_here : (limits : Limits) (first : ℕ) (heads : List TableHead) (kept : List Kept) (i : ℕ) (h : TableHead) (k : Kept) (v : Value)
     → i < length heads → h ≡ slice_index_or heads i h → slice_get kept h.list ≡ Some k
     → search_steps h.by h.ci (version_entries k.shown None) v
-    ≡ find_steps (record { limits = limits; heads = heads; references = shown_references kept }) i v
-cost_here limits heads kept i h k v within read is =
+    ≡ find_steps (record { limits = limits; first = first; heads = heads; references = shown_references kept }) i v
+cost_here limits first heads kept i h k v within read is =
     let head : slice_get heads i ≡ Some h = slice_get_read heads (length heads) i h refl within read in
     rw (head, slice_get-map {A = Kept} {B = Reference} (λ l. l.shown) kept h.list, is) refl
 
@@ -110,9 +110,9 @@ no_use heads kept r k method ci all found none =
     go (Some v) e = absurd (cc)
 
 -- the content of which these are parts
-abbrev pub content_of : Limits → List TableHead → List Kept → References
-content_of limits heads kept =
-    record { limits = limits; heads = heads; references = shown_references kept }
+abbrev pub content_of : Limits → ℕ → List TableHead → List Kept → References
+content_of limits first heads kept =
+    record { limits = limits; first = first; heads = heads; references = shown_references kept }
 
 -- a use that it keeps is one
 pub known_head : (heads : List TableHead) (kept : List Kept) (r : ℕ) (k : Kept) (method : By) (ci : Bool) (head : ℕ)
@@ -126,10 +126,10 @@ known_head heads kept r k method ci head all found is =
     go None e = absurd (cc)
     go (Some v) e = same_Some head v.head e
 
-pub known_heads : (limits : Limits) (heads : List TableHead) (kept : List Kept) (r : ℕ) (k : Kept) (method : By) (ci : Bool) (head : ℕ)
+pub known_heads : (limits : Limits) (first : ℕ) (heads : List TableHead) (kept : List Kept) (r : ℕ) (k : Kept) (method : By) (ci : Bool) (head : ℕ)
     → AreKept heads kept → slice_get kept r ≡ Some k → Some head ≡ option_map (λ u. u.head) (use_with method ci k.uses)
-    → content_of limits heads kept ≡ after_use (content_of limits heads kept) r method ci
-known_heads limits heads kept r k method ci head all found is =
+    → content_of limits first heads kept ≡ after_use (content_of limits first heads kept) r method ci
+known_heads limits first heads kept r k method ci head all found is =
     let same : uses_of heads r ≡ k.uses = rw found at (all.uses r) in
     rw same (go (use_with method ci k.uses) is)
   where
@@ -138,8 +138,8 @@ known_heads limits heads kept r k method ci head all found is =
     some (Some v) e = refl
 
     go : (u : Option Use) → Some head ≡ option_map (λ v. v.head) u
-        → content_of limits heads kept
-        ≡ record (content_of limits heads kept) { heads = if is_some u then heads else heads ++ record { by = method; ci = ci; list = r } ∷ [] }
+        → content_of limits first heads kept
+        ≡ record (content_of limits first heads kept) { heads = if is_some u then heads else heads ++ record { by = method; ci = ci; list = r } ∷ [] }
     go u e = rw (some u e) refl
 
 -- nothing was added to it
@@ -238,10 +238,10 @@ kept_after_answer (Ok x) heads old new r change keeps done stays all =
 kept_after_answer (Err e) heads old new r change keeps done stays all = rw stays all
 
 -- what is seen of the references after a change of one
-pub content_after : (limits : Limits) (heads : List TableHead) (old new : List Kept) (r : ℕ) (change : Reference → Reference)
+pub content_after : (limits : Limits) (first : ℕ) (heads : List TableHead) (old new : List Kept) (r : ℕ) (change : Reference → Reference)
     → new ≡ with_kept r change old
-    → record { limits = limits; heads = heads; references = shown_references new }
-    ≡ with_reference r change (record { limits = limits; heads = heads; references = shown_references old })
-content_after limits heads old new r change is =
-    ap (λ (references : List Reference). record { limits = limits; heads = heads; references = references })
+    → record { limits = limits; first = first; heads = heads; references = shown_references new }
+    ≡ with_reference r change (record { limits = limits; first = first; heads = heads; references = shown_references old })
+content_after limits first heads old new r change is =
+    ap (λ (references : List Reference). record { limits = limits; first = first; heads = heads; references = references })
     (ap shown_references is ∙ changed_shown old r change)

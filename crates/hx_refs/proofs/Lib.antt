@@ -1,6 +1,9 @@
 pub mod ListLemmas
 pub mod UseLemmas
+pub mod VersionNumberLemmas
+pub mod OpenLemmas
 pub mod VersionLemmas
+pub mod LoweredLemmas
 pub mod NumberLemmas
 pub mod ReferenceLemmas
 pub mod KeptLemmas

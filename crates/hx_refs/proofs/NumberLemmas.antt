@@ -1,14 +1,17 @@
 -- The numbers of entries rise, and go on rising after changes.
-use Rattle.std.proofs.Common.{◌≡◌, ℕ, ◌+◌, ◌*◌, ◌^◌, ◌≤◌, Bool, List, [], ◌∷◌, ◌++◌, length, map, refl, arith, inl, inr}
+use Rattle.std.proofs.Common.{◌≡◌, ℕ, ◌+◌, ◌-◌, ◌*◌, ◌^◌, ◌<◌, ◌≤◌, Bool, List, [], ◌∷◌, ◌++◌, length, map, refl, sym, ap, subst, ◌∙◌, arith, inl, inr}
 use Rattle.std.proofs.lemmas.Bool.{cases_Bool, cases_eq, cases_lt}
 use Rattle.hx_sample.specs.Changes.{with_value, without_chosen}
 use Rattle.hx_sample.specs.Find.{Entry}
 use Rattle.hx_refs.specs.Additions.{new_entries, Pair}
 use Rattle.hx_refs.specs.Numbers.{HasRisingNumbers, RiseBetween}
 use Rattle.hx_refs.specs.References.{Version}
-use Rattle.hx_versions.specs.Rows.{changed_entries, version_numbered, AreBelow, AreNumbered, ChangesVersion, ShownVersion}
+use Rattle.hx_versions.specs.Rows.{changed_entries, lowered, version_numbered, AreBelow, AreNumbered, ChangesVersion, ShownVersion}
+use Rattle.hx_refs.specs.VersionNumbers.{number_ahead}
 use Rattle.hx_refs.specs.Versions.{with_new_entries, AreRising}
-use Rattle.hx_refs.proofs.VersionLemmas.{dropped_others, none_below}
+use Rattle.hx_refs.proofs.LoweredLemmas.{lowered_version}
+use Rattle.hx_refs.proofs.VersionLemmas.{dropped_others, none_above}
+use Rattle.hx_refs.proofs.VersionNumberLemmas.{number_on}
 
 -- ---- lists of entries
 
@@ -76,17 +79,41 @@ rising_with number test value version rise =
 
 -- ---- the versions in a row
 
-pub rising_after : (first last number : ℕ) (change : Version → Version) (old new : List ShownVersion)
-    → ChangesVersion first last number change old new → AreRising old
-    → HasRisingNumbers number (change (version_numbered number old)) → AreRising new
-rising_after first last number change old new changes rising here other = elim (cases_eq other number) [
-  | inl same ↦ rw (same, changes.changed) here
-  | inr apart ↦ rw (changes.others other apart) (rising other)
+pub rising_after : (low high first curr last place : ℕ) (change : Version → Version) (old new : List ShownVersion)
+    → ChangesVersion low high (first + place) change old new → AreRising first curr last old
+    → HasRisingNumbers (number_ahead curr place) (change (version_numbered (first + place) old)) → AreRising first curr last new
+rising_after low high first curr last place change old new changes rising here distance within =
+    elim (cases_eq distance place) [
+      | inl same ↦ rw (same, changes.changed) here
+      | inr apart ↦
+          rw (changes.others (first + distance) (λ e. apart (omega (arith, e)))) (rising distance within)
+    ]
+
+-- one version more
+pub rising_prepared : (first curr last : ℕ) (row : List ShownVersion) → AreNumbered first (first + last) row
+    → AreRising first curr last row → AreRising first curr (last + 1) row
+rising_prepared first curr last row all rising distance within = elim (cases_lt last distance) [
+  | inl past ↦ rw (none_above (first + distance) first (first + last) row all (omega (arith, past))) tt
+  | inr old ↦ rising distance old
 ]
 
-pub rising_dropped : (number last : ℕ) (dropped row : List ShownVersion) → AreBelow number dropped
-    → AreNumbered number last row → AreRising (dropped ++ row) → AreRising row
-rising_dropped number last dropped row below all rising other = elim (cases_lt other number) [
-  | inl under ↦ rw (none_below other number last row all under) tt
-  | inr above ↦ rw (dropped_others number other dropped row below above) (rising other)
-]
+-- numbers in the row are lowered
+pub rising_lowered : (by first curr last : ℕ) (row : List ShownVersion) → by ≤ first → AreNumbered first (first + last) row
+    → AreRising first curr last row → AreRising (first - by) curr last (map (lowered by) row)
+rising_lowered by first curr last row le all rising distance within =
+    let same : first - by + distance ≡ first + distance - by = omega (arith, le) in
+    rw (same, lowered_version by first (first + last) (first + distance) row le all (omega (arith, le)))
+    (rising distance within)
+
+-- those that come before are dropped
+pub rising_dropped : (first curr last new rest place : ℕ) (dropped row : List ShownVersion) → AreBelow (first + place) dropped
+    → curr < 2 ^ 32 → last < 2 ^ 32 → new ≡ number_ahead curr place → place + rest ≡ last
+    → AreRising first curr last (dropped ++ row) → AreRising (first + place) new rest row
+rising_dropped first curr last new rest place dropped row below fits small is parts rising distance within =
+    let other : first + (place + distance) ≡ first + place + distance = omega arith in
+    let number : number_ahead curr (place + distance) ≡ number_ahead new distance =
+    sym (ap (λ n. number_ahead n distance) is ∙ number_on curr place distance fits (omega (arith, within, parts, small))) in
+    rw (dropped_others (first + place) (first + place + distance) dropped row below (omega arith))
+    (subst (λ n. HasRisingNumbers n (version_numbered (first + place + distance) (dropped ++ row))) number
+    (subst (λ m. HasRisingNumbers (number_ahead curr (place + distance)) (version_numbered m (dropped ++ row))) other
+    (rising (place + distance) (omega (arith, within, parts)))))

@@ -1,23 +1,31 @@
 -- What is searched after changes of versions that aren't, and after a commit.
-use Rattle.std.proofs.Common.{◌≡◌, ◌≢◌, ℕ, zero, suc, ◌-◌, ◌<◌, ◌≤◌, Bool, true, false, List, [], ◌∷◌, ◌++◌, length, map, drop, refl, ap, sym, ◌∙◌, arith, inl, inr}
-use Rattle.std.specs.Prelude.{Option, None, Some, IfSome, slice_get, slice_set, ◌&&◌, nat_le, nat_lt}
+use Rattle.std.proofs.Common.{◌≡◌, ◌≢◌, ℕ, zero, suc, ◌+◌, ◌<◌, Bool, List, [], ◌∷◌, ◌++◌, length, map, drop, refl, ap, sym, ◌∙◌, arith, inl, inr}
+use Rattle.std.specs.Prelude.{Option, None, Some, IfSome, slice_get, slice_set}
 use Rattle.std.specs.Option.{option_map_or}
-use Rattle.std.proofs.lemmas.Bool.{and_parts, cases_Bool, le-leb, leb-true, ltb-true}
+use Rattle.std.proofs.lemmas.Bool.{cases_Bool}
 use Rattle.std.proofs.lemmas.Option.{slice_get_cases}
 use Rattle.hx_sample.specs.Changes.{with_value, without_chosen}
 use Rattle.hx_sample.specs.Find.{Entry}
 use Rattle.hx_refs.specs.Additions.{after_addition, Pair}
-use Rattle.hx_refs.specs.Changes.{after_change_of_value, after_clearing, after_commit, after_deletion, after_preparation, commit_fault, fault_at, fault_unless, with_current_version, with_new_version, with_version}
-use Rattle.hx_refs.specs.Numbers.{IsNotSearched}
-use Rattle.hx_refs.specs.References.{changed_at, empty_version, entries_in, searched_lists, version_entries, with_reference, Reference, References, Version}
+use Rattle.hx_refs.specs.Changes.{after_change_of_value, after_clearing, after_commit, after_deletion, after_preparation, commit_fault, fault_at, with_current_version, with_new_version, with_version}
+use Rattle.hx_refs.specs.Numbers.{IsAnotherVersion, IsNotBehind, IsNotSearched}
+use Rattle.hx_refs.specs.declared.limits.Limits.{Limits}
+use Rattle.hx_refs.specs.References.{changed_at, empty_version, entries_in, is_open, searched_lists, version_entries, with_reference, Reference, References, Version}
+use Rattle.hx_refs.specs.VersionNumbers.{ahead}
 use Rattle.hx_versions.specs.Rows.{changed_entries}
 use Rattle.hx_refs.specs.Versions.{with_new_entries}
-use Rattle.hx_refs.specs.declared.fault.RefFault.{RefFault}
-use Rattle.hx_refs.specs.declared.fault.RefFault.TheVariants.{BadVersion}
 use Rattle.hx_refs.proofs.ListLemmas.{get_set_other, get_set_same}
+use Rattle.hx_refs.proofs.OpenLemmas.{committed_open, none_committed, open_committed, opened}
 use Rattle.hx_refs.proofs.TableLemmas.{list_at, lists_with, set_same}
+use Rattle.hx_refs.proofs.VersionNumberLemmas.{ahead_apart}
 
 -- ---- a reference
+
+get_dropped : {A : Type 0} → (n k : ℕ) (xs : List A) → slice_get (drop n xs) k ≡ slice_get xs (n + k)
+get_dropped zero k xs = let same : 0 + k ≡ k = omega arith in rw same refl
+get_dropped (suc n) k [] = refl
+get_dropped (suc n) k (x ∷ xs) =
+    let same : suc n + k ≡ suc (n + k) = omega arith in rw same (get_dropped n k xs)
 
 first_left : {A : Type 0} → (n : ℕ) (xs : List A) → slice_get (drop n xs) 0 ≡ slice_get xs n
 first_left zero xs = refl
@@ -33,13 +41,14 @@ get_changed_other {A} xs r q change other = go (slice_get xs r)
     go (Some x) = get_set_other xs r q (change x) other
 
 -- a change of a version that isn't searched
-searched_apart : (number : ℕ) (change : Version → Version) (old : Reference) → number ≢ old.curr
+searched_apart : (limits : Limits) (number : ℕ) (change : Version → Version) (old : Reference) → IsAnotherVersion limits number old
     → version_entries (with_version (Some number) change old) None ≡ version_entries old None
-searched_apart number change old apart = elim (cases_Bool (nat_le old.curr number && nat_le number old.next)) [
-  | inl has ↦
-      let low : old.curr ≤ number = leb-true old.curr number (and_parts (nat_le old.curr number) (nat_le number old.next) has).0 in
-      rw (has, get_changed_other old.versions (number - old.curr) 0 change (λ e. omega (arith, e, low, apart))) refl
-  | inr none ↦ rw none refl
+searched_apart limits number change old apart = elim (cases_Bool (is_open old number)) [
+  | inl found ↦
+      let has = opened old number found in
+      rw (found, get_changed_other old.versions (ahead old.curr number) 0 change (λ none. apart.other (ahead_apart old.curr number apart.order.short.0 has.0 none)))
+      refl
+  | inr closed ↦ rw closed refl
 ]
 
 -- one version more
@@ -52,19 +61,23 @@ searched_prepared old = go old.versions
     go [] = refl
     go (version ∷ versions) = refl
 
-no_fault : (fine : Bool) (fault : RefFault) → fault_unless fine fault ≡ None → fine ≡ true
-no_fault true fault none = refl
-no_fault false fault none = absurd (cc)
-
 -- a commit that isn't refused
 searched_committed : (number : ℕ) (old : Reference) → commit_fault number old ≡ None
     → version_entries (with_current_version number old) None ≡ version_entries old (Some number)
 searched_committed number old none =
-    let fine =
-    and_parts (nat_lt old.curr number) (nat_le number old.next) (no_fault (nat_lt old.curr number && nat_le number old.next) BadVersion none) in
-    let low : old.curr < number = ltb-true old.curr number fine.0 in
-    let has : nat_le old.curr number ≡ true = le-leb old.curr number (omega (arith, low)) in
-    rw (has, fine.1, first_left (number - old.curr) old.versions) refl
+    rw (committed_open number old none, first_left (ahead old.curr number) old.versions) refl
+
+-- it keeps what is ahead of it
+later_stays : (number later : ℕ) (old : Reference) → commit_fault number old ≡ None → IsNotBehind number later old
+    → version_entries (with_current_version number old) (Some later) ≡ version_entries old (Some later)
+later_stays number later old none ahead_of =
+    let has = opened old number (committed_open number old none) in
+    elim (cases_Bool (is_open old later)) [
+      | inl found ↦
+          let stays = open_committed old number ahead_of.0 has later found ahead_of.1 in
+          rw (stays.0, found, get_dropped (ahead old.curr number) (ahead number later) old.versions, stays.1) refl
+      | inr closed ↦ rw (none_committed old number ahead_of.0 has later closed, closed) refl
+    ]
 
 -- ---- the references
 
@@ -92,25 +105,25 @@ pub lists_after_addition : (refs : References) (r number : ℕ) (pairs : List Pa
     → searched_lists (after_addition refs r (Some number) pairs) ≡ searched_lists refs
 lists_after_addition refs r number pairs apart =
     lists_stay refs r (with_version (Some number) (with_new_entries number pairs))
-    (if_some (slice_get refs.references r) (searched_apart number (with_new_entries number pairs)) apart)
+    (if_some (slice_get refs.references r) (searched_apart refs.limits number (with_new_entries number pairs)) apart)
 
 pub lists_after_clearing : (refs : References) (r number : ℕ) → IsNotSearched refs r number
     → searched_lists (after_clearing refs r (Some number)) ≡ searched_lists refs
 lists_after_clearing refs r number apart =
     lists_stay refs r (with_version (Some number) (changed_entries (λ _. [])))
-    (if_some (slice_get refs.references r) (searched_apart number (changed_entries (λ _. []))) apart)
+    (if_some (slice_get refs.references r) (searched_apart refs.limits number (changed_entries (λ _. []))) apart)
 
 pub lists_after_deletion : (refs : References) (r number : ℕ) (test : Entry → Bool) → IsNotSearched refs r number
     → searched_lists (after_deletion refs r (Some number) test) ≡ searched_lists refs
 lists_after_deletion refs r number test apart =
     lists_stay refs r (with_version (Some number) (changed_entries (without_chosen test)))
-    (if_some (slice_get refs.references r) (searched_apart number (changed_entries (without_chosen test))) apart)
+    (if_some (slice_get refs.references r) (searched_apart refs.limits number (changed_entries (without_chosen test))) apart)
 
 pub lists_after_change_of_value : (refs : References) (r number : ℕ) (test : Entry → Bool) (value : List ℕ) → IsNotSearched refs r number
     → searched_lists (after_change_of_value refs r (Some number) test value) ≡ searched_lists refs
 lists_after_change_of_value refs r number test value apart =
     lists_stay refs r (with_version (Some number) (changed_entries (map (with_value test value))))
-    (if_some (slice_get refs.references r) (searched_apart number (changed_entries (map (with_value test value)))) apart)
+    (if_some (slice_get refs.references r) (searched_apart refs.limits number (changed_entries (map (with_value test value)))) apart)
 
 pub lists_after_preparation : (refs : References) (r : ℕ) → searched_lists (after_preparation refs r) ≡ searched_lists refs
 lists_after_preparation refs r =
@@ -134,4 +147,16 @@ lists_after_commit refs r number other apart = elim (slice_get_cases refs.refere
       rw (lists_with refs r w.0 (with_current_version number) w.2)
       (get_set_other (searched_lists refs) r other (version_entries (with_current_version number w.0) None) (λ e. apart (sym e)))
   | inr past ↦ rw past.1 refl
+]
+
+pub later_after_commit : (refs : References) (r number later : ℕ) → fault_at refs r (commit_fault number) ≡ None
+    → IfSome (slice_get refs.references r) (IsNotBehind number later)
+    → entries_in (after_commit refs r number) r (Some later) ≡ entries_in refs r (Some later)
+later_after_commit refs r number later none ahead_of = elim (slice_get_cases refs.references r).1 [
+  | inl w ↦
+      let fine : commit_fault number w.0 ≡ None = rw w.2 at none in
+      let far : IsNotBehind number later w.0 = rw w.2 at ahead_of in
+      rw (w.2, get_set_same refs.references r w.0 (with_current_version number w.0) w.2)
+      (later_stays number later w.0 fine far)
+  | inr past ↦ rw (past.1, past.1) refl
 ]

@@ -1,7 +1,7 @@
 -- What removals, changes of values and the calls on versions make of the references, and why they
 -- are refused (HAProxy management guide 2.4, section 9.3, `del map`, `set map`, `clear map`,
 -- `prepare map`, `commit map`, and the same of `acl`).
-use Rattle.std.specs.Prelude.{◌≡◌, ℕ, ◌+◌, ◌-◌, ◌&&◌, nat_le, nat_lt, Bool, not, is_some, List, [], ◌∷◌, ◌++◌, map, drop, slice_get, Option, None, Some, Result, Ok, Err, if◌then◌else◌, ⊤}
+use Rattle.std.specs.Prelude.{◌≡◌, ℕ, ◌&&◌, nat_lt, Bool, not, is_some, List, [], ◌∷◌, ◌++◌, map, drop, slice_get, Option, None, Some, Result, Ok, Err, if◌then◌else◌, ⊤}
 use Rattle.std.specs.List.{list_any}
 use Rattle.std.specs.Option.{option_map_or, option_or}
 use Rattle.hx_sample.specs.Find.{Entry}
@@ -9,13 +9,14 @@ use Rattle.hx_sample.specs.Changes.{with_value, without_chosen}
 use Rattle.hx_refs.specs.declared.fault.RefFault.{RefFault}
 use Rattle.hx_refs.specs.declared.fault.RefFault.TheVariants.{BadVersion, KeyNotFound, BadValue, NoMoreVersions, NoMemory}
 use Rattle.hx_refs.specs.declared.limits.Limits.{Limits}
-use Rattle.hx_refs.specs.References.{changed_at, empty_version, refuses_value, version_entries, version_place, with_reference, Reference, References, Version}
+use Rattle.hx_refs.specs.References.{changed_at, empty_version, is_open, refuses_value, span, version_entries, version_place, with_reference, Reference, References, Version}
+use Rattle.hx_refs.specs.VersionNumbers.{ahead, number_ahead}
 pub use Rattle.hx_versions.specs.Versions.{has_number}
 
 -- ---- a reference
 
 -- The reference, with a change of one of its versions: that of a number, or without one that which
--- is searched. A number outside those of its versions changes nothing.
+-- is searched. A number of which it has no version changes nothing.
 abbrev pub with_version : Option ℕ → (Version → Version) → Reference → Reference
 with_version number change old =
     option_map_or (λ place. record old { versions = changed_at place change old.versions })
@@ -29,13 +30,16 @@ with_entries number change reference =
 -- the reference, with one version more, to which nothing was added
 abbrev pub with_new_version : Reference → Reference
 with_new_version old =
-    record old { next = old.next + 1; versions = old.versions ++ empty_version ∷ [] }
+    record old {
+      next = number_ahead old.next 1;
+      versions = old.versions ++ empty_version ∷ [];
+    }
 
--- the reference, with the version of a number as the one that is searched; those below it are
--- dropped
+-- the reference, with the version of a number as the one that is searched; those that are less far
+-- ahead are dropped
 abbrev pub with_current_version : ℕ → Reference → Reference
 with_current_version number old =
-    record old { curr = number; versions = drop (number - old.curr) old.versions }
+    record old { curr = number; versions = drop (ahead old.curr number) old.versions }
 
 -- ---- the references
 
@@ -78,15 +82,15 @@ value_fault number test value reference =
     option_or (deletion_fault number test reference)
     (fault_unless (not (refuses_value reference.outputs value)) BadValue)
 
--- a preparation: the last version that there may be is prepared
+-- a preparation: as many versions are prepared as there may be beside that which is searched
 abbrev pub preparation_fault : Limits → Reference → Option RefFault
 preparation_fault limits reference =
-    fault_unless (nat_lt reference.next limits.versions) NoMoreVersions
+    fault_unless (nat_lt (span reference) limits.versions) NoMoreVersions
 
 -- that the version of a number is searched: it isn't one that was prepared after that which is
 abbrev pub commit_fault : ℕ → Reference → Option RefFault
 commit_fault number reference =
-    fault_unless (nat_lt reference.curr number && nat_le number reference.next) BadVersion
+    fault_unless (is_open reference number && nat_lt 0 (ahead reference.curr number)) BadVersion
 
 -- ---- what is answered
 
@@ -96,7 +100,8 @@ fault_at refs r fault = option_map_or fault (slice_get refs.references r) None
 
 -- the number of the version that a preparation makes
 abbrev pub prepared_version : References → ℕ → ℕ
-prepared_version refs r = option_map_or (λ old. old.next + 1) (slice_get refs.references r) 0
+prepared_version refs r =
+    option_map_or (λ old. number_ahead old.next 1) (slice_get refs.references r) 0
 
 -- the fault, if there is one, and else the value
 abbrev pub answer : {T : Type 0} → T → Option RefFault → Result T RefFault

@@ -1,8 +1,10 @@
 -- How the code keeps references: each without its versions, which the store has in rows.
-use Rattle.std.specs.Prelude.{◌≡◌, ◌≢◌, ℕ, ◌+◌, ◌≤◌, Bool, List, [], ◌∷◌, length, map, slice_get, Option, None, Some, IfSome, if◌then◌else◌, ⊤}
+use Rattle.std.specs.Prelude.{◌≡◌, ◌≢◌, ℕ, ◌+◌, ◌-◌, ◌^◌, ◌≤◌, ◌<◌, nat_lt, Bool, List, [], ◌∷◌, ◌++◌, length, map, slice_get, Option, None, Some, IfSome, if◌then◌else◌, ⊤}
 use Rattle.std.specs.List.{sum_by}
 use Rattle.std.specs.Option.{option_map_or}
+use Rattle.hx_text.specs.declared.kinds.By.{By}
 use Rattle.hx_text.specs.declared.kinds.By.TheVariants as by
+use Rattle.hx_text.specs.declared.kinds.Out.{Out}
 use Rattle.hx_sample.specs.Find.{Entry}
 use Rattle.hx_sample.specs.Tables.{TableHead}
 use Rattle.hx_refs.specs.Additions.{new_entries, pairs_fault, Demands, Pair}
@@ -10,8 +12,9 @@ use Rattle.hx_refs.specs.declared.fault.RefFault.{RefFault}
 use Rattle.hx_refs.specs.declared.fault.RefFault.TheVariants.{BadPattern, BadVersion}
 use Rattle.hx_refs.specs.declared.limits.Limits.{Limits}
 use Rattle.hx_versions.specs.declared.slots.Slots.{Slots}
-use Rattle.hx_refs.specs.Numbers.{HaveOwnNames}
-use Rattle.hx_refs.specs.References.{changed_at, version_of, Reference, Version}
+use Rattle.hx_refs.specs.Numbers.{HasShortNumbers, HaveOwnNames}
+use Rattle.hx_refs.specs.References.{changed_at, span, version_of, with_output, Reference, Version}
+use Rattle.hx_refs.specs.VersionNumbers.{ahead, number_ahead}
 use Rattle.hx_versions.specs.Rows.{row_at, use_ways, versions_between, AreCounted, AreNumbered, AreSearchedBy, ShownVersion, StoreView}
 use Rattle.hx_refs.specs.Uses.{Use, uses_of}
 use Rattle.hx_refs.specs.Versions.{AreRising}
@@ -26,21 +29,79 @@ abbrev pub TakePatterns : List Use → Type 0
 TakePatterns [] = ⊤
 TakePatterns (u ∷ uses) = (u.by ≢ by.Found) × (u.by ≢ by.Bool) × TakePatterns uses
 
+-- ---- references without their versions
+
+-- A reference without its versions, and the number that the store has for the version that is
+-- searched. The store has numbers of its own, which rise and never wrap.
+pub record Bare : Type 0 where
+  pub kept : Kept
+  pub stored_first : ℕ
+
+-- the store's number of a version
+abbrev pub stored_number : Bare → ℕ → ℕ
+stored_number bare number = bare.stored_first + ahead bare.kept.shown.curr number
+
+-- that of the version that was prepared last
+abbrev pub stored_last : Bare → ℕ
+stored_last bare = stored_number bare bare.kept.shown.next
+
+-- with one more output
+abbrev pub with_out : Out → Bare → Bare
+with_out out bare = record bare {
+  kept = record bare.kept {
+    shown = record bare.kept.shown { outputs = with_output out bare.kept.shown.outputs };
+  };
+}
+
+-- with one more use
+abbrev pub with_use : By → Bool → ℕ → Bare → Bare
+with_use method ci head bare = record bare {
+  kept = record bare.kept {
+    uses = bare.kept.uses ++ record { by = method; ci = ci; head = head } ∷ [];
+  };
+}
+
+-- how much lower the store's numbers have to be before one more is prepared
+abbrev pub excess : Bare → ℕ
+excess bare = if nat_lt (stored_last bare) (2 ^ 32 - 1) then 0 else bare.stored_first
+
+-- with a version more
+abbrev pub with_next : Bare → Bare
+with_next bare = record {
+  kept = record bare.kept {
+    shown = record bare.kept.shown { next = number_ahead bare.kept.shown.next 1 };
+  };
+  stored_first = bare.stored_first - excess bare;
+}
+
+-- with the version of a number as that which is searched
+abbrev pub with_curr : ℕ → Bare → Bare
+with_curr number bare = record {
+  kept = record bare.kept { shown = record bare.kept.shown { curr = number } };
+  stored_first = stored_number bare number;
+}
+
+-- what holds of the parts of such a reference
+pub record IsBare (uses : List Use) (curr next first : ℕ) : Type 0 where
+  pub patterns : TakePatterns uses
+  pub short : (curr < 2 ^ 32) × (next < 2 ^ 32)
+  pub room : first + ahead curr next < 2 ^ 32
+
 -- ---- versions in rows
 
 -- the reference with the versions of a row
-abbrev pub filled : Kept → List ShownVersion → Kept
-filled kept row = record kept {
-  shown = record kept.shown {
-    versions = versions_between kept.shown.curr kept.shown.next row;
+abbrev pub filled : Bare → List ShownVersion → Kept
+filled bare row = record bare.kept {
+  shown = record bare.kept.shown {
+    versions = versions_between bare.stored_first (stored_last bare) row;
   };
 }
 
 -- each reference with the versions of the row at its position, and with none where there is no row
-abbrev pub all_filled : List Kept → List (List ShownVersion) → List Kept
+abbrev pub all_filled : List Bare → List (List ShownVersion) → List Kept
 all_filled [] rows = []
-all_filled (kept ∷ others) [] = filled kept [] ∷ all_filled others []
-all_filled (kept ∷ others) (row ∷ rows) = filled kept row ∷ all_filled others rows
+all_filled (bare ∷ others) [] = filled bare [] ∷ all_filled others []
+all_filled (bare ∷ others) (row ∷ rows) = filled bare row ∷ all_filled others rows
 
 -- what is seen of the references that are kept: each with its versions, and the slots
 pub record KeptState : Type 0 where
@@ -48,17 +109,17 @@ pub record KeptState : Type 0 where
   pub slots : Slots
 
 -- what holds of a reference and its row
-pub record IsFilled (kept : Kept) (row : List ShownVersion) : Type 0 where
-  pub order : kept.shown.curr ≤ kept.shown.next
-  pub numbers : AreNumbered kept.shown.curr kept.shown.next row
-  pub searched : AreSearchedBy (use_ways kept.uses) row
+pub record IsFilled (bare : Bare) (row : List ShownVersion) : Type 0 where
+  pub short : HasShortNumbers bare.kept.shown
+  pub numbers : AreNumbered bare.stored_first (stored_last bare) row
+  pub searched : AreSearchedBy (use_ways bare.kept.uses) row
   pub counted : AreCounted row
-  pub rising : AreRising row
+  pub rising : AreRising bare.stored_first bare.kept.shown.curr (span bare.kept.shown) row
 
 -- each reference has a row in the store
-pub record AreFilled (kept : List Kept) (store : StoreView) : Type 0 where
+pub record AreFilled (kept : List Bare) (store : StoreView) : Type 0 where
   pub count : length store.rows ≡ length kept
-  pub each : (r : ℕ) (k : Kept) → slice_get kept r ≡ Some k → IsFilled k (row_at store r)
+  pub each : (r : ℕ) (k : Bare) → slice_get kept r ≡ Some k → IsFilled k (row_at store r)
 
 -- ---- references
 

@@ -1,4 +1,5 @@
 -- what callers need
+pub mod VersionNumbers
 pub mod References
 pub mod Uses
 pub mod Additions

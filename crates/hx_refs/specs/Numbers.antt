@@ -1,22 +1,41 @@
 -- What holds of references at any time: how their versions and the numbers of their entries go on,
 -- and their own numbers and files (HAProxy management guide 2.4, section 9.3, `show acl`).
-use Rattle.std.specs.Prelude.{◌≡◌, ◌≢◌, ℕ, ◌+◌, ◌-◌, ◌*◌, ◌^◌, ◌≤◌, ◌<◌, List, [], ◌∷◌, length, slice_get, Option, Some, option_map, IfSome, ⊤}
+use Rattle.std.specs.Prelude.{◌≡◌, ◌≢◌, ℕ, ◌+◌, ◌*◌, ◌^◌, ◌≤◌, ◌<◌, List, [], ◌∷◌, length, slice_get, Option, Some, option_map, IfSome, ⊤}
 use Rattle.std.specs.Option.{option_and_then}
 use Rattle.hx_sample.specs.Find.{Entry}
-use Rattle.hx_refs.specs.References.{version_of, Reference, References, Version}
+use Rattle.hx_refs.specs.declared.limits.Limits.{Limits}
+use Rattle.hx_refs.specs.References.{span, version_of, Reference, References, Version}
+use Rattle.hx_refs.specs.VersionNumbers.{ahead}
 
 -- ---- versions
+
+-- the numbers of the first and of the last version have 32 bits
+abbrev pub HasShortNumbers : Reference → Type 0
+HasShortNumbers reference = (reference.curr < 2 ^ 32) × (reference.next < 2 ^ 32)
+
+-- the versions of a reference are those from the one that is searched to the last that was prepared
+pub record HasVersionsInOrder (reference : Reference) : Type 0 where
+  pub short : HasShortNumbers reference
+  pub count : length reference.versions ≡ span reference + 1
+
+-- the number isn't that of the version of a reference that is searched; the versions are in order,
+-- and no more of them may be prepared than there are numbers
+pub record IsAnotherVersion (limits : Limits) (number : ℕ) (reference : Reference) : Type 0 where
+  pub other : number ≢ reference.curr
+  pub order : HasVersionsInOrder reference
+  pub few : limits.versions < 2 ^ 32
 
 -- the version of the number isn't the one of the reference at a position that is searched: it is
 -- prepared for later, was dropped, or never was
 abbrev pub IsNotSearched : References → ℕ → ℕ → Type 0
 IsNotSearched refs r number =
-    IfSome (slice_get refs.references r) (λ reference. number ≢ reference.curr)
+    IfSome (slice_get refs.references r) (IsAnotherVersion refs.limits number)
 
--- the versions of a reference are those from the one that is searched to the last that was prepared
-pub record HasVersionsInOrder (reference : Reference) : Type 0 where
-  pub order : reference.curr ≤ reference.next
-  pub count : length reference.versions ≡ reference.next - reference.curr + 1
+-- the version of a number isn't behind another of the reference: it is at least as far ahead of that
+-- which is searched
+abbrev pub IsNotBehind : ℕ → ℕ → Reference → Type 0
+IsNotBehind other number reference =
+    HasShortNumbers reference × (ahead reference.curr other ≤ ahead reference.curr number)
 
 -- ---- entries
 

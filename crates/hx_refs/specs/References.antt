@@ -1,6 +1,6 @@
 -- What the references of a configuration are: lists of patterns and maps, with their versions and
 -- entries (HAProxy management guide 2.4, section 9.3, `add acl`, `add map`, `prepare acl`).
-use Rattle.std.specs.Prelude.{◌≡◌, ℕ, ◌-◌, min, ◌&&◌, ◌||◌, nat_le, Bool, true, false, List, [], ◌∷◌, ◌++◌, length, map, sum, slice_get, slice_set, Option, None, Some, is_none, IfSome, option_and_then, if◌then◌else◌, ⊤}
+use Rattle.std.specs.Prelude.{◌≡◌, ℕ, ◌-◌, min, ◌&&◌, ◌||◌, Bool, true, false, List, [], ◌∷◌, ◌++◌, length, map, sum, slice_get, slice_set, Option, None, Some, is_none, is_some, IfSome, option_and_then, if◌then◌else◌, ⊤}
 use Rattle.std.specs.Option.{option_map_or}
 use Rattle.hx_text.specs.declared.kinds.Out.{Out}
 use Rattle.hx_text.specs.declared.kinds.Out.TheVariants as out
@@ -10,6 +10,7 @@ use Rattle.hx_sample.specs.Find.{Entry}
 use Rattle.hx_sample.specs.Tables.{TableHead}
 use Rattle.hx_refs.specs.declared.limits.Limits.{Limits}
 use Rattle.hx_refs.specs.declared.info.RefInfo.{RefInfo}
+use Rattle.hx_refs.specs.VersionNumbers.{ahead, is_from_to}
 use Rattle.hx_versions.specs.declared.slots.Slots.{Slots}
 pub use Rattle.hx_versions.specs.Versions.{empty_version, Version}
 
@@ -20,7 +21,7 @@ pub record Outputs : Type 0 where
 
 -- A reference: its number; its file, if it has one; whether its entries have values; whether an ACL
 -- uses it; how its values are read; the number of the version that is searched, and that of the
--- last one that was prepared; and the versions from the one to the other.
+-- last one that was prepared; and the versions from the one to the other. Numbers of versions wrap.
 pub record Reference : Type 0 where
   pub id : ℕ
   pub file : Option (List ℕ)
@@ -31,9 +32,11 @@ pub record Reference : Type 0 where
   pub next : ℕ
   pub versions : List Version
 
--- the references in their order, with the heads through which they are searched, and limits
+-- the references in their order, with the heads through which they are searched, limits, and the
+-- number of the version with which a reference begins
 pub record References : Type 0 where
   pub limits : Limits
+  pub first : ℕ
   pub heads : List TableHead
   pub references : List Reference
 
@@ -61,13 +64,20 @@ abbrev pub AreEmpty : List Version → Type 0
 AreEmpty [] = ⊤
 AreEmpty (version ∷ versions) = (version ≡ empty_version) × AreEmpty versions
 
+-- how far the version that was prepared last is ahead of that which is searched
+abbrev pub span : Reference → ℕ
+span reference = ahead reference.curr reference.next
+
+-- the reference has a version of the number
+abbrev pub is_open : Reference → ℕ → Bool
+is_open reference number = is_from_to reference.curr reference.next number
+
 -- where a version stands among those of a reference: that of a number, or without one that which is
--- searched; none for a number outside those of its versions
+-- searched; none for a number of which it has no version
 abbrev pub version_place : Reference → Option ℕ → Option ℕ
 version_place reference None = Some 0
 version_place reference (Some number) =
-    if nat_le reference.curr number && nat_le number reference.next
-    then Some (number - reference.curr) else None
+    if is_open reference number then Some (ahead reference.curr number) else None
 
 abbrev pub version_of : Reference → Option ℕ → Option Version
 version_of reference number =
@@ -105,6 +115,12 @@ abbrev pub entries_in : References → ℕ → Option ℕ → List Entry
 entries_in refs r number =
     option_map_or (λ reference. version_entries reference number) (slice_get refs.references r) []
 
+-- the reference at a position has a version
+abbrev pub has_version : References → ℕ → Option ℕ → Bool
+has_version refs r number =
+    option_map_or (λ reference. is_some (version_place reference number))
+    (slice_get refs.references r) false
+
 -- the file of the reference at a position
 abbrev pub file_of : References → ℕ → Option (List ℕ)
 file_of refs r = option_and_then (λ reference. reference.file) (slice_get refs.references r)
@@ -116,27 +132,33 @@ HasHadNone refs r =
 
 -- ---- what additions make of them
 
--- no references
-abbrev pub no_references : Limits → References
-no_references limits = record { limits = limits; heads = []; references = [] }
+-- no references; those that are added begin with the version of a number
+abbrev pub references_from : Limits → ℕ → References
+references_from limits first =
+    record { limits = limits; first = first; heads = []; references = [] }
 
--- a reference without outputs and entries
-abbrev pub new_reference : ℕ → Option (List ℕ) → Bool → Bool → Reference
-new_reference id file two_column acl = record {
+-- the same, where they begin with version 0
+abbrev pub no_references : Limits → References
+no_references limits = references_from limits 0
+
+-- a reference without outputs and entries, which begins with the version of a number
+abbrev pub new_reference : ℕ → ℕ → Option (List ℕ) → Bool → Bool → Reference
+new_reference first id file two_column acl = record {
   id = id;
   file = file;
   two_column = two_column;
   acl = acl;
   outputs = record { as_int = false; as_ip = false };
-  curr = 0;
-  next = 0;
+  curr = first;
+  next = first;
   versions = empty_version ∷ [];
 }
 
 -- the references with one more
 abbrev pub with_new : References → ℕ → Option (List ℕ) → Bool → Bool → References
 with_new refs id file two_column acl =
-    record refs { references = refs.references ++ new_reference id file two_column acl ∷ [] }
+    let new = new_reference refs.first id file two_column acl in
+    record refs { references = refs.references ++ new ∷ [] }
 
 -- the list with its item at a position changed
 abbrev pub changed_at : {A : Type 0} → ℕ → (A → A) → List A → List A

@@ -32,7 +32,7 @@ pub enum RefFault {
     /// The version has had as many additions as it may have.
     #[error("the version is worn")]
     VersionWorn,
-    /// The last version that there may be is prepared.
+    /// As many versions are prepared as there may be.
     #[error("no more versions")]
     NoMoreVersions,
     /// A regular expression is too large. The count of the maker that was lent rose.

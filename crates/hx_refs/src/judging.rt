@@ -135,13 +135,13 @@ pub(crate) fn new_entries<M: ReMaker>(
         added_entries added.entries.items ≡ new_entries version serial pairs.now) }
     ensures serial { IfOk result (λ added. added.serial ≡ serial + length pairs.now) }
     ensures ready { IfOk result (λ added.
-        AreReadyFor (use_ways reference.now.uses) added.entries.items) }
+        AreReadyFor (use_ways reference.now.kept.uses) added.entries.items) }
     ensures few { OnOk result (count + length pairs.now < 2 ^ 32) }
-    ensures none { OnOk result (pairs_fault (kept_demands reference.now limits)
+    ensures none { OnOk result (pairs_fault (kept_demands reference.now.kept limits)
         count serial pairs.now ≡ None) }
-    ensures refused { IfErr result (MayRefuse (pairs_fault (kept_demands reference.now limits)
+    ensures refused { IfErr result (MayRefuse (pairs_fault (kept_demands reference.now.kept limits)
         count serial pairs.now)) }
-    ensures large { AdditionCountsLarge result (PairsAskFor (kept_demands reference.now limits)
+    ensures large { AdditionCountsLarge result (PairsAskFor (kept_demands reference.now.kept limits)
         count serial pairs.now)
         (M.state maker.old) (M.state maker.new) }
 {

@@ -1,5 +1,5 @@
 //! The references in their order, and the store of their versions.
-ghost use Rattle.std.specs.Prelude.{◌≡◌, ◌≢◌, ◌+◌, ◌<◌, ◌≤◌, ◌^◌, ◌++◌, [], ◌∷◌, List, length, map, slice_get, slice_set, None, Some, All, IfOk, IfErr, IsOk, OnOk, OnErr, option_map};
+ghost use Rattle.std.specs.Prelude.{◌≡◌, ◌≢◌, ◌+◌, ◌<◌, ◌≤◌, ◌^◌, ◌++◌, [], ◌∷◌, List, length, map, slice_get, slice_set, None, Some, is_some, All, IfOk, IfErr, IsOk, OnOk, OnErr, option_map};
 ghost use Rattle.std.specs.Option.{option_copied};
 ghost use Rattle.std.specs.List.{list_any};
 ghost use Rattle.hx_sample.specs.Changes.{with_value, without_chosen};
@@ -14,10 +14,11 @@ ghost use Rattle.hx_refs.specs.Kept.{kept_demands, kept_fault, shown_references,
 ghost use Rattle.hx_refs.specs.Naming.{resolution};
 ghost use Rattle.hx_versions.specs.NewEntries.{added_entries, AreReadyFor};
 ghost use Rattle.hx_refs.specs.Numbers.{HasVersionsInOrder, NumbersRise};
-ghost use Rattle.hx_refs.specs.References.{after_tidying, info_of, new_reference, no_slots, version_entries, version_of, with_output, AreEmpty, References};
-ghost use Rattle.hx_versions.specs.Rows.{use_ways};
+ghost use Rattle.hx_refs.specs.References.{after_tidying, info_of, new_reference, no_slots, span, version_entries, version_of, version_place, with_output, AreEmpty, References};
+ghost use Rattle.hx_versions.specs.Rows.{lowered, row_at, use_ways, ShownVersion};
 ghost use Rattle.hx_refs.specs.SlotCounts.{least_slots, most_slots};
 ghost use Rattle.hx_refs.specs.Uses.{use_parts, use_with, uses_in_order};
+ghost use Rattle.hx_refs.specs.VersionNumbers.{number_ahead};
 ghost use Rattle.hx_refs.specs.Versions.{HasVersion};
 ghost use Rattle.hx_versions.specs.Versions.{is_chosen};
 
@@ -45,6 +46,19 @@ fn answer(position: u32, fault: Option<RefFault>) -> Result<u32, RefFault>
     match fault {
         None => Ok(position),
         Some(fault) => Err(fault),
+    }
+}
+
+/// Lowers the store's numbers of the versions of a row. None of them is smaller.
+fn lower(store: &mut Store, r: u32, by: u32)
+    requires row { r < length store.old.rows }
+    requires above { All (λ (version : ShownVersion). by ≤ version.number) (row_at store.old r) }
+    ensures lowered { row_at store.new r ≡ map (lowered by) (row_at store.old r) }
+    ensures others { store.new.rows ≡ slice_set store.old.rows r (row_at store.new r) }
+    ensures waiting { store.new.waiting ≡ store.old.waiting }
+{
+    if by > 0 {
+        store.lower_numbers::<Brand>(r, by, Blank::new(1));
     }
 }
 
@@ -88,23 +102,24 @@ impl KeptReferences {
         self.references.len()
     }
 
-    /// Appends a reference without uses, outputs and entries. Nothing is changed where memory runs
-    /// out.
+    /// Appends a reference without uses, outputs and entries, which begins with the version
+    /// `first`. Nothing is changed where memory runs out.
     pub(crate) fn push(
         &mut self,
         alloc: Global,
+        first: u32,
         id: u32,
         file: Option<&[u8]>,
         two_column: bool,
         acl: bool,
     ) -> Result<(), NoMemory>
         ensures ok { OnOk result (self.new.kept ≡ self.old.kept ++ record {
-          shown = new_reference id (option_copied file.entry) two_column acl;
+          shown = new_reference first id (option_copied file.entry) two_column acl;
           uses = [];
         } ∷ []) }
         ensures err { OnErr result (self.new ≡ self.old) }
     {
-        let reference = KeptReference::new(alloc, id, file, two_column, acl)?;
+        let reference = KeptReference::new(alloc, first, id, file, two_column, acl)?;
         self.references.reserve(1)?;
         self.store.push_row()?;
         self.references.push_reserved(reference);
@@ -195,10 +210,19 @@ impl KeptReferences {
         ensures { (k : Kept) → slice_get self.now.kept r ≡ Some k
             → result ≡ version_entries k.shown ver }
     {
-        // No version has a number outside those of the reference.
         let reference = &self.references[r as usize];
-        let number = reference.number_or_current(ver);
-        self.store.entries::<Brand>(r, number, Blank::new(1))
+        let stored = reference.stored_or_unused(ver);
+        self.store.entries::<Brand>(r, stored, Blank::new(1))
+    }
+
+    /// Whether the reference at a position has a version.
+    pub(crate) fn has_version(&self, r: u32, ver: Option<u32>) -> bool
+        requires { r < length self.now.kept }
+        ensures { (k : Kept) → slice_get self.now.kept r ≡ Some k
+            → result ≡ is_some (version_place k.shown ver) }
+    {
+        let reference = &self.references[r as usize];
+        reference.number(ver).is_some()
     }
 
     /// Whether an entry is chosen in a version of the reference at a position.
@@ -207,11 +231,10 @@ impl KeptReferences {
         ensures { (k : Kept) → slice_get self.now.kept r ≡ Some k
             → result ≡ list_any (is_chosen choice.now) (version_entries k.shown ver) }
     {
-        // No version has a number outside those of the reference.
         let reference = &self.references[r as usize];
-        let number = reference.number_or_current(ver);
+        let stored = reference.stored_or_unused(ver);
         self.store
-            .has_chosen::<Brand>(r, number, choice, Blank::new(1))
+            .has_chosen::<Brand>(r, stored, choice, Blank::new(1))
     }
 
     /// The entry that is found for a sample by a use of the reference at a position, which has the
@@ -237,7 +260,7 @@ impl KeptReferences {
             + search_steps by ci (version_entries k.shown None) (value_of sample.now) }
     {
         let reference = &self.references[r as usize];
-        let number = reference.current();
+        let number = reference.stored_first();
         self.store.find(r, number, place, by, ci, sample, steps)
     }
 
@@ -272,8 +295,9 @@ impl KeptReferences {
             (version_of k.shown (Some number)) pairs.now)
             (M.state maker.old) (M.state maker.new) }
     {
-        let (count, serial) = self.store.filling::<Brand>(r, number, Blank::new(1));
         let reference = &self.references[r as usize];
+        let stored = reference.stored_number(number);
+        let (count, serial) = self.store.filling::<Brand>(r, stored, Blank::new(1));
         new_entries(
             alloc, limits, reference, number, count, serial, pairs, maker,
         )
@@ -301,8 +325,9 @@ impl KeptReferences {
         if added.entries.is_empty() {
             return Ok(());
         }
+        let stored = reference.stored_number(number);
         self.store
-            .append::<Brand>(r, number, reference.uses(), added, Blank::new(1))
+            .append::<Brand>(r, stored, reference.uses(), added, Blank::new(1))
     }
 
     /// The pairs as the last entries of a version of the reference at a position, all of them or
@@ -417,7 +442,8 @@ impl KeptReferences {
     {
         let reference = &self.references[r as usize];
         if let Some(number) = reference.number(ver) {
-            self.store.delete::<Brand>(r, number, choice, Blank::new(1));
+            let stored = reference.stored_number(number);
+            self.store.delete::<Brand>(r, stored, choice, Blank::new(1));
         }
     }
 
@@ -488,8 +514,9 @@ impl KeptReferences {
         let Some(number) = reference.number(ver) else {
             return Ok(());
         };
+        let stored = reference.stored_number(number);
         self.store
-            .set::<Brand>(r, number, choice, value, Blank::new(1))
+            .set::<Brand>(r, stored, choice, value, Blank::new(1))
     }
 
     /// Removes the entries of a version of the reference at a position. One that the reference
@@ -500,7 +527,8 @@ impl KeptReferences {
     {
         let reference = &self.references[r as usize];
         if let Some(number) = reference.number(ver) {
-            self.store.clear::<Brand>(r, number, Blank::new(1));
+            let stored = reference.stored_number(number);
+            self.store.clear::<Brand>(r, stored, Blank::new(1));
         }
     }
 
@@ -508,16 +536,35 @@ impl KeptReferences {
     pub(crate) fn prepare(&mut self, limits: Limits, r: u32) -> Result<u32, RefFault>
         requires { r < length self.old.kept }
         ensures answer { (k : Kept) → slice_get self.old.kept r ≡ Some k
-            → result ≡ answer (k.shown.next + 1) (preparation_fault limits k.shown) }
+            → result ≡ answer (number_ahead k.shown.next 1) (preparation_fault limits k.shown) }
         ensures ok { OnOk result (self.new.kept ≡ with_kept r with_new_version self.old.kept) }
         ensures err { OnErr result (self.new ≡ self.old) }
     {
+        let reference = &self.references[r as usize];
+        if let Some(fault) = reference.preparation_fault(limits) {
+            return Err(fault);
+        }
+        Ok(self.add_version(r))
+    }
+
+    /// The same, where there is a number for it.
+    fn add_version(&mut self, r: u32) -> u32
+        requires r { r < length self.old.kept }
+        requires room { (k : Kept) → slice_get self.old.kept r ≡ Some k
+            → span k.shown + 1 < 2 ^ 32 }
+        ensures number { (k : Kept) → slice_get self.old.kept r ≡ Some k
+            → result ≡ number_ahead k.shown.next 1 }
+        ensures kept { self.new.kept ≡ with_kept r with_new_version self.old.kept }
+    {
         let reference = &mut self.references[r as usize];
-        reference.prepare(limits)
+        let excess = reference.excess();
+        let number = reference.prepare();
+        lower(&mut self.store, r, excess);
+        number
     }
 
     /// The version of a number of the reference at a position is searched from now on, and those
-    /// below it are dropped.
+    /// that are less far ahead are dropped.
     pub(crate) fn commit<L: Ledger>(
         &mut self,
         r: u32,
@@ -550,9 +597,9 @@ impl KeptReferences {
         ensures cost { (k : Kept) → slice_get self.old.kept r ≡ Some k
             → steps.new ≤ steps.old + steps_to_commit number k.shown }
     {
-        self.store.drop_below(r, number, steps);
         let reference = &mut self.references[r as usize];
-        reference.set_current(number);
+        let stored = reference.set_current(number);
+        self.store.drop_below(r, stored, steps);
     }
 
     /// How many slots of memory are in use, and how many of these wait to be given back.

@@ -1,9 +1,9 @@
 //! Laws: what the definitions of versions imply, and what holds of references at any time.
-ghost use Rattle.std.specs.Prelude.{◌≡◌, ◌≢◌, ℕ, ◌+◌, ◌<◌, ◌≤◌, Bool, List, Option, None, Some, All, IfSome, length, slice_get};
+ghost use Rattle.std.specs.Prelude.{◌≡◌, ◌≢◌, ℕ, ◌+◌, ◌^◌, ◌<◌, ◌≤◌, Bool, List, Option, None, Some, All, IfSome, length, slice_get};
 ghost use Rattle.hx_sample.specs.Find.{Entry};
 ghost use Rattle.hx_refs.specs.Additions.{after_addition, Pair};
 ghost use Rattle.hx_refs.specs.Changes.{after_change_of_value, after_clearing, after_commit, after_deletion, after_preparation, commit_fault, fault_at};
-ghost use Rattle.hx_refs.specs.Numbers.{HasVersionsInOrder, HaveOwnNames, IsNotSearched, NumbersRise};
+ghost use Rattle.hx_refs.specs.Numbers.{HasVersionsInOrder, HaveOwnNames, IsNotBehind, IsNotSearched, NumbersRise};
 ghost use Rattle.hx_refs.specs.References.{entries_in, searched_lists, with_new, with_reference, Reference, References};
 ghost use Rattle.hx_refs.specs.SlotCounts.{least_slots, most_slots, slots_in_all};
 
@@ -67,10 +67,22 @@ pub fn commit_changes_one_search()
         → (after_commit refs r number).heads ≡ refs.heads }
 {}
 
+/// A commit, unless it is refused, keeps each version that isn't behind that of its number: it has
+/// the entries that it had.
+pub fn commit_keeps_later_versions()
+    ensures { (refs : References) (r number later : ℕ)
+        → fault_at refs r (commit_fault number) ≡ None
+        → IfSome (slice_get refs.references r) (IsNotBehind number later)
+        → entries_in (after_commit refs r number) r (Some later)
+        ≡ entries_in refs r (Some later) }
+{}
+
 /// Of each reference, the versions are those from the one that is searched to the last that was
-/// prepared.
+/// prepared, and the numbers of these two have 32 bits. No more may be prepared than there are
+/// numbers.
 pub fn versions_are_in_order(refs: &Refs)
-    ensures { All HasVersionsInOrder refs.now.content.references }
+    ensures versions { All HasVersionsInOrder refs.now.content.references }
+    ensures limits { refs.now.content.limits.versions < 2 ^ 32 }
 {
     refs.are_numbered();
 }

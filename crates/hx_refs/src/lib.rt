@@ -22,6 +22,7 @@ mod reference;
 mod refs;
 mod side;
 mod table_changes;
+mod version_numbers;
 
 pub use fault::RefFault;
 pub use hx_versions::{Entries, Slots};

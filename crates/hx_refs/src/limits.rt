@@ -1,7 +1,7 @@
 ghost use Rattle.std.specs.Prelude.{◌≡◌};
 
 /// How much references take: the entries of a version at one time, all additions to a version, and
-/// the number of the last version.
+/// the versions that are prepared after the one that is searched.
 #[derive(Clone, Copy, PartialEq, Eq)]
 pub struct Limits {
     pub entries: u32,

@@ -1,4 +1,4 @@
-ghost use Rattle.std.specs.Prelude.{◌≡◌, ◌≢◌, ◌+◌, ◌<◌, ◌≤◌, [], ◌∷◌, All, length, slice_get, None, Some, IfOk, IfErr, IfSome, IsOk, OnOk, OnErr, option_map};
+ghost use Rattle.std.specs.Prelude.{◌≡◌, ◌≢◌, ◌+◌, ◌^◌, ◌<◌, ◌≤◌, [], ◌∷◌, All, length, slice_get, None, Some, IfOk, IfErr, IfSome, IsOk, OnOk, OnErr, option_map};
 ghost use Rattle.std.specs.Option.{option_copied};
 ghost use Rattle.hx_refs.specs.Additions.{addition_fault, after_addition, AdditionAsksFor, AdditionCountsLarge, MayRefuse};
 ghost use Rattle.hx_refs.specs.Changes.{after_change_of_value, after_clearing, after_commit, after_deletion, after_preparation, answer, commit_fault, deletion_fault, fault_at, has_number, preparation_fault, prepared_version, value_fault, MayFail};
@@ -8,7 +8,7 @@ ghost use Rattle.hx_sample.specs.Tables.{entry_of, found_at, TakesValue};
 ghost use Rattle.hx_refs.specs.Costs.{commit_steps, find_steps};
 ghost use Rattle.hx_refs.specs.Naming.{resolution};
 ghost use Rattle.hx_refs.specs.Numbers.{HasVersionsInOrder, HaveOwnNames, NumbersRise};
-ghost use Rattle.hx_refs.specs.References.{after_output, after_tidying, entries_in, file_of, info_of, no_references, no_slots, searched_lists, with_new, HasHadNone};
+ghost use Rattle.hx_refs.specs.References.{after_output, after_tidying, entries_in, file_of, has_version, info_of, no_references, no_slots, references_from, searched_lists, with_new, HasHadNone};
 ghost use Rattle.hx_refs.specs.SlotCounts.{least_slots, most_slots, slots_in_all};
 ghost use Rattle.hx_refs.specs.TableChanges.{is_key_of};
 ghost use Rattle.hx_refs.specs.Uses.{after_use, head_for, use_parts, uses_in_order, uses_of, KeepsToCase};
@@ -32,12 +32,13 @@ use std::marker::Model;
 use std::sync::ledger::Ledger;
 
 /// The references of a configuration, by their positions. Contracts see their content, which is the
-/// limits, the heads in the order of their numbers, and the references in their order; and how many
-/// slots of memory they use.
+/// limits, the heads in the order of their numbers, the references in their order, and the number of
+/// the version with which a reference begins; and how many slots of memory they use.
 #[derive(Drop)]
 pub struct Refs {
     alloc: Global,
     limits: Limits,
+    first: u32,
     heads: Vec<KeptHead>,
     kept: KeptReferences,
 }
@@ -52,6 +53,7 @@ impl Model for Refs {
     ghost view = { λ refs. record {
       content = record {
         limits = refs.limits;
+        first = refs.first;
         heads = table_heads refs.heads.items;
         references = shown_references refs.kept.kept;
       };
@@ -62,13 +64,23 @@ impl Model for Refs {
 }
 
 impl Refs {
-    /// No references. It takes no memory; those that are added later take it from `alloc`.
+    /// No references. It takes no memory; those that are added later take it from `alloc`, and begin
+    /// with version 0.
     pub fn new(alloc: Global, limits: Limits) -> Refs
         ensures { result ≡ record { content = no_references limits; slots = no_slots } }
+    {
+        Refs::start(alloc, limits, 0)
+    }
+
+    /// The same, where references that are added begin with version `first`.
+    pub fn start(alloc: Global, limits: Limits, first: u32) -> Refs
+        ensures { result
+            ≡ record { content = references_from limits first; slots = no_slots } }
     {
         Refs {
             alloc,
             limits,
+            first,
             heads: Vec::new(alloc),
             kept: KeptReferences::new(alloc),
         }
@@ -83,7 +95,8 @@ impl Refs {
 
     /// Appends a reference without uses, outputs and entries, and answers its position, which is
     /// the number of references before the call. `id` is its number, `file` its file, if it has
-    /// one; `two_column` says whether its entries have values, and `acl` whether an ACL uses it.
+    /// one; `two_column` says whether its entries have values, and `acl` whether an ACL uses it. It
+    /// begins with the version of which [`Refs::start`] was given the number.
     /// `NoMemory` where memory runs out; nothing is changed then.
     ///
     /// No reference has the number or the file, and there are fewer than 65,536.
@@ -105,7 +118,8 @@ impl Refs {
         ensures err { OnErr result (self.new ≡ self.old) }
     {
         let position = self.len();
-        self.kept.push(self.alloc, id, file, two_column, acl)?;
+        self.kept
+            .push(self.alloc, self.first, id, file, two_column, acl)?;
         Ok(position)
     }
 
@@ -205,6 +219,17 @@ impl Refs {
         ensures { result ≡ entries_in self.now.content r ver }
     {
         self.kept.entries(r, ver)
+    }
+
+    /// Whether the reference at the position `r` has the version `ver`. Without one it is that which
+    /// is searched, and is there.
+    ///
+    /// There are more than `r` references.
+    pub fn has_version(&self, r: u32, ver: Option<u32>) -> bool
+        requires { r < length self.now.content.references }
+        ensures { result ≡ has_version self.now.content r ver }
+    {
+        self.kept.has_version(r, ver)
     }
 
     /// Whether an entry of the reference at the position `r` has the key, in the version that is
@@ -442,9 +467,10 @@ impl Refs {
     }
 
     /// Prepares one version more of the reference at the position `r`, without entries, and answers
-    /// its number: one more than that of the last that was prepared. It isn't searched before it is
-    /// committed. `NoMoreVersions` exactly where the number of the last is that of the limits;
-    /// nothing is changed then. It takes no memory.
+    /// its number: one more than that of the last that was prepared, and 0 after 2^32 - 1. It isn't
+    /// searched before it is committed. `NoMoreVersions` exactly where as many versions as the limits
+    /// allow were prepared after that which is searched; nothing is changed then. It takes no memory.
+    /// A number that was dropped may come again, and with it the numbers of its entries.
     ///
     /// There are more than `r` references. HAProxy management guide 2.4, section 9.3,
     /// `prepare acl`, `prepare map`.
@@ -459,9 +485,9 @@ impl Refs {
     }
 
     /// The version `ver` of the reference at the position `r` is searched from now on, with the
-    /// entries that it has. The versions below it are dropped, and those above it stay as they are.
-    /// `BadVersion` exactly where it isn't one that was prepared after that which is searched;
-    /// nothing is changed then. It takes no memory.
+    /// entries that it has. The versions that were prepared before it are dropped, and those that
+    /// were prepared after it stay as they are. `BadVersion` exactly where it isn't one that was
+    /// prepared after that which is searched; nothing is changed then. It takes no memory.
     ///
     /// There are more than `r` references. HAProxy management guide 2.4, section 9.3,
     /// `commit acl`, `commit map`.
@@ -565,11 +591,13 @@ impl Tables for Refs {
 
 impl Refs {
     /// Does nothing. Of each reference the versions are in order, and the numbers of their entries
-    /// rise.
+    /// rise; no more versions may be prepared than there are numbers.
     pub(crate) fn are_numbered(&self)
         ensures versions { All HasVersionsInOrder self.now.content.references }
         ensures entries { All NumbersRise self.now.content.references }
+        ensures limits { self.now.content.limits.versions < 2 ^ 32 }
     {
+        let _versions = self.limits.versions;
         self.kept.are_numbered();
     }
 

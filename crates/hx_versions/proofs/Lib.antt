@@ -11,6 +11,7 @@ pub mod FindLemmas
 pub mod FirstVersionLemmas
 pub mod GrowingLemmas
 pub mod IndexListLemmas
+pub mod LoweringLemmas
 pub mod MovingLemmas
 pub mod PartLemmas
 pub mod PlacedLemmas
@@ -26,6 +27,7 @@ pub mod StoreCallLemmas
 pub mod StoreChangeLemmas
 pub mod StoreClauseLemmas
 pub mod StoreLemmas
+pub mod StoreLowerLemmas
 pub mod TidyLemmas
 pub mod ValueLemmas
 pub mod ValueWalkLemmas

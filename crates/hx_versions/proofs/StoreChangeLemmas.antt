@@ -28,7 +28,7 @@ set_self [] i x is = refl
 set_self (y ∷ xs) zero x is = let same : y ≡ x = cc in ap (λ z. z ∷ xs) (sym same)
 set_self (y ∷ xs) (suc i) x is = ap (λ zs. y ∷ zs) (set_self xs i x is)
 
-retired_other : (r : ℕ) → Retired ≢ Reference r
+pub retired_other : (r : ℕ) → Retired ≢ Reference r
 retired_other r e = cc
 
 module _ (p q : Pools) (rows : List Row) (retired : Chain) (waiting filled filled' r : ℕ) (row : Row) (before : List PlacedVersion) (v : PlacedVersion) (after : List PlacedVersion) (serial : ℕ) (placed : List PlacedEntry)

@@ -141,6 +141,10 @@ Changes number change old new =
     (first last : ℕ) → AreNumbered first last old → first ≤ number → number ≤ last
     → ChangesVersion first last number change old new
 
+-- the version with its number lowered by so much
+abbrev pub lowered : ℕ → ShownVersion → ShownVersion
+lowered by version = record version { number = version.number - by }
+
 -- the version, with a change of its entries; its serial number stays
 abbrev pub changed_entries : (List Entry → List Entry) → Version → Version
 changed_entries change version = record version { entries = change version.entries }

@@ -1,6 +1,6 @@
 -- How the versions of all references lie in slots, those that are kept and those that wait to be
 -- given back.
-use Rattle.std.specs.Prelude.{◌≡◌, ◌≢◌, ℕ, suc, ◌+◌, ◌*◌, ◌^◌, ◌≤◌, ◌<◌, Bool, true, false, List, [], ◌∷◌, ◌++◌, length, map, set, slice_get, All, Option, None, Some, option_map, ⊤, ◌⊎◌}
+use Rattle.std.specs.Prelude.{◌≡◌, ◌≢◌, ℕ, suc, ◌+◌, ◌-◌, ◌*◌, ◌^◌, ◌≤◌, ◌<◌, Bool, true, false, List, [], ◌∷◌, ◌++◌, length, map, set, slice_get, All, Option, None, Some, option_map, ⊤, ◌⊎◌}
 use Rattle.std.specs.List.{filter_map, sum_by}
 use Rattle.hx_text.specs.declared.kinds.By.{By}
 use Rattle.hx_pool.specs.Pool.{Pool, SameValues, get, live_count}
@@ -69,6 +69,10 @@ shown_version v = record {
   entries = entries_of v.placed;
   ways = ways_of v.content.indexes.items;
 }
+
+-- the version with its number lowered by so much
+abbrev pub lowered_version : ℕ → PlacedVersion → PlacedVersion
+lowered_version by v = record v { number = v.number - by }
 
 -- the slot has the version, of that owner
 pub record HasVersion (versions : VersionPool) (owner : Owner) (v : PlacedVersion) : Type 0 where

@@ -16,6 +16,7 @@ mod finding;
 mod growing;
 mod indexing;
 mod kept_text;
+mod lowering;
 mod node_numbers;
 mod placing;
 mod pools;

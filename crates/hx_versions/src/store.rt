@@ -1,6 +1,6 @@
 //! The store of all entries: the versions of each reference that had additions, with their indexes,
 //! in slots of memory that all references share.
-ghost use Rattle.std.specs.Prelude.{◌≡◌, ◌≢◌, ◌+◌, ◌-◌, ◌*◌, ◌<◌, ◌≤◌, ◌^◌, ◌++◌, ℕ, Bool, List, [], ◌∷◌, length, map, slice_get, slice_set, Some, IfOk, IsOk, OnOk, OnErr, option_map, true, false};
+ghost use Rattle.std.specs.Prelude.{◌≡◌, ◌≢◌, ◌+◌, ◌-◌, ◌*◌, ◌<◌, ◌≤◌, ◌^◌, ◌++◌, ℕ, Bool, List, [], ◌∷◌, length, map, All, slice_get, slice_set, Some, IfOk, IsOk, OnOk, OnErr, option_map, true, false};
 ghost use Rattle.std.specs.List.{list_any};
 ghost use Rattle.hx_text.specs.declared.kinds.By.{By as Method};
 ghost use Rattle.hx_sample.specs.Changes.{with_value, without_chosen};
@@ -8,7 +8,7 @@ ghost use Rattle.hx_sample.specs.Find.{found_entry};
 ghost use Rattle.hx_sample.specs.Seen.{value_of};
 ghost use Rattle.hx_sample.specs.Tables.{entry_of};
 ghost use Rattle.hx_versions.specs.Costs.{search_steps};
-ghost use Rattle.hx_versions.specs.Rows.{changed_entries, cleared_slots, first_entries, row_at, store_slots, total_count, use_ways, version_numbered, with_last_entries, AreCounted, AreNumbered, AreSearchedBy, BeginsFrom, Changes, IsDropped, ShownVersion};
+ghost use Rattle.hx_versions.specs.Rows.{changed_entries, cleared_slots, first_entries, lowered, row_at, store_slots, total_count, use_ways, version_numbered, with_last_entries, AreCounted, AreNumbered, AreSearchedBy, BeginsFrom, Changes, IsDropped, ShownVersion};
 ghost use Rattle.hx_versions.specs.NewEntries.{added_entries, AreReadyFor};
 ghost use Rattle.hx_versions.specs.Versions.{is_chosen};
 
@@ -16,6 +16,7 @@ use crate::choice::Choice;
 use crate::content::NewEntry;
 use crate::filling::{delete_in, set_in};
 use crate::growing::{append_in, reserve, version_for};
+use crate::lowering::lower_in;
 use crate::pools::{Pools, Row};
 use crate::reading::{count_entries, entries_of, filling_of, find_in, has_chosen, slot_of};
 use crate::retiring::{clear_in, drop_first, tidy};
@@ -433,6 +434,24 @@ impl Store {
             ≤ steps.old + 10 * length (row_at self.old r) + 1 }
     {
         while self.drop_first(r, number, steps) {}
+    }
+
+    /// Lowers the numbers of all versions of the row `r` by `by`. It takes no memory.
+    ///
+    /// No version of the row has a smaller number.
+    pub fn lower_numbers<L: Ledger>(&mut self, r: u32, by: u32, blank: Blank)
+        requires row { r < length self.old.rows }
+        requires above { All (λ (version : ShownVersion). by ≤ version.number) (row_at self.old r) }
+        requires name { blank.name ≡ L.name }
+        requires parts { blank.parts ≡ L.parts }
+        requires some { 0 < L.parts }
+        ensures lowered { row_at self.new r ≡ map (lowered by) (row_at self.old r) }
+        ensures others { self.new.rows ≡ slice_set self.old.rows r (row_at self.new r) }
+        ensures waiting { self.new.waiting ≡ self.old.waiting }
+    {
+        let mut steps = Steps::<L>::open(blank);
+        let row = &self.rows[r as usize];
+        lower_in(&mut self.pools, row, by, &mut steps);
     }
 
     /// Gives back `n` of the slots that wait, or all where fewer wait. It takes no memory.

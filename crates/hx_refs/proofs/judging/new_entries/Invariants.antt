@@ -8,12 +8,12 @@ use Rattle.hx_refs.proofs.judging.new_entries.Given as goal
 
 abbrev pub invariant-loop-rest : goal.invariant-loop-rest
 invariant-loop-rest g l =
-    let demands = kept_demands l.reference l.limits in
+    let demands = kept_demands l.reference.kept l.limits in
     record {
       entries : added_entries l.entries.items ++ new_entries l.version l.serial l.rest ≡ new_entries l.version l.fn.serial l.pairs;
       count : l.count + length l.rest ≡ l.fn.count + length l.pairs;
       serial : l.serial + length l.rest ≡ l.fn.serial + length l.pairs;
-      ready : AreReadyFor (use_ways l.reference.uses) l.entries.items;
+      ready : AreReadyFor (use_ways l.reference.kept.uses) l.entries.items;
       fault :
           pairs_fault demands l.count l.serial l.rest
           ≡ pairs_fault demands l.fn.count l.fn.serial l.pairs;

@@ -4,7 +4,7 @@ use Rattle.hx_refs.proofs.laws.names_stay_distinct.Goals as goal
 
 pub returns-clause-new : goal.returns-clause-new
 returns-clause-new c = λ refs id file two_column acl number name.
-    own_names_more refs.references (new_reference id file two_column acl) number name
+    own_names_more refs.references (new_reference refs.first id file two_column acl) number name
 
 pub returns-clause-change : goal.returns-clause-change
 returns-clause-change c = λ refs. own_names_stay refs.references

@@ -2,7 +2,7 @@ use Rattle.hx_refs.proofs.FilledLemmas.{filled_length}
 use Rattle.std.proofs.Common.{ap, ◌∙◌, arith}
 use Rattle.std.proofs.lemmas.Result.{on_ok_weaker, IfErr-weaker}
 use Rattle.hx_refs.specs.Kept.{kept_demands, version_fault}
-use Rattle.hx_refs.proofs.ChangeLemmas.{has_version, no_version, same_version, seen_here, with_pairs_at, holds_here}
+use Rattle.hx_refs.proofs.ChangeLemmas.{has_version, no_version, same_version, seen_here, with_pairs_at}
 use Rattle.hx_refs.proofs.kept_references.KeptReferences.add.Goals as goal
 
 pub add_to-requires-clause-version : goal.add_to-requires-clause-version
@@ -48,11 +48,6 @@ returns-clause-large g c seen is =
 pub index-reference-requires : goal.index-reference-requires
 index-reference-requires g c =
     omega (arith, rw (← c.self.view_is) at c.requires, filled_length c.self.inside.references.items c.self.inside.store.rows, c.self.inside.references.ok.0)
-
-pub number-requires : goal.number-requires
-number-requires g c =
-    (holds_here c.self.inside.references.items c.self.inside.store c.args.r c.index-reference.result.now
-    (rw (← c.self.view_is) at c.requires) c.index-reference.ensures c.self.invariant).order
 
 pub returns-in_default-clause-refused : goal.returns-in_default-clause-refused
 returns-in_default-clause-refused g c seen is =

@@ -3,7 +3,8 @@ use Rattle.hx_refs.specs.References.{with_output, Reference}
 use Rattle.hx_versions.specs.Rows.{row_at}
 use Rattle.hx_refs.proofs.ChangeLemmas.{holds_here}
 use Rattle.hx_refs.proofs.FilledLemmas.{kept_at, kept_changed, kept_filled, row_within, filled_length}
-use Rattle.hx_refs.proofs.ReferenceLemmas.{filled_read, with_out}
+use Rattle.hx_refs.specs.Kept.{with_out}
+use Rattle.hx_refs.proofs.ReferenceLemmas.{filled_read}
 use Rattle.hx_refs.proofs.kept_references.KeptReferences.add_out.Goals as goal
 
 pub invariant_of-self : goal.invariant_of-self

@@ -1,5 +1,5 @@
 use Rattle.std.proofs.lemmas.Bool.{eqb-true, eqb-false}
-use Rattle.hx_refs.specs.Kept.{IsAdded, Kept}
+use Rattle.hx_refs.specs.Kept.{stored_last, IsAdded, Kept}
 use Rattle.std.proofs.Common.{ap, arith, ◌≡◌, ◌<◌, length, subst, sym, ◌∙◌}
 use Rattle.std.proofs.lemmas.List.{length-map}
 use Rattle.std.proofs.lemmas.Result.{on_ok_weaker, on_err_weaker}
@@ -30,8 +30,9 @@ append-requires-clause-few c first last numbers =
     let requires = rw (← c.self.view_is) at c.requires.r in
     let few = rw (← c.self.view_is) at c.requires.few in
     let seen = seen_here c.self.inside.references.items c.self.inside.store c.args.r c.index-reference.result.now requires c.index-reference.ensures c.self.invariant in
+    let has = (rw (← c.self.view_is) at c.requires.version) _ seen in
     few_in_row c.self.inside.references.items c.self.inside.store c.args.r c.index-reference.result.now requires c.index-reference.ensures c.self.invariant
-    c.args.number _ _ (few _ seen)
+    c.args.number c.stored_number-stored.result _ _ has c.stored_number-stored.ensures (few _ seen)
 
 pub index-reference-requires : goal.index-reference-requires
 index-reference-requires c =
@@ -66,12 +67,12 @@ invariant_of-self c =
     let serial = c.args.added.serial in
     let asked = (rw (← c.self.view_is) at c.requires.pairs) _ seen in
     let some : 0 < length items = omega (arith, c.args.added.entries.ok.0, eqb-false _ 0 (sym c.is_empty.ensures ∙ c.if-is_empty.false)) in
-    let few = counted_in_row kept store c.args.r k requires c.index-reference.ensures c.self.invariant c.args.number asked.0 (added_entries items) serial (length items) has asked.1 (length-map items added_entry) in
+    let few = counted_in_row kept store c.args.r k requires c.index-reference.ensures c.self.invariant c.args.number c.stored_number-stored.result asked.0 (added_entries items) serial (length items) has c.stored_number-stored.ensures asked.1 (length-map items added_entry) in
     let searched = rw c.uses.ensures at c.append.ensures.searched in
-    let counted = c.append.ensures.counted k.shown.curr k.shown.next here.numbers here.counted (omega (arith, some, few)) few in
+    let counted = c.append.ensures.counted k.stored_first (stored_last k) here.numbers here.counted (omega (arith, some, few)) few in
     either c.append.result
     (λ changes. (entries_appended kept store c.append.new.self c.args.r k requires c.index-reference.ensures c.self.invariant c.append.ensures.others
-    c.args.number asked.0 (added_entries items) serial has asked.1 changes searched counted).is_filled)
+    c.args.number c.stored_number-stored.result asked.0 (added_entries items) serial has c.stored_number-stored.ensures asked.1 changes searched counted).is_filled)
     (λ same. rw same c.self.invariant) c.append.ensures.ok c.append.ensures.err
 
 pub returns-clause-ok : goal.returns-clause-ok
@@ -87,14 +88,14 @@ returns-clause-ok c =
     let serial = c.args.added.serial in
     let asked = (rw (← c.self.view_is) at c.requires.pairs) _ seen in
     let some : 0 < length items = omega (arith, c.args.added.entries.ok.0, eqb-false _ 0 (sym c.is_empty.ensures ∙ c.if-is_empty.false)) in
-    let few = counted_in_row kept store c.args.r k requires c.index-reference.ensures c.self.invariant c.args.number asked.0 (added_entries items) serial (length items) has asked.1 (length-map items added_entry) in
+    let few = counted_in_row kept store c.args.r k requires c.index-reference.ensures c.self.invariant c.args.number c.stored_number-stored.result asked.0 (added_entries items) serial (length items) has c.stored_number-stored.ensures asked.1 (length-map items added_entry) in
     let searched = rw c.uses.ensures at c.append.ensures.searched in
-    let counted = c.append.ensures.counted k.shown.curr k.shown.next here.numbers here.counted (omega (arith, some, few)) few in
+    let counted = c.append.ensures.counted k.stored_first (stored_last k) here.numbers here.counted (omega (arith, some, few)) few in
     rw (← c.self.view_is)
     (on_ok_weaker c.append.result
     (λ changes seen_k pairs is added.
     (entries_appended kept store c.append.new.self c.args.r k requires c.index-reference.ensures c.self.invariant c.append.ensures.others
-    c.args.number pairs (added_entries items) serial has
+    c.args.number c.stored_number-stored.result pairs (added_entries items) serial has c.stored_number-stored.ensures
     (subst (λ (x : Kept). IsAdded x c.args.number pairs (added_entries items) serial) (seen_from kept store c.args.r k seen_k requires c.index-reference.ensures is) added)
     changes searched counted).shown)
     c.append.ensures.ok)
@@ -107,7 +108,11 @@ returns-clause-err c =
 pub append-requires-clause-numbered : goal.append-requires-clause-numbered
 append-requires-clause-numbered c =
     let k = c.index-reference.result.now in (
-      k.shown.curr,
-      k.shown.next,
+      k.stored_first,
+      stored_last k,
       (holds_here c.self.inside.references.items c.self.inside.store c.args.r k (rw (← c.self.view_is) at c.requires.r) c.index-reference.ensures c.self.invariant).numbers,
     )
+
+pub stored_number-stored-requires : goal.stored_number-stored-requires
+stored_number-stored-requires c =
+    (rw (← c.self.view_is) at c.requires.version) _ (seen_here c.self.inside.references.items c.self.inside.store c.args.r c.index-reference.result.now (rw (← c.self.view_is) at c.requires.r) c.index-reference.ensures c.self.invariant)

@@ -23,7 +23,7 @@ find-requires-clause-way g c =
     let requires = rw (← c.self.view_is) at c.requires.r in
     let here = holds_here kept c.self.inside.store c.args.r k requires c.index-reference.ensures c.self.invariant in
     let known = rw (← c.self.view_is) at c.requires.known in (
-      use_ways k.uses,
+      use_ways k.kept.uses,
       here.searched,
       known _ (seen_here kept c.self.inside.store c.args.r k requires c.index-reference.ensures c.self.invariant),
     )
@@ -38,7 +38,7 @@ returns-clause-found g c =
     let here = holds_here kept c.self.inside.store c.args.r k requires c.index-reference.ensures c.self.invariant in
     IfOk-weaker c.find.result _ _
     (λ hit found seen is. found
-    ∙ ap (λ n. found_entry c.args.by c.args.ci (first_entries n row) v) c.current-number.ensures
+    ∙ ap (λ n. found_entry c.args.by c.args.ci (first_entries n row) v) c.stored_first-number.ensures
     ∙ ap (λ entries. found_entry c.args.by c.args.ci entries v) (searched_first k row here)
     ∙ ap (λ (x : Kept). found_entry c.args.by c.args.ci (version_entries x.shown None) v)
     (sym (seen_from kept c.self.inside.store c.args.r k seen requires c.index-reference.ensures (rw (← c.self.view_is) at is))))
@@ -52,7 +52,7 @@ returns-clause-cost g c seen is =
     let row = row_at c.self.inside.store c.args.r in
     let v = value_of c.args.sample.now in
     let here = holds_here kept c.self.inside.store c.args.r k requires c.index-reference.ensures c.self.invariant in
-    let same = ap (λ n. search_steps c.args.by c.args.ci (first_entries n row) v) c.current-number.ensures
+    let same = ap (λ n. search_steps c.args.by c.args.ci (first_entries n row) v) c.stored_first-number.ensures
     ∙ ap (λ entries. search_steps c.args.by c.args.ci entries v) (searched_first k row here)
     ∙ ap (λ (x : Kept). search_steps c.args.by c.args.ci (version_entries x.shown None) v)
     (sym (seen_from kept c.self.inside.store c.args.r k seen requires c.index-reference.ensures (rw (← c.self.view_is) at is))) in

@@ -19,11 +19,11 @@ returns c seen is =
     let requires = rw (← c.self.view_is) at c.requires in
     let here = holds_here kept c.self.inside.store c.args.r k requires c.index-reference.ensures c.self.invariant in
     let told : ℕ → RefInfo = λ n. record {
-      id = k.shown.id;
-      two_column = k.shown.two_column;
-      acl = k.shown.acl;
-      curr = k.shown.curr;
-      next = k.shown.next;
+      id = k.kept.shown.id;
+      two_column = k.kept.shown.two_column;
+      acl = k.kept.shown.acl;
+      curr = k.kept.shown.curr;
+      next = k.kept.shown.next;
       count = n;
     } in
     c.info.ensures

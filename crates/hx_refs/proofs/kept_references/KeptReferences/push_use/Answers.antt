@@ -1,11 +1,11 @@
-use Rattle.std.proofs.Common.{ap, refl, sym, ◌∙◌, arith}
+use Rattle.std.proofs.Common.{◌++◌, ◌∷◌, [], ap, sym, ◌∙◌, arith}
 use Rattle.std.proofs.lemmas.Result.{on_err_weaker, on_ok_weaker}
 use Rattle.std.specs.Prelude.{slice_set}
-use Rattle.hx_refs.specs.Kept.{all_filled, Kept}
+use Rattle.hx_refs.specs.Kept.{all_filled, with_use, Kept}
 use Rattle.hx_versions.specs.Rows.{row_at}
 use Rattle.hx_refs.proofs.ChangeLemmas.{either, holds_here, seen_here}
 use Rattle.hx_refs.proofs.FilledLemmas.{kept_at, kept_filled, kept_set, row_within, seen_from, filled_length, kept_same, state_of}
-use Rattle.hx_refs.proofs.ReferenceLemmas.{filled_unused, with_use}
+use Rattle.hx_refs.proofs.ReferenceLemmas.{filled_unused}
 use Rattle.hx_refs.proofs.kept_references.KeptReferences.push_use.Goals as goal
 
 pub invariant_of-self : goal.invariant_of-self
@@ -21,7 +21,7 @@ invariant_of-self c =
     (λ same. rw same
     (kept_filled kept store c.args.r k found (row_within kept store c.args.r requires c.self.invariant) c.self.invariant
     (with_use c.args.by c.args.ci c.args.head k)
-    (filled_unused k (with_use c.args.by c.args.ci c.args.head k) (row_at store c.args.r) here empty refl)))
+    (filled_unused c.args.by c.args.ci c.args.head k (row_at store c.args.r) here empty)))
     (λ same. rw (kept_same kept c.args.r k _ found same) c.self.invariant)
     c.push_use.ensures.ok c.push_use.ensures.err
 
@@ -36,7 +36,7 @@ returns-clause-ok c =
     (on_ok_weaker c.push_use.result
     (λ same seen is. rw same
     (kept_set kept store c.args.r k found (row_within kept store c.args.r requires c.self.invariant) c.self.invariant (with_use c.args.by c.args.ci c.args.head k)
-    ∙ ap (λ (x : Kept). slice_set (all_filled kept store.rows) c.args.r (with_use c.args.by c.args.ci c.args.head x))
+    ∙ ap (λ (x : Kept). slice_set (all_filled kept store.rows) c.args.r (record x { uses = x.uses ++ record { by = c.args.by; ci = c.args.ci; head = c.args.head } ∷ [] }))
     (sym (seen_from kept store c.args.r k seen requires c.index_mut-reference.ensures.value is))))
     c.push_use.ensures.ok)
 

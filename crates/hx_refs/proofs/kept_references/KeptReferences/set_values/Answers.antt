@@ -4,7 +4,7 @@ use Rattle.std.proofs.lemmas.Result.{on_ok_weaker, on_err_weaker}
 use Rattle.hx_sample.specs.Changes.{with_value}
 use Rattle.hx_versions.specs.Rows.{changed_entries}
 use Rattle.hx_versions.specs.Versions.{is_chosen}
-use Rattle.hx_refs.proofs.ChangeLemmas.{either, holds_here, none_changed, version_changed}
+use Rattle.hx_refs.proofs.ChangeLemmas.{either, none_changed, version_changed}
 use Rattle.hx_refs.proofs.NumberLemmas.{rising_with}
 use Rattle.hx_refs.proofs.kept_references.KeptReferences.set_values.Goals as goal
 
@@ -14,7 +14,7 @@ invariant_of-self c =
     (λ changes.
     (version_changed c.self.inside.references.items c.self.inside.store c.set.new.self c.args.r c.index-reference.result.now
     (rw (← c.self.view_is) at c.requires) c.index-reference.ensures c.self.invariant c.set.ensures.others
-    c.in-Some.number c.args.ver (changed_entries (map (with_value (is_chosen c.args.choice.now) c.args.value.now))) c.in-Some.ensures.version c.in-Some.ensures.place
+    c.in-Some.number c.stored_number-stored.result c.args.ver (changed_entries (map (with_value (is_chosen c.args.choice.now) c.args.value.now))) c.in-Some.ensures.version c.stored_number-stored.ensures c.in-Some.ensures.place
     changes c.set.ensures.searched c.set.ensures.counted
     (rising_with c.in-Some.number (is_chosen c.args.choice.now) c.args.value.now)).is_filled)
     (λ same. rw same c.self.invariant) c.set.ensures.ok c.set.ensures.err
@@ -26,7 +26,7 @@ returns-clause-ok c =
     (λ changes.
     (version_changed c.self.inside.references.items c.self.inside.store c.set.new.self c.args.r c.index-reference.result.now
     (rw (← c.self.view_is) at c.requires) c.index-reference.ensures c.self.invariant c.set.ensures.others
-    c.in-Some.number c.args.ver (changed_entries (map (with_value (is_chosen c.args.choice.now) c.args.value.now))) c.in-Some.ensures.version c.in-Some.ensures.place
+    c.in-Some.number c.stored_number-stored.result c.args.ver (changed_entries (map (with_value (is_chosen c.args.choice.now) c.args.value.now))) c.in-Some.ensures.version c.stored_number-stored.ensures c.in-Some.ensures.place
     changes c.set.ensures.searched c.set.ensures.counted
     (rising_with c.in-Some.number (is_chosen c.args.choice.now) c.args.value.now)).shown)
     c.set.ensures.ok)
@@ -43,11 +43,6 @@ pub returns-clause-err : goal.returns-clause-err
 returns-clause-err c =
     rw (← c.self.view_is)
     (on_err_weaker c.set.result (ap (state_of c.self.inside.references.items)) c.set.ensures.err)
-
-pub number-requires : goal.number-requires
-number-requires c =
-    (holds_here c.self.inside.references.items c.self.inside.store c.args.r c.index-reference.result.now
-    (rw (← c.self.view_is) at c.requires) c.index-reference.ensures c.self.invariant).order
 
 pub returns-in_default-clause-ok : goal.returns-in_default-clause-ok
 returns-in_default-clause-ok c =

@@ -16,7 +16,7 @@ invariant_of-self c = record {
 pub returns-clause-ok : goal.returns-clause-ok
 returns-clause-ok c =
     rw (← c.self.view_is)
-    (content_after c.self.inside.limits (table_heads c.self.inside.heads.items) c.self.inside.kept.kept c.add_out.new.self.kept c.args.r
+    (content_after c.self.inside.limits c.self.inside.first (table_heads c.self.inside.heads.items) c.self.inside.kept.kept c.add_out.new.self.kept c.args.r
     (λ (old : Reference). record old { outputs = with_output c.args.out old.outputs }) c.add_out.ensures)
 
 pub add_out-requires : goal.add_out-requires

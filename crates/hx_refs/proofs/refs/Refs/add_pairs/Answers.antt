@@ -1,4 +1,3 @@
-use Rattle.std.proofs.Common.{ap, refl}
 use Rattle.std.proofs.lemmas.Result.{on_ok_weaker}
 use Rattle.std.proofs.lemmas.List.{length-map}
 use Rattle.std.proofs.lemmas.Result.{IfErr-weaker}
@@ -22,7 +21,7 @@ pub returns-clause-ok : goal.returns-clause-ok
 returns-clause-ok g c =
     rw (← c.self.view_is)
     (on_ok_weaker c.add.result
-    (content_after c.self.inside.limits (table_heads c.self.inside.heads.items) c.self.inside.kept.kept c.add.new.self.kept c.args.r (with_pairs c.args.ver c.args.pairs.now))
+    (content_after c.self.inside.limits c.self.inside.first (table_heads c.self.inside.heads.items) c.self.inside.kept.kept c.add.new.self.kept c.args.r (with_pairs c.args.ver c.args.pairs.now))
     c.add.ensures.ok)
 
 pub returns-clause-none : goal.returns-clause-none
@@ -31,7 +30,7 @@ returns-clause-none g c =
     let within = rw (length-map kept (λ k. k.shown)) at (rw (← c.self.view_is) at c.requires) in
     let found = found_within kept c.args.r within in
     rw (← c.self.view_is)
-    (rw (fault_at c.self.inside.limits (table_heads c.self.inside.heads.items) kept c.args.r found.0 c.args.ver c.args.pairs.now c.self.invariant.all found.1)
+    (rw (fault_at c.self.inside.limits c.self.inside.first (table_heads c.self.inside.heads.items) kept c.args.r found.0 c.args.ver c.args.pairs.now c.self.invariant.all found.1)
     (on_ok_weaker c.add.result (λ none. none found.0 found.1) c.add.ensures.none))
 
 pub returns-clause-refused : goal.returns-clause-refused
@@ -40,7 +39,7 @@ returns-clause-refused g c =
     let within = rw (length-map kept (λ k. k.shown)) at (rw (← c.self.view_is) at c.requires) in
     let found = found_within kept c.args.r within in
     rw (← c.self.view_is)
-    (rw (fault_at c.self.inside.limits (table_heads c.self.inside.heads.items) kept c.args.r found.0 c.args.ver c.args.pairs.now c.self.invariant.all found.1)
+    (rw (fault_at c.self.inside.limits c.self.inside.first (table_heads c.self.inside.heads.items) kept c.args.r found.0 c.args.ver c.args.pairs.now c.self.invariant.all found.1)
     (IfErr-weaker c.add.result _ _ (λ fault may. may found.0 found.1) c.add.ensures.refused))
 
 pub returns-clause-large : goal.returns-clause-large
@@ -52,7 +51,7 @@ returns-clause-large g c =
     (asked_wider c.add.result
     (VersionAsksFor (kept_demands found.0 c.self.inside.limits) (version_of found.0.shown c.args.ver) c.args.pairs.now)
     _ _ _
-    (asked_at c.self.inside.limits (table_heads c.self.inside.heads.items) kept c.args.r found.0 c.args.ver c.args.pairs.now c.self.invariant.all found.1)
+    (asked_at c.self.inside.limits c.self.inside.first (table_heads c.self.inside.heads.items) kept c.args.r found.0 c.args.ver c.args.pairs.now c.self.invariant.all found.1)
     (c.add.ensures.large found.0 found.1))
 
 pub add-requires : goal.add-requires

@@ -1,4 +1,4 @@
-use Rattle.std.proofs.Common.{◌≡◌, ℕ, List, map, ap, arith, length, refl, sym, ◌∙◌, [], ◌∷◌, ◌++◌}
+use Rattle.std.proofs.Common.{◌≡◌, ℕ, List, map, ap, arith, length, refl, [], ◌∷◌, ◌++◌}
 use Rattle.std.proofs.lemmas.List.{length-map, map-append}
 use Rattle.hx_sample.specs.Tables.{TableHead}
 use Rattle.hx_refs.specs.Kept.{table_heads, PlacedHead}
@@ -21,7 +21,7 @@ returns-in-Some-clause-ok c =
     let within = rw (length-map kept (λ k. k.shown)) at (rw (← c.self.view_is) at c.requires.r) in
     let found = found_within kept c.args.r within in
     rw (← c.self.view_is)
-    (known_heads c.self.inside.limits (table_heads c.self.inside.heads.items) kept c.args.r found.0 c.args.by c.args.ci c.in-Some.head c.self.invariant.all found.1
+    (known_heads c.self.inside.limits c.self.inside.first (table_heads c.self.inside.heads.items) kept c.args.r found.0 c.args.by c.args.ci c.in-Some.head c.self.invariant.all found.1
     (c.in-Some.ensures found.0 found.1))
 
 pub push_use-requires-clause-empty : goal.push_use-requires-clause-empty
@@ -67,7 +67,7 @@ returns-clause-ok c =
     let last : PlacedHead = record { head = head; place = length found.0.uses } in
     rw (← c.self.view_is)
     (rw (no_use heads kept c.args.r found.0 c.args.by c.args.ci c.self.invariant.all found.1 (c.in_default.ensures found.0 found.1), c.in-Ok-push.ensures.items, c.reserve.ensures.items, c.use_count.ensures found.0 found.1, c.in_ok-push_use.ensures.ok found.0 found.1, shown_same kept c.args.r found.0 (record found.0 { uses = found.0.uses ++ record { by = c.args.by; ci = c.args.ci; head = c.in-Ok.head } ∷ [] }) found.1 refl)
-    (ap (λ (hs : List TableHead). content_of c.self.inside.limits hs kept)
+    (ap (λ (hs : List TableHead). content_of c.self.inside.limits c.self.inside.first hs kept)
     (map-append (λ (known : PlacedHead). known.head) c.self.inside.heads.items (last ∷ []))))
 
 pub head_with-requires : goal.head_with-requires

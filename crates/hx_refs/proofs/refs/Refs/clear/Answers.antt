@@ -17,7 +17,7 @@ invariant_of-self c = record {
 pub returns : goal.returns
 returns c =
     rw (← c.self.view_is)
-    (content_after c.self.inside.limits (table_heads c.self.inside.heads.items) c.self.inside.kept.kept c.clear.new.self.kept c.args.r
+    (content_after c.self.inside.limits c.self.inside.first (table_heads c.self.inside.heads.items) c.self.inside.kept.kept c.clear.new.self.kept c.args.r
     (with_entries c.args.ver (λ _. [])) c.clear.ensures)
 
 pub clear-requires : goal.clear-requires

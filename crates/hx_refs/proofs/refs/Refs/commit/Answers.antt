@@ -21,14 +21,14 @@ pub returns-clause-ok : goal.returns-clause-ok
 returns-clause-ok g c =
     rw (← c.self.view_is)
     (on_ok_weaker c.commit.result
-    (content_after c.self.inside.limits (table_heads c.self.inside.heads.items) c.self.inside.kept.kept c.commit.new.self.kept c.args.r (with_current_version c.args.ver))
+    (content_after c.self.inside.limits c.self.inside.first (table_heads c.self.inside.heads.items) c.self.inside.kept.kept c.commit.new.self.kept c.args.r (with_current_version c.args.ver))
     c.commit.ensures.ok)
 
 pub returns-clause-answer : goal.returns-clause-answer
 returns-clause-answer g c =
     rw (← c.self.view_is)
     (c.commit.ensures.answer
-    ∙ ap (answer tt) (sym (fault_shown c.self.inside.limits (table_heads c.self.inside.heads.items) c.self.inside.kept.kept c.args.r (commit_fault c.args.ver))))
+    ∙ ap (answer tt) (sym (fault_shown c.self.inside.limits c.self.inside.first (table_heads c.self.inside.heads.items) c.self.inside.kept.kept c.args.r (commit_fault c.args.ver))))
 
 pub returns-clause-cost : goal.returns-clause-cost
 returns-clause-cost g c =

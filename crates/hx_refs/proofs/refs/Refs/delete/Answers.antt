@@ -21,14 +21,14 @@ pub returns-clause-ok : goal.returns-clause-ok
 returns-clause-ok c =
     rw (← c.self.view_is)
     (on_ok_weaker c.delete.result
-    (content_after c.self.inside.limits (table_heads c.self.inside.heads.items) c.self.inside.kept.kept c.delete.new.self.kept c.args.r (with_entries c.args.ver (without_chosen (is_chosen c.args.choice.now))))
+    (content_after c.self.inside.limits c.self.inside.first (table_heads c.self.inside.heads.items) c.self.inside.kept.kept c.delete.new.self.kept c.args.r (with_entries c.args.ver (without_chosen (is_chosen c.args.choice.now))))
     c.delete.ensures.ok)
 
 pub returns-clause-answer : goal.returns-clause-answer
 returns-clause-answer c =
     rw (← c.self.view_is)
     (c.delete.ensures.answer
-    ∙ ap (answer tt) (sym (fault_shown c.self.inside.limits (table_heads c.self.inside.heads.items) c.self.inside.kept.kept c.args.r (deletion_fault c.args.ver (is_chosen c.args.choice.now)))))
+    ∙ ap (answer tt) (sym (fault_shown c.self.inside.limits c.self.inside.first (table_heads c.self.inside.heads.items) c.self.inside.kept.kept c.args.r (deletion_fault c.args.ver (is_chosen c.args.choice.now)))))
 
 pub delete-requires : goal.delete-requires
 delete-requires c = rw (length-map c.self.inside.kept.kept (λ k. k.shown)) at (rw (← c.self.view_is) at c.requires)

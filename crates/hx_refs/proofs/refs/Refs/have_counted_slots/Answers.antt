@@ -8,12 +8,12 @@ pub returns-clause-least : goal.returns-clause-least
 returns-clause-least c =
     rw (← c.self.view_is)
     (subst (λ n. n + c.self.inside.kept.slots.retired ≤ c.self.inside.kept.slots.used)
-    (sym (same_slots least_slots c.self.inside.limits (table_heads c.self.inside.heads.items) c.self.inside.kept.kept c.self.invariant.all))
+    (sym (same_slots least_slots c.self.inside.limits c.self.inside.first (table_heads c.self.inside.heads.items) c.self.inside.kept.kept c.self.invariant.all))
     c.have_counted_slots.ensures.least)
 
 pub returns-clause-most : goal.returns-clause-most
 returns-clause-most c =
     rw (← c.self.view_is)
     (subst (λ n. c.self.inside.kept.slots.used ≤ n + c.self.inside.kept.slots.retired)
-    (sym (same_slots most_slots c.self.inside.limits (table_heads c.self.inside.heads.items) c.self.inside.kept.kept c.self.invariant.all))
+    (sym (same_slots most_slots c.self.inside.limits c.self.inside.first (table_heads c.self.inside.heads.items) c.self.inside.kept.kept c.self.invariant.all))
     c.have_counted_slots.ensures.most)

@@ -1,4 +1,4 @@
-use Rattle.std.proofs.Common.{ap, refl}
+use Rattle.std.proofs.Common.{refl}
 use Rattle.std.proofs.lemmas.List.{length-map}
 use Rattle.std.proofs.lemmas.Option.{slice_get-map}
 use Rattle.hx_refs.specs.Kept.{table_heads, Kept}
@@ -20,7 +20,7 @@ pub returns-clause-ok : goal.returns-clause-ok
 returns-clause-ok c =
     rw (← c.self.view_is)
     (on_ok_weaker c.prepare.result
-    (content_after c.self.inside.limits (table_heads c.self.inside.heads.items) c.self.inside.kept.kept c.prepare.new.self.kept c.args.r with_new_version)
+    (content_after c.self.inside.limits c.self.inside.first (table_heads c.self.inside.heads.items) c.self.inside.kept.kept c.prepare.new.self.kept c.args.r with_new_version)
     c.prepare.ensures.ok)
 
 pub returns-clause-answer : goal.returns-clause-answer

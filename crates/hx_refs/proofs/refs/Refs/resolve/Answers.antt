@@ -9,4 +9,4 @@ resolve-requires c = c.self.invariant.all.few
 pub returns : goal.returns
 returns c =
     rw (← c.self.view_is)
-    (c.resolve.ensures (content_of c.self.inside.limits (table_heads c.self.inside.heads.items) c.self.inside.kept.kept) refl)
+    (c.resolve.ensures (content_of c.self.inside.limits c.self.inside.first (table_heads c.self.inside.heads.items) c.self.inside.kept.kept) refl)

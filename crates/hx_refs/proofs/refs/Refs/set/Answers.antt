@@ -21,19 +21,19 @@ pub returns-clause-ok : goal.returns-clause-ok
 returns-clause-ok c =
     rw (← c.self.view_is)
     (on_ok_weaker c.set.result
-    (content_after c.self.inside.limits (table_heads c.self.inside.heads.items) c.self.inside.kept.kept c.set.new.self.kept c.args.r (with_entries c.args.ver (map (with_value (is_chosen c.args.choice.now) c.args.value.now))))
+    (content_after c.self.inside.limits c.self.inside.first (table_heads c.self.inside.heads.items) c.self.inside.kept.kept c.set.new.self.kept c.args.r (with_entries c.args.ver (map (with_value (is_chosen c.args.choice.now) c.args.value.now))))
     c.set.ensures.ok)
 
 pub returns-clause-none : goal.returns-clause-none
 returns-clause-none c =
     rw (← c.self.view_is)
-    (rw (fault_shown c.self.inside.limits (table_heads c.self.inside.heads.items) c.self.inside.kept.kept c.args.r (value_fault c.args.ver (is_chosen c.args.choice.now) c.args.value.now))
+    (rw (fault_shown c.self.inside.limits c.self.inside.first (table_heads c.self.inside.heads.items) c.self.inside.kept.kept c.args.r (value_fault c.args.ver (is_chosen c.args.choice.now) c.args.value.now))
     c.set.ensures.none)
 
 pub returns-clause-refused : goal.returns-clause-refused
 returns-clause-refused c =
     rw (← c.self.view_is)
-    (rw (fault_shown c.self.inside.limits (table_heads c.self.inside.heads.items) c.self.inside.kept.kept c.args.r (value_fault c.args.ver (is_chosen c.args.choice.now) c.args.value.now))
+    (rw (fault_shown c.self.inside.limits c.self.inside.first (table_heads c.self.inside.heads.items) c.self.inside.kept.kept c.args.r (value_fault c.args.ver (is_chosen c.args.choice.now) c.args.value.now))
     c.set.ensures.refused)
 
 pub set-requires : goal.set-requires

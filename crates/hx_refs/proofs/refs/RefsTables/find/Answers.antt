@@ -1,7 +1,6 @@
 use Rattle.std.proofs.Common.{length, refl, ◌∙◌}
 use Rattle.std.proofs.lemmas.Option.{slice_get_read}
 use Rattle.std.proofs.lemmas.Result.{IfOk-weaker}
-use Rattle.hx_sample.specs.Tables.{TableHead}
 use Rattle.hx_sample.specs.Seen.{value_of}
 use Rattle.hx_refs.specs.Kept.{table_heads, PlacedHead}
 use Rattle.hx_refs.proofs.KeptLemmas.{cost_here, found_here, found_within, reference_within}
@@ -45,7 +44,7 @@ returns-clause-found g c =
     rw (← c.self.view_is)
     (IfOk-weaker c.find.result _ _
     (λ hit is. is found.0 found.1
-    ∙ found_here c.self.inside.limits (table_heads heads) kept c.args.head here.head found.0 (value_of c.args.sample.now) within read found.1)
+    ∙ found_here c.self.inside.limits c.self.inside.first (table_heads heads) kept c.args.head here.head found.0 (value_of c.args.sample.now) within read found.1)
     c.find.ensures.found)
 
 pub returns-clause-free : goal.returns-clause-free
@@ -73,5 +72,5 @@ returns-clause-cost g c =
     let read = head_read heads c.args.head here (head_count heads c.args.head within) (rw (← c.known.view_is) at c.index-known.ensures) in
     let found = found_within kept here.head.list (reference_within (table_heads heads) kept c.args.head here.head c.self.invariant.all within read) in
     rw (← c.self.view_is)
-    (rw (cost_here c.self.inside.limits (table_heads heads) kept c.args.head here.head found.0 (value_of c.args.sample.now) within read found.1)
+    (rw (cost_here c.self.inside.limits c.self.inside.first (table_heads heads) kept c.args.head here.head found.0 (value_of c.args.sample.now) within read found.1)
     at (c.find.ensures.cost found.0 found.1))
