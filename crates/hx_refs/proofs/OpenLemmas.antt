@@ -10,7 +10,7 @@ use Rattle.hx_refs.specs.declared.fault.RefFault.TheVariants.{BadVersion, NoMore
 use Rattle.hx_refs.specs.declared.limits.Limits.{Limits}
 use Rattle.hx_refs.specs.Numbers.{HasShortNumbers, HasVersionsInOrder}
 use Rattle.hx_refs.specs.References.{changed_at, empty_version, is_open, span, version_place, Reference, Version}
-use Rattle.hx_refs.specs.VersionNumbers.{ahead, is_from_to}
+use Rattle.hx_refs.specs.VersionNumbers.{ahead, is_from_to, number_ahead}
 use Rattle.hx_refs.specs.Versions.{HasVersion}
 use Rattle.hx_refs.proofs.VersionNumberLemmas.{ahead_behind, ahead_fits, ahead_next, ahead_on, number_fits}
 
@@ -79,6 +79,22 @@ module _ (old : Reference) (short : HasShortNumbers old) (room : span old + 1 < 
   -- how far the new version is ahead
   next_ahead : span (with_new_version old) ≡ span old + 1
   next_ahead = ahead_next old.curr old.next short.0 short.1 room
+
+  -- its number is that of no version so far
+  pub unused_prepared : is_open old (number_ahead old.next 1) ≡ false
+  unused_prepared =
+      false_from_ne_true (is_open old (number_ahead old.next 1)) (λ is.
+      let has = opened old (number_ahead old.next 1) is in
+      omega (arith, has.1, next_ahead))
+
+  pub new_open : is_open (with_new_version old) (number_ahead old.next 1) ≡ true
+  new_open =
+      is_opened (with_new_version old) (number_ahead old.next 1)
+      (number_fits old.next 1 short.1 (omega arith), omega arith)
+
+  -- and its place is the last
+  pub new_place : HasVersionsInOrder old → ahead old.curr (number_ahead old.next 1) ≡ length old.versions
+  new_place order = omega (arith, next_ahead, order.count)
 
   pub open_prepared : (number : ℕ) → is_open old number ≡ true → is_open (with_new_version old) number ≡ true
   open_prepared number is =

@@ -1,21 +1,21 @@
 -- What is searched after changes of versions that aren't, and after a commit.
-use Rattle.std.proofs.Common.{◌≡◌, ◌≢◌, ℕ, zero, suc, ◌+◌, ◌<◌, Bool, List, [], ◌∷◌, ◌++◌, length, map, drop, refl, ap, sym, ◌∙◌, arith, inl, inr}
-use Rattle.std.specs.Prelude.{Option, None, Some, IfSome, slice_get, slice_set}
+use Rattle.std.proofs.Common.{◌≡◌, ◌≢◌, ℕ, zero, suc, ◌+◌, ◌^◌, ◌<◌, Bool, false, List, [], ◌∷◌, ◌++◌, length, map, drop, refl, ap, sym, ◌∙◌, arith, inl, inr}
+use Rattle.std.specs.Prelude.{Option, None, Some, is_some, IfSome, slice_get, slice_set}
 use Rattle.std.specs.Option.{option_map_or}
 use Rattle.std.proofs.lemmas.Bool.{cases_Bool}
 use Rattle.std.proofs.lemmas.Option.{slice_get_cases}
 use Rattle.hx_sample.specs.Changes.{with_value, without_chosen}
 use Rattle.hx_sample.specs.Find.{Entry}
 use Rattle.hx_refs.specs.Additions.{after_addition, Pair}
-use Rattle.hx_refs.specs.Changes.{after_change_of_value, after_clearing, after_commit, after_deletion, after_preparation, commit_fault, fault_at, with_current_version, with_new_version, with_version}
-use Rattle.hx_refs.specs.Numbers.{IsAnotherVersion, IsNotBehind, IsNotSearched}
+use Rattle.hx_refs.specs.Changes.{after_change_of_value, after_clearing, after_commit, after_deletion, after_preparation, commit_fault, fault_at, preparation_fault, prepared_version, with_current_version, with_new_version, with_version}
+use Rattle.hx_refs.specs.Numbers.{HasRoom, HasVersionsInOrder, IsAnotherVersion, IsNotBehind, IsNotSearched}
 use Rattle.hx_refs.specs.declared.limits.Limits.{Limits}
-use Rattle.hx_refs.specs.References.{changed_at, empty_version, entries_in, is_open, searched_lists, version_entries, with_reference, Reference, References, Version}
-use Rattle.hx_refs.specs.VersionNumbers.{ahead}
+use Rattle.hx_refs.specs.References.{changed_at, empty_version, entries_in, has_version, is_open, searched_lists, version_entries, version_place, with_reference, Reference, References, Version}
+use Rattle.hx_refs.specs.VersionNumbers.{ahead, number_ahead}
 use Rattle.hx_versions.specs.Rows.{changed_entries}
 use Rattle.hx_refs.specs.Versions.{with_new_entries}
-use Rattle.hx_refs.proofs.ListLemmas.{get_set_other, get_set_same}
-use Rattle.hx_refs.proofs.OpenLemmas.{committed_open, none_committed, open_committed, opened}
+use Rattle.hx_refs.proofs.ListLemmas.{get_last, get_set_other, get_set_same}
+use Rattle.hx_refs.proofs.OpenLemmas.{committed_open, new_open, new_place, none_committed, open_committed, opened, prepared_room, unused_prepared}
 use Rattle.hx_refs.proofs.TableLemmas.{list_at, lists_with, set_same}
 use Rattle.hx_refs.proofs.VersionNumberLemmas.{ahead_apart}
 
@@ -158,5 +158,39 @@ later_after_commit refs r number later none ahead_of = elim (slice_get_cases ref
       let far : IsNotBehind number later w.0 = rw w.2 at ahead_of in
       rw (w.2, get_set_same refs.references r w.0 (with_current_version number w.0) w.2)
       (later_stays number later w.0 fine far)
+  | inr past ↦ rw (past.1, past.1) refl
+]
+
+-- ---- a number of its own
+
+unused_here : (limits : Limits) (old : Reference) → limits.versions < 2 ^ 32 → HasVersionsInOrder old → preparation_fault limits old ≡ None
+    → is_some (version_place old (Some (number_ahead old.next 1))) ≡ false
+unused_here limits old few order none =
+    rw (unused_prepared old order.short (prepared_room limits old few none)) refl
+
+empty_here : (limits : Limits) (old : Reference) → limits.versions < 2 ^ 32 → HasVersionsInOrder old → preparation_fault limits old ≡ None
+    → version_entries (with_new_version old) (Some (number_ahead old.next 1)) ≡ []
+empty_here limits old few order none =
+    let room = prepared_room limits old few none in
+    rw (new_open old order.short room, new_place old order.short room order, get_last old.versions empty_version) refl
+
+pub unused_number : (refs : References) (r : ℕ) → HasRoom refs r → fault_at refs r (preparation_fault refs.limits) ≡ None
+    → has_version refs r (Some (prepared_version refs r)) ≡ false
+unused_number refs r room none = go (slice_get refs.references r) room.1 none
+  where
+    go : (found : Option Reference) → IfSome found HasVersionsInOrder → option_map_or (preparation_fault refs.limits) found None ≡ None
+        → option_map_or
+        (λ reference. is_some (version_place reference (Some (option_map_or (λ old. number_ahead old.next 1) found 0)))) found false
+        ≡ false
+    go None order none = refl
+    go (Some x) order none = unused_here refs.limits x room.0 order none
+
+pub no_entries : (refs : References) (r : ℕ) → HasRoom refs r → fault_at refs r (preparation_fault refs.limits) ≡ None
+    → entries_in (after_preparation refs r) r (Some (prepared_version refs r)) ≡ []
+no_entries refs r room none = elim (slice_get_cases refs.references r).1 [
+  | inl w ↦
+      let order : HasVersionsInOrder w.0 = rw w.2 at room.1 in
+      let fine : preparation_fault refs.limits w.0 ≡ None = rw w.2 at none in
+      rw (w.2, get_set_same refs.references r w.0 (with_new_version w.0) w.2) (empty_here refs.limits w.0 room.0 order fine)
   | inr past ↦ rw (past.1, past.1) refl
 ]

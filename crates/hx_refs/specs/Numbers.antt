@@ -18,6 +18,12 @@ pub record HasVersionsInOrder (reference : Reference) : Type 0 where
   pub short : HasShortNumbers reference
   pub count : length reference.versions ≡ span reference + 1
 
+-- the versions of the reference at a position are in order, and no more of them may be prepared
+-- than there are numbers
+abbrev pub HasRoom : References → ℕ → Type 0
+HasRoom refs r =
+    (refs.limits.versions < 2 ^ 32) × IfSome (slice_get refs.references r) HasVersionsInOrder
+
 -- the number isn't that of the version of a reference that is searched; the versions are in order,
 -- and no more of them may be prepared than there are numbers
 pub record IsAnotherVersion (limits : Limits) (number : ℕ) (reference : Reference) : Type 0 where

@@ -1,10 +1,10 @@
 //! Laws: what the definitions of versions imply, and what holds of references at any time.
-ghost use Rattle.std.specs.Prelude.{◌≡◌, ◌≢◌, ℕ, ◌+◌, ◌^◌, ◌<◌, ◌≤◌, Bool, List, Option, None, Some, All, IfSome, length, slice_get};
+ghost use Rattle.std.specs.Prelude.{◌≡◌, ◌≢◌, ℕ, ◌+◌, ◌^◌, ◌<◌, ◌≤◌, Bool, List, [], Option, false, None, Some, All, IfSome, length, slice_get};
 ghost use Rattle.hx_sample.specs.Find.{Entry};
 ghost use Rattle.hx_refs.specs.Additions.{after_addition, Pair};
-ghost use Rattle.hx_refs.specs.Changes.{after_change_of_value, after_clearing, after_commit, after_deletion, after_preparation, commit_fault, fault_at};
-ghost use Rattle.hx_refs.specs.Numbers.{HasVersionsInOrder, HaveOwnNames, IsNotBehind, IsNotSearched, NumbersRise};
-ghost use Rattle.hx_refs.specs.References.{entries_in, searched_lists, with_new, with_reference, Reference, References};
+ghost use Rattle.hx_refs.specs.Changes.{after_change_of_value, after_clearing, after_commit, after_deletion, after_preparation, commit_fault, fault_at, preparation_fault, prepared_version};
+ghost use Rattle.hx_refs.specs.Numbers.{HasVersionsInOrder, HaveOwnNames, HasRoom, IsNotBehind, IsNotSearched, NumbersRise};
+ghost use Rattle.hx_refs.specs.References.{entries_in, has_version, searched_lists, with_new, with_reference, Reference, References};
 ghost use Rattle.hx_refs.specs.SlotCounts.{least_slots, most_slots, slots_in_all};
 
 use crate::refs::Refs;
@@ -51,6 +51,17 @@ pub fn preparation_changes_no_search()
     ensures lists { (refs : References) (r : ℕ)
         → searched_lists (after_preparation refs r) ≡ searched_lists refs }
     ensures heads { (refs : References) (r : ℕ) → (after_preparation refs r).heads ≡ refs.heads }
+{}
+
+/// The version that is prepared, unless that is refused, gets a number that no version of the
+/// reference has, and has no entries. (A number of a version that was dropped may come again.)
+pub fn preparation_gives_an_unused_number()
+    ensures unused { (refs : References) (r : ℕ) → HasRoom refs r
+        → fault_at refs r (preparation_fault refs.limits) ≡ None
+        → has_version refs r (Some (prepared_version refs r)) ≡ false }
+    ensures empty { (refs : References) (r : ℕ) → HasRoom refs r
+        → fault_at refs r (preparation_fault refs.limits) ≡ None
+        → entries_in (after_preparation refs r) r (Some (prepared_version refs r)) ≡ [] }
 {}
 
 /// A commit, unless it is refused, changes one list that is searched, that of its reference: from

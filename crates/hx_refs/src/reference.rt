@@ -28,10 +28,10 @@ use std::marker::Model;
 /// How far the numbers of the entries of one version are from those of the next.
 const FIRST_NUMBER: u64 = 0x1_0000_0000;
 
-/// A reference with its uses. The store has its versions, in a row at the same position. The numbers
-/// of versions that callers know wrap. Those of the store don't: there the version that is searched
-/// has the number `stored_first`, and each that was prepared after it one more. They are the same
-/// until the first wrap.
+/// A reference with its uses. The store has its versions, in a row at the same position. The
+/// numbers of versions that callers know wrap. Those of the store don't: there the version that is
+/// searched has the number `stored_first`, and each that was prepared after it one more. They are
+/// the same until the first wrap.
 #[derive(Drop)]
 pub(crate) struct KeptReference {
     id: u32,
@@ -173,7 +173,8 @@ impl KeptReference {
 
     /// The use at a place in the order in which uses are told.
     pub(crate) fn use_at(&self, place: u32) -> Option<(By, bool, u32)>
-        ensures { result ≡ option_map use_parts (slice_get (uses_in_order self.now.kept.uses) place) }
+        ensures { result
+            ≡ option_map use_parts (slice_get (uses_in_order self.now.kept.uses) place) }
     {
         use_in_order(self.uses.as_slice(), place)
     }

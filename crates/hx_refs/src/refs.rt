@@ -32,8 +32,8 @@ use std::marker::Model;
 use std::sync::ledger::Ledger;
 
 /// The references of a configuration, by their positions. Contracts see their content, which is the
-/// limits, the heads in the order of their numbers, the references in their order, and the number of
-/// the version with which a reference begins; and how many slots of memory they use.
+/// limits, the heads in the order of their numbers, the references in their order, and the number
+/// of the version with which a reference begins; and how many slots of memory they use.
 #[derive(Drop)]
 pub struct Refs {
     alloc: Global,
@@ -64,8 +64,8 @@ impl Model for Refs {
 }
 
 impl Refs {
-    /// No references. It takes no memory; those that are added later take it from `alloc`, and begin
-    /// with version 0.
+    /// No references. It takes no memory; those that are added later take it from `alloc`, and
+    /// begin with version 0.
     pub fn new(alloc: Global, limits: Limits) -> Refs
         ensures { result ≡ record { content = no_references limits; slots = no_slots } }
     {
@@ -221,8 +221,8 @@ impl Refs {
         self.kept.entries(r, ver)
     }
 
-    /// Whether the reference at the position `r` has the version `ver`. Without one it is that which
-    /// is searched, and is there.
+    /// Whether the reference at the position `r` has the version `ver`. Without one it is that
+    /// which is searched, and is there.
     ///
     /// There are more than `r` references.
     pub fn has_version(&self, r: u32, ver: Option<u32>) -> bool
@@ -468,9 +468,9 @@ impl Refs {
 
     /// Prepares one version more of the reference at the position `r`, without entries, and answers
     /// its number: one more than that of the last that was prepared, and 0 after 2^32 - 1. It isn't
-    /// searched before it is committed. `NoMoreVersions` exactly where as many versions as the limits
-    /// allow were prepared after that which is searched; nothing is changed then. It takes no memory.
-    /// A number that was dropped may come again, and with it the numbers of its entries.
+    /// searched before it is committed. `NoMoreVersions` exactly where as many versions as the
+    /// limits allow were prepared after that which is searched; nothing is changed then. It takes
+    /// no memory. A number that was dropped may come again, and with it the numbers of its entries.
     ///
     /// There are more than `r` references. HAProxy management guide 2.4, section 9.3,
     /// `prepare acl`, `prepare map`.
