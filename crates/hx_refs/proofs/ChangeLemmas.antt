@@ -8,7 +8,7 @@ use Rattle.hx_sample.specs.Find.{Entry}
 use Rattle.hx_refs.specs.Additions.{new_entries, pairs_fault, with_pairs, Pair, PairsAskFor, VersionAsksFor}
 use Rattle.hx_refs.specs.Changes.{commit_fault, deletion_fault, value_fault, with_version, MayFail}
 use Rattle.hx_refs.specs.declared.limits.Limits.{Limits}
-use Rattle.hx_refs.specs.Kept.{all_filled, filled, kept_demands, kept_fault, stored_last, stored_number, version_fault, with_kept, AreFilled, Bare, IsAdded, IsFilled, Kept}
+use Rattle.hx_refs.specs.Kept.{all_filled, filled, kept_demands, kept_fault, stored_last, stored_number, version_fault, with_kept, AreFilled, StoredReference, IsAdded, IsFilled, Kept}
 use Rattle.hx_refs.specs.Numbers.{HasRisingNumbers}
 use Rattle.hx_refs.specs.References.{refuses_value, version_entries, version_of, version_place, Reference, Version}
 use Rattle.hx_refs.specs.declared.fault.RefFault.{RefFault}
@@ -19,7 +19,7 @@ use Rattle.hx_refs.proofs.FilledLemmas.{filled_get, kept_at, row_changed, row_fi
 use Rattle.hx_refs.proofs.ReferenceLemmas.{change_shown, committable, entries_numbered, few_added, filled_after, none_appended, pairs_shown, place_within, rising_here, rising_with_added, version_here}
 
 -- the references stay filled, and what is seen of them is changed
-pub record Changed (kept : List Bare) (old new : StoreView) (r : ℕ) (change : Reference → Reference) : Type 0 where
+pub record Changed (kept : List StoredReference) (old new : StoreView) (r : ℕ) (change : Reference → Reference) : Type 0 where
   pub is_filled : AreFilled kept new
   pub shown : all_filled kept new.rows ≡ with_kept r change (all_filled kept old.rows)
 
@@ -37,7 +37,7 @@ pub either : {T E : Type 0} {P Q R : Type 0} (r : Result T E) → (P → R) → 
 either (Ok x) ok err p q = ok p
 either (Err e) ok err p q = err q
 
-module _ (kept : List Bare) (old new : StoreView) (r : ℕ) (k : Bare) (requires : r < length (all_filled kept old.rows))
+module _ (kept : List StoredReference) (old new : StoreView) (r : ℕ) (k : StoredReference) (requires : r < length (all_filled kept old.rows))
     (is : k ≡ slice_index_or kept r k) (all : AreFilled kept old) (others : new.rows ≡ slice_set old.rows r (row_at new r)) where
   found : slice_get kept r ≡ Some k
   found = kept_at kept old.rows r k requires is
@@ -82,7 +82,7 @@ module _ (kept : List Bare) (old new : StoreView) (r : ℕ) (k : Bare) (requires
 
 -- ---- additions
 
-module _ (kept : List Bare) (old : StoreView) (r : ℕ) (k : Bare) (requires : r < length (all_filled kept old.rows))
+module _ (kept : List StoredReference) (old : StoreView) (r : ℕ) (k : StoredReference) (requires : r < length (all_filled kept old.rows))
     (is : k ≡ slice_index_or kept r k) (all : AreFilled kept old) where
   at : slice_get kept r ≡ Some k
   at = kept_at kept old.rows r k requires is

@@ -13,7 +13,7 @@ use Rattle.hx_refs.specs.declared.fault.RefFault.TheVariants.{UnknownRef}
 use Rattle.hx_refs.specs.declared.side.Side.{Side}
 use Rattle.hx_refs.specs.declared.side.Side.TheVariants.{Acl, AclWrite, Map}
 use Rattle.hx_refs.specs.Changes.{answer}
-use Rattle.hx_refs.specs.Kept.{all_filled, filled, shown_references, Bare}
+use Rattle.hx_refs.specs.Kept.{all_filled, filled, shown_references, StoredReference}
 use Rattle.hx_refs.specs.Naming.{is_named, named_number, resolution, side_fault}
 use Rattle.hx_refs.specs.References.{Reference, References}
 use Rattle.hx_versions.specs.Rows.{ShownVersion}
@@ -104,35 +104,35 @@ resolution_is refs word side =
     rw same at (sym (resolved_from (named_number word) word side 0 refs.references))
 
 -- references as they are kept, without their versions
-abbrev pub bare_references : List Bare → List Reference
+abbrev pub bare_references : List StoredReference → List Reference
 bare_references kept = map (λ k. k.kept.shown) kept
 
 -- the first of what is left is named
-pub first_named : (number : Option ℕ) (word : List ℕ) (side : Side) (position : ℕ) (rest : List Bare) (k : Bare) → 0 < length rest
+pub first_named : (number : Option ℕ) (word : List ℕ) (side : Side) (position : ℕ) (rest : List StoredReference) (k : StoredReference) → 0 < length rest
     → k ≡ get_or rest 0 k → is_named number word k.kept.shown ≡ true
     → answer position (side_fault side k.kept.shown) ≡ resolution_from number word side position (bare_references rest)
 first_named number word side position [] k within is named = absurd (omega arith)
 first_named number word side position (x ∷ rest) k within is named =
-    let same : k.kept.shown ≡ x.kept.shown = ap (λ (y : Bare). y.kept.shown) is in
+    let same : k.kept.shown ≡ x.kept.shown = ap (λ (y : StoredReference). y.kept.shown) is in
     rw (same, rw same at named) refl
 
-pub none_named : (number : Option ℕ) (word : List ℕ) (side : Side) (position : ℕ) (rest : List Bare) → length rest < 1
+pub none_named : (number : Option ℕ) (word : List ℕ) (side : Side) (position : ℕ) (rest : List StoredReference) → length rest < 1
     → Err UnknownRef ≡ resolution_from number word side position (bare_references rest)
 none_named number word side position [] none = refl
 none_named number word side position (x ∷ rest) none = absurd (omega arith)
 
 -- the versions of references don't matter
-filled_named : (number : Option ℕ) (word : List ℕ) (k : Bare) (row : List ShownVersion)
+filled_named : (number : Option ℕ) (word : List ℕ) (k : StoredReference) (row : List ShownVersion)
     → is_named number word (filled k row).shown ≡ is_named number word k.kept.shown
 filled_named None word k row = refl
 filled_named (Some n) word k row = refl
 
-filled_fault : (side : Side) (k : Bare) (row : List ShownVersion) → side_fault side (filled k row).shown ≡ side_fault side k.kept.shown
+filled_fault : (side : Side) (k : StoredReference) (row : List ShownVersion) → side_fault side (filled k row).shown ≡ side_fault side k.kept.shown
 filled_fault Acl k row = refl
 filled_fault AclWrite k row = refl
 filled_fault Map k row = refl
 
-pub filled_resolution : (number : Option ℕ) (word : List ℕ) (side : Side) (position : ℕ) (kept : List Bare) (rows : List (List ShownVersion))
+pub filled_resolution : (number : Option ℕ) (word : List ℕ) (side : Side) (position : ℕ) (kept : List StoredReference) (rows : List (List ShownVersion))
     → resolution_from number word side position (shown_references (all_filled kept rows))
     ≡ resolution_from number word side position (bare_references kept)
 filled_resolution number word side position [] rows = refl

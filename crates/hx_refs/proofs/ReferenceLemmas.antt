@@ -9,7 +9,7 @@ use Rattle.hx_text.specs.declared.kinds.Out.{Out}
 use Rattle.hx_sample.specs.Find.{Entry}
 use Rattle.hx_refs.specs.Additions.{new_entries, with_pairs, Pair}
 use Rattle.hx_refs.specs.Changes.{commit_fault, fault_unless, with_current_version, with_new_version, with_version}
-use Rattle.hx_refs.specs.Kept.{excess, filled, stored_last, stored_number, with_curr, with_next, with_out, with_use, Bare, IsAdded, IsFilled}
+use Rattle.hx_refs.specs.Kept.{excess, filled, stored_last, stored_number, with_curr, with_next, with_out, with_use, StoredReference, IsAdded, IsFilled}
 use Rattle.hx_refs.specs.Numbers.{HasRisingNumbers, HasShortNumbers, HasVersionsInOrder, NumbersRise}
 use Rattle.hx_refs.specs.declared.fault.RefFault.TheVariants.{BadVersion}
 use Rattle.hx_refs.specs.References.{changed_at, empty_version, is_open, span, version_entries, version_of, version_place, AreEmpty, Reference, Version}
@@ -40,14 +40,14 @@ searched_place reference short =
     sym (place_within reference reference.curr (has_searched reference short)
     ∙ ap (λ (n : ℕ). Some n) (ahead_self reference.curr))
 
-pub version_here : (k : Bare) (row : List ShownVersion) (number : ℕ) → HasVersion k.kept.shown number
+pub version_here : (k : StoredReference) (row : List ShownVersion) (number : ℕ) → HasVersion k.kept.shown number
     → version_of (filled k row).shown (Some number) ≡ Some (version_numbered (stored_number k number) row)
 version_here k row number has =
     rw (place_within k.kept.shown number has)
     (version_at k.stored_first (suc (stored_last k - k.stored_first)) (ahead k.kept.shown.curr number) row (omega (arith, has.1)))
 
 -- the entries of a version, whether the reference has it or not
-pub entries_numbered : (k : Bare) (row : List ShownVersion) (ver : Option ℕ) (stored : ℕ) → IsFilled k row
+pub entries_numbered : (k : StoredReference) (row : List ShownVersion) (ver : Option ℕ) (stored : ℕ) → IsFilled k row
     → IfSome (version_place k.kept.shown ver) (λ place. stored ≡ k.stored_first + place)
     → (version_place k.kept.shown ver ≡ None → (stored < k.stored_first) ⊎ (stored_last k < stored))
     → version_entries (filled k row).shown ver ≡ (version_numbered stored row).entries
@@ -71,7 +71,7 @@ entries_numbered k row (Some number) stored all some none =
           ])
     ]
 
-pub count_shown : (k : Bare) (row : List ShownVersion) → IsFilled k row
+pub count_shown : (k : StoredReference) (row : List ShownVersion) → IsFilled k row
     → sum (map (λ version. length version.entries) (filled k row).shown.versions) ≡ total_count row
 count_shown k row all =
     entries_counted k.stored_first (suc (stored_last k - k.stored_first)) (stored_last k) row all.numbers (omega arith)
@@ -79,7 +79,7 @@ count_shown k row all =
 -- ---- changes
 
 -- a change of a version in the row is shown as one
-pub change_shown : (k : Bare) (ver : Option ℕ) (number : ℕ) (change : Version → Version) (old new : List ShownVersion)
+pub change_shown : (k : StoredReference) (ver : Option ℕ) (number : ℕ) (change : Version → Version) (old new : List ShownVersion)
     → IsFilled k old → HasVersion k.kept.shown number → version_place k.kept.shown ver ≡ version_place k.kept.shown (Some number)
     → Changes (stored_number k number) change old new
     → filled k new ≡ record (filled k old) { shown = with_version ver change (filled k old).shown }
@@ -109,7 +109,7 @@ pairs_change stored number pairs entries serial old new are last changes first l
       others = change.others;
     }
 
-pub pairs_shown : (k : Bare) (number : ℕ) (pairs : List Pair) (entries : List Entry) (serial : ℕ) (old new : List ShownVersion)
+pub pairs_shown : (k : StoredReference) (number : ℕ) (pairs : List Pair) (entries : List Entry) (serial : ℕ) (old new : List ShownVersion)
     → IsFilled k old → HasVersion k.kept.shown number
     → Changes (stored_number k number) (with_last_entries entries serial) old new
     → IsAdded (filled k old) number pairs entries serial
@@ -120,7 +120,7 @@ pairs_shown k number pairs entries serial old new all has changes added =
     (pairs_change (stored_number k number) number pairs entries serial old new is.0 is.1 changes)
 
 -- no pairs are appended where nothing is changed
-pub none_appended : (k : Bare) (number : ℕ) (pairs : List Pair) (serial : ℕ) (row : List ShownVersion)
+pub none_appended : (k : StoredReference) (number : ℕ) (pairs : List Pair) (serial : ℕ) (row : List ShownVersion)
     → HasVersion k.kept.shown number → IsAdded (filled k row) number pairs [] serial
     → Changes (stored_number k number) (with_last_entries [] serial) row row
 none_appended k number pairs serial row has added first last all low high =
@@ -140,7 +140,7 @@ none_appended k number pairs serial row has added first last all low high =
     same v is = rw (is, append-nil v.entries) refl
 
 -- what holds of the row stays so
-pub filled_after : (k : Bare) (number : ℕ) (change : Version → Version) (old new : List ShownVersion)
+pub filled_after : (k : StoredReference) (number : ℕ) (change : Version → Version) (old new : List ShownVersion)
     → IsFilled k old → HasVersion k.kept.shown number → Changes (stored_number k number) change old new
     → AreSearchedBy (use_ways k.kept.uses) new → AreCounted new
     → HasRisingNumbers number (change (version_numbered (stored_number k number) old)) → IsFilled k new
@@ -157,7 +157,7 @@ filled_after k number change old new all has changes searched counted rising =
     }
 
 -- what holds of the version of a number
-pub rising_here : (k : Bare) (row : List ShownVersion) (number : ℕ) → IsFilled k row → HasVersion k.kept.shown number
+pub rising_here : (k : StoredReference) (row : List ShownVersion) (number : ℕ) → IsFilled k row → HasVersion k.kept.shown number
     → HasRisingNumbers number (version_numbered (stored_number k number) row)
 rising_here k row number all has =
     let curr = k.kept.shown.curr in
@@ -167,17 +167,17 @@ rising_here k row number all has =
 -- ---- a version more
 
 -- the numbers are lowered by no more than the first
-pub excess_within : (k : Bare) → excess k ≤ k.stored_first
+pub excess_within : (k : StoredReference) → excess k ≤ k.stored_first
 excess_within k = elim (cases_lt (stored_last k) 4294967295) [
   | inl room ↦ rw (lt-ltb (stored_last k) 4294967295 room) (omega arith)
   | inr full ↦ rw (le-ltb (stored_last k) 4294967295 full) (omega arith)
 ]
 
-pub above_excess : (k : Bare) (row : List ShownVersion) → IsFilled k row → All (λ (v : ShownVersion). excess k ≤ v.number) row
+pub above_excess : (k : StoredReference) (row : List ShownVersion) → IsFilled k row → All (λ (v : ShownVersion). excess k ≤ v.number) row
 above_excess k row all =
     none_smaller (excess k) k.stored_first (stored_last k) row (excess_within k) all.numbers
 
-pub filled_prepared : (k : Bare) (row : List ShownVersion) → IsFilled k row → span k.kept.shown + 1 < 2 ^ 32
+pub filled_prepared : (k : StoredReference) (row : List ShownVersion) → IsFilled k row → span k.kept.shown + 1 < 2 ^ 32
     → IsFilled (with_next k) (map (lowered (excess k)) row)
 filled_prepared k row all room =
     let by = excess k in
@@ -194,7 +194,7 @@ filled_prepared k row all room =
           (rising_prepared k.stored_first k.kept.shown.curr (span k.kept.shown) row all.numbers all.rising));
     }
 
-pub prepared_shown : (k : Bare) (row : List ShownVersion) → IsFilled k row → span k.kept.shown + 1 < 2 ^ 32
+pub prepared_shown : (k : StoredReference) (row : List ShownVersion) → IsFilled k row → span k.kept.shown + 1 < 2 ^ 32
     → filled (with_next k) (map (lowered (excess k)) row)
     ≡ record (filled k row) { shown = with_new_version (filled k row).shown }
 prepared_shown k row all room =
@@ -210,12 +210,12 @@ prepared_shown k row all room =
 -- ---- the version of a number is searched
 
 -- the last keeps its number
-pub same_last : (k : Bare) (number : ℕ) → HasShortNumbers k.kept.shown → HasVersion k.kept.shown number
+pub same_last : (k : StoredReference) (number : ℕ) → HasShortNumbers k.kept.shown → HasVersion k.kept.shown number
     → stored_last (with_curr number k) ≡ stored_last k
 same_last k number short has =
     omega (arith, ahead_on k.kept.shown.curr number k.kept.shown.next short.0 has.0 short.1 has.1)
 
-pub filled_committed : (k : Bare) (number : ℕ) (old new : List ShownVersion) → IsFilled k old → HasVersion k.kept.shown number
+pub filled_committed : (k : StoredReference) (number : ℕ) (old new : List ShownVersion) → IsFilled k old → HasVersion k.kept.shown number
     → IsDropped (stored_number k number) old new → IsFilled (with_curr number k) new
 filled_committed k number old new all has drops =
     let curr = k.kept.shown.curr in
@@ -236,7 +236,7 @@ filled_committed k number old new all has drops =
     All-rest P [] ys is = is
     All-rest P (x ∷ xs) ys is = All-rest P xs ys (All-tail P x (xs ++ ys) is)
 
-pub committed_shown : (k : Bare) (number : ℕ) (old new : List ShownVersion) → IsFilled k old → HasVersion k.kept.shown number
+pub committed_shown : (k : StoredReference) (number : ℕ) (old new : List ShownVersion) → IsFilled k old → HasVersion k.kept.shown number
     → IsDropped (stored_number k number) old new
     → filled (with_curr number k) new ≡ record (filled k old) { shown = with_current_version number (filled k old).shown }
 committed_shown k number old new all has drops =
@@ -249,7 +249,7 @@ committed_shown k number old new all has drops =
     ∙ ap (λ (row : List ShownVersion). drop (ahead k.kept.shown.curr number) (versions_between k.stored_first (stored_last k) row)) (sym drops.parts))
 
 -- how many versions are dropped
-pub dropped_count : (k : Bare) (number : ℕ) (old new : List ShownVersion) → IsFilled k old
+pub dropped_count : (k : StoredReference) (number : ℕ) (old new : List ShownVersion) → IsFilled k old
     → IsDropped (stored_number k number) old new → length old ≤ length new + ahead k.kept.shown.curr number
 dropped_count k number old new all drops =
     let before = subst (AreNumbered k.stored_first (stored_last k)) drops.parts all.numbers in
@@ -263,13 +263,13 @@ length-versions_from : (number count : ℕ) (row : List ShownVersion) → length
 length-versions_from number zero row = refl
 length-versions_from number (suc count) row = ap suc (length-versions_from (number + 1) count row)
 
-pub versions_in_order : (k : Bare) (row : List ShownVersion) → IsFilled k row → HasVersionsInOrder (filled k row).shown
+pub versions_in_order : (k : StoredReference) (row : List ShownVersion) → IsFilled k row → HasVersionsInOrder (filled k row).shown
 versions_in_order k row all = record {
   short = all.short;
   count = omega (arith, length-versions_from k.stored_first (suc (stored_last k - k.stored_first)) row);
 }
 
-pub numbers_rise : (k : Bare) (row : List ShownVersion) → IsFilled k row → NumbersRise (filled k row).shown
+pub numbers_rise : (k : StoredReference) (row : List ShownVersion) → IsFilled k row → NumbersRise (filled k row).shown
 numbers_rise k row all number = elim (cases_Bool (is_open k.kept.shown number)) [
   | inl found ↦
       let has = opened k.kept.shown number found in
@@ -284,7 +284,7 @@ length-new_entries number serial [] = refl
 length-new_entries number serial (pair ∷ pairs) = ap suc (length-new_entries number (serial + 1) pairs)
 
 -- with new entries, too, a version has no more of them than additions
-pub few_added : (k : Bare) (number : ℕ) (row : List ShownVersion) (pairs : List Pair) (entries : List Entry) (serial : ℕ)
+pub few_added : (k : StoredReference) (number : ℕ) (row : List ShownVersion) (pairs : List Pair) (entries : List Entry) (serial : ℕ)
     → IsFilled k row → HasVersion k.kept.shown number → IsAdded (filled k row) number pairs entries serial
     → length (version_numbered (stored_number k number) row).entries + length entries ≤ serial
 few_added k number row pairs entries serial all has added =
@@ -294,7 +294,7 @@ few_added k number row pairs entries serial all has added =
     omega (arith, counted_here (stored_number k number) row all.counted, len, is.1)
 
 -- and their numbers rise
-pub rising_with_added : (k : Bare) (number : ℕ) (row : List ShownVersion) (pairs : List Pair) (entries : List Entry) (serial : ℕ)
+pub rising_with_added : (k : StoredReference) (number : ℕ) (row : List ShownVersion) (pairs : List Pair) (entries : List Entry) (serial : ℕ)
     → IsFilled k row → HasVersion k.kept.shown number → IsAdded (filled k row) number pairs entries serial
     → HasRisingNumbers number (with_last_entries entries serial (version_numbered (stored_number k number) row))
 rising_with_added k number row pairs entries serial all has added =
@@ -304,7 +304,7 @@ rising_with_added k number row pairs entries serial all has added =
 -- ---- uses and outputs
 
 -- there is no version where nothing was added, so that it can be searched by any uses
-pub filled_unused : (method : By) (ci : Bool) (head : ℕ) (k : Bare) (row : List ShownVersion) → IsFilled k row
+pub filled_unused : (method : By) (ci : Bool) (head : ℕ) (k : StoredReference) (row : List ShownVersion) → IsFilled k row
     → AreEmpty (filled k row).shown.versions → IsFilled (with_use method ci head k) row
 filled_unused method ci head k row all empty =
     let none = no_row k.stored_first (stored_last k) row (omega arith) all.numbers all.counted empty in record {
@@ -316,7 +316,7 @@ filled_unused method ci head k row all empty =
       rising = all.rising;
     }
 
-pub filled_read : (out : Out) (k : Bare) (row : List ShownVersion) → IsFilled k row → IsFilled (with_out out k) row
+pub filled_read : (out : Out) (k : StoredReference) (row : List ShownVersion) → IsFilled k row → IsFilled (with_out out k) row
 filled_read out k row all = record {
   short = all.short;
   numbers = all.numbers;
@@ -328,7 +328,7 @@ filled_read out k row all = record {
 -- ---- searches and commits
 
 -- the version that is searched stands first
-pub searched_first : (k : Bare) (row : List ShownVersion) → IsFilled k row
+pub searched_first : (k : StoredReference) (row : List ShownVersion) → IsFilled k row
     → first_entries k.stored_first row ≡ version_entries (filled k row).shown None
 searched_first k row all = first_is_numbered k.stored_first (stored_last k) row all.numbers
 
@@ -346,7 +346,7 @@ committable reference number none =
 -- ---- a new reference
 
 -- it has one version, to which nothing was added
-pub new_shown : (k : Bare) → k.kept.shown.curr ≡ k.kept.shown.next
+pub new_shown : (k : StoredReference) → k.kept.shown.curr ≡ k.kept.shown.next
     → filled k [] ≡ record k.kept { shown = record k.kept.shown { versions = empty_version ∷ [] } }
 new_shown k same =
     let none : ahead k.kept.shown.curr k.kept.shown.next ≡ 0 =
@@ -354,7 +354,7 @@ new_shown k same =
     let one : stored_last k - k.stored_first ≡ 0 = omega (arith, none) in
     ap (λ n. record k.kept { shown = record k.kept.shown { versions = versions_from k.stored_first (suc n) [] } }) one
 
-pub filled_new : (k : Bare) → HasShortNumbers k.kept.shown → IsFilled k []
+pub filled_new : (k : StoredReference) → HasShortNumbers k.kept.shown → IsFilled k []
 filled_new k short = record {
   short = short;
   numbers = tt;

@@ -9,7 +9,7 @@ use Rattle.std.proofs.lemmas.List.Sums.{sum_by-cons}
 use Rattle.hx_text.specs.declared.kinds.By.{By}
 use Rattle.hx_sample.specs.Tables.{TableHead}
 use Rattle.hx_refs.specs.declared.limits.Limits.{Limits}
-use Rattle.hx_refs.specs.Kept.{all_filled, filled, kept_uses, shown_references, slots_in_kept, stored_last, AreFilled, AreKept, Bare, IsFilled, Kept}
+use Rattle.hx_refs.specs.Kept.{all_filled, filled, kept_uses, shown_references, slots_in_kept, stored_last, AreFilled, AreKept, StoredReference, IsFilled, Kept}
 use Rattle.hx_refs.specs.References.{after_tidying, empty_version, Version}
 use Rattle.hx_versions.specs.Rows.{kept_slots, row_slots, store_slots, use_ways, version_in_row, version_numbered, version_slots, versions_from, AreNumbered, IsSearchedBy, ShownVersion, StoreView}
 use Rattle.hx_refs.specs.SlotCounts.{least_slots, most_slots, slots_in, slots_in_all}
@@ -102,22 +102,22 @@ module _ (uses : ℕ) (ways : List (By × Bool)) (many : length ways ≡ uses) w
 abbrev pub kept_by : (ℕ → Version → ℕ) → Kept → ℕ
 kept_by of_version k = sum_by (of_version (length k.uses)) k.shown.versions
 
-least_of_row : (k : Bare) (row : List ShownVersion) → IsFilled k row → kept_by least_slots (filled k row) ≤ row_slots row
+least_of_row : (k : StoredReference) (row : List ShownVersion) → IsFilled k row → kept_by least_slots (filled k row) ≤ row_slots row
 least_of_row k row all =
     at_least (least_slots (length k.kept.uses)) version_slots (omega arith)
     k.stored_first (suc (stored_last k - k.stored_first)) (stored_last k) row all.numbers
     (All-weaker (IsSearchedBy (use_ways k.kept.uses)) (λ v. least_slots (length k.kept.uses) (version_in_row v) ≤ version_slots v)
     (least_here (length k.kept.uses) (use_ways k.kept.uses) (length-map k.kept.uses (λ (u : Use). (u.by, u.ci)))) row all.searched)
 
-most_of_row : (k : Bare) (row : List ShownVersion) → IsFilled k row → row_slots row ≤ kept_by most_slots (filled k row)
+most_of_row : (k : StoredReference) (row : List ShownVersion) → IsFilled k row → row_slots row ≤ kept_by most_slots (filled k row)
 most_of_row k row all =
     at_most (most_slots (length k.kept.uses)) version_slots
     k.stored_first (suc (stored_last k - k.stored_first)) (stored_last k) row all.numbers (omega arith)
     (All-weaker (IsSearchedBy (use_ways k.kept.uses)) (λ v. version_slots v ≤ most_slots (length k.kept.uses) (version_in_row v))
     (most_here (length k.kept.uses) (use_ways k.kept.uses) (length-map k.kept.uses (λ (u : Use). (u.by, u.ci)))) row all.searched)
 
-least_of_all : (kept : List Bare) (rows : List (List ShownVersion)) → length rows ≡ length kept
-    → ((r : ℕ) (k : Bare) → slice_get kept r ≡ Some k → IsFilled k (row_in rows r))
+least_of_all : (kept : List StoredReference) (rows : List (List ShownVersion)) → length rows ≡ length kept
+    → ((r : ℕ) (k : StoredReference) → slice_get kept r ≡ Some k → IsFilled k (row_in rows r))
     → slots_in_kept least_slots (all_filled kept rows) ≤ kept_slots rows
 least_of_all [] rows same each = omega arith
 least_of_all (k ∷ kept) [] same each = absurd (omega (arith, same))
@@ -126,8 +126,8 @@ least_of_all (k ∷ kept) (row ∷ rows) same each =
     let rest = least_of_all kept rows (omega (arith, same)) (λ r x is. each (suc r) x is) in
     omega (arith, sum_by-cons (kept_by least_slots) (filled k row) (all_filled kept rows), sum_by-cons row_slots row rows, first, rest)
 
-most_of_all : (kept : List Bare) (rows : List (List ShownVersion)) → length rows ≡ length kept
-    → ((r : ℕ) (k : Bare) → slice_get kept r ≡ Some k → IsFilled k (row_in rows r))
+most_of_all : (kept : List StoredReference) (rows : List (List ShownVersion)) → length rows ≡ length kept
+    → ((r : ℕ) (k : StoredReference) → slice_get kept r ≡ Some k → IsFilled k (row_in rows r))
     → kept_slots rows ≤ slots_in_kept most_slots (all_filled kept rows)
 most_of_all [] [] same each = omega arith
 most_of_all [] (row ∷ rows) same each = absurd (omega (arith, same))
@@ -137,11 +137,11 @@ most_of_all (k ∷ kept) (row ∷ rows) same each =
     let rest = most_of_all kept rows (omega (arith, same)) (λ r x is. each (suc r) x is) in
     omega (arith, sum_by-cons (kept_by most_slots) (filled k row) (all_filled kept rows), sum_by-cons row_slots row rows, first, rest)
 
-pub least_counted : (kept : List Bare) (store : StoreView) → AreFilled kept store
+pub least_counted : (kept : List StoredReference) (store : StoreView) → AreFilled kept store
     → slots_in_kept least_slots (all_filled kept store.rows) + store.waiting ≤ kept_slots store.rows + store.waiting
 least_counted kept store all = omega (arith, least_of_all kept store.rows all.count all.each)
 
-pub most_counted : (kept : List Bare) (store : StoreView) → AreFilled kept store
+pub most_counted : (kept : List StoredReference) (store : StoreView) → AreFilled kept store
     → kept_slots store.rows + store.waiting ≤ slots_in_kept most_slots (all_filled kept store.rows) + store.waiting
 most_counted kept store all = omega (arith, most_of_all kept store.rows all.count all.each)
 
@@ -171,7 +171,7 @@ same_slots of_version limits first heads kept all =
 -- ---- slots that are given back
 
 -- what waits is less, and nothing else is
-pub tidied_filled : (kept : List Bare) (old new : StoreView) (waiting : ℕ) → new ≡ record old { waiting = waiting }
+pub tidied_filled : (kept : List StoredReference) (old new : StoreView) (waiting : ℕ) → new ≡ record old { waiting = waiting }
     → AreFilled kept old → AreFilled kept new
 tidied_filled kept old new waiting is all =
     subst (λ (store : StoreView). AreFilled kept store) (sym is) (record { count = all.count; each = all.each })

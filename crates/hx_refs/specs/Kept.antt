@@ -33,56 +33,56 @@ TakePatterns (u ∷ uses) = (u.by ≢ by.Found) × (u.by ≢ by.Bool) × TakePat
 
 -- A reference without its versions, and the number that the store has for the version that is
 -- searched. The store has numbers of its own, which rise and never wrap.
-pub record Bare : Type 0 where
+pub record StoredReference : Type 0 where
   pub kept : Kept
   pub stored_first : ℕ
 
 -- the store's number of a version
-abbrev pub stored_number : Bare → ℕ → ℕ
-stored_number bare number = bare.stored_first + ahead bare.kept.shown.curr number
+abbrev pub stored_number : StoredReference → ℕ → ℕ
+stored_number stored number = stored.stored_first + ahead stored.kept.shown.curr number
 
 -- that of the version that was prepared last
-abbrev pub stored_last : Bare → ℕ
-stored_last bare = stored_number bare bare.kept.shown.next
+abbrev pub stored_last : StoredReference → ℕ
+stored_last stored = stored_number stored stored.kept.shown.next
 
 -- with one more output
-abbrev pub with_out : Out → Bare → Bare
-with_out out bare = record bare {
-  kept = record bare.kept {
-    shown = record bare.kept.shown { outputs = with_output out bare.kept.shown.outputs };
+abbrev pub with_out : Out → StoredReference → StoredReference
+with_out out stored = record stored {
+  kept = record stored.kept {
+    shown = record stored.kept.shown { outputs = with_output out stored.kept.shown.outputs };
   };
 }
 
 -- with one more use
-abbrev pub with_use : By → Bool → ℕ → Bare → Bare
-with_use method ci head bare = record bare {
-  kept = record bare.kept {
-    uses = bare.kept.uses ++ record { by = method; ci = ci; head = head } ∷ [];
+abbrev pub with_use : By → Bool → ℕ → StoredReference → StoredReference
+with_use method ci head stored = record stored {
+  kept = record stored.kept {
+    uses = stored.kept.uses ++ record { by = method; ci = ci; head = head } ∷ [];
   };
 }
 
 -- how much lower the store's numbers have to be before one more is prepared
-abbrev pub excess : Bare → ℕ
-excess bare = if nat_lt (stored_last bare) (2 ^ 32 - 1) then 0 else bare.stored_first
+abbrev pub excess : StoredReference → ℕ
+excess stored = if nat_lt (stored_last stored) (2 ^ 32 - 1) then 0 else stored.stored_first
 
 -- with a version more
-abbrev pub with_next : Bare → Bare
-with_next bare = record {
-  kept = record bare.kept {
-    shown = record bare.kept.shown { next = number_ahead bare.kept.shown.next 1 };
+abbrev pub with_next : StoredReference → StoredReference
+with_next stored = record {
+  kept = record stored.kept {
+    shown = record stored.kept.shown { next = number_ahead stored.kept.shown.next 1 };
   };
-  stored_first = bare.stored_first - excess bare;
+  stored_first = stored.stored_first - excess stored;
 }
 
 -- with the version of a number as that which is searched
-abbrev pub with_curr : ℕ → Bare → Bare
-with_curr number bare = record {
-  kept = record bare.kept { shown = record bare.kept.shown { curr = number } };
-  stored_first = stored_number bare number;
+abbrev pub with_curr : ℕ → StoredReference → StoredReference
+with_curr number stored = record {
+  kept = record stored.kept { shown = record stored.kept.shown { curr = number } };
+  stored_first = stored_number stored number;
 }
 
 -- what holds of the parts of such a reference
-pub record IsBare (uses : List Use) (curr next first : ℕ) : Type 0 where
+pub record IsStoredReference (uses : List Use) (curr next first : ℕ) : Type 0 where
   pub patterns : TakePatterns uses
   pub short : (curr < 2 ^ 32) × (next < 2 ^ 32)
   pub room : first + ahead curr next < 2 ^ 32
@@ -90,18 +90,18 @@ pub record IsBare (uses : List Use) (curr next first : ℕ) : Type 0 where
 -- ---- versions in rows
 
 -- the reference with the versions of a row
-abbrev pub filled : Bare → List ShownVersion → Kept
-filled bare row = record bare.kept {
-  shown = record bare.kept.shown {
-    versions = versions_between bare.stored_first (stored_last bare) row;
+abbrev pub filled : StoredReference → List ShownVersion → Kept
+filled stored row = record stored.kept {
+  shown = record stored.kept.shown {
+    versions = versions_between stored.stored_first (stored_last stored) row;
   };
 }
 
 -- each reference with the versions of the row at its position, and with none where there is no row
-abbrev pub all_filled : List Bare → List (List ShownVersion) → List Kept
+abbrev pub all_filled : List StoredReference → List (List ShownVersion) → List Kept
 all_filled [] rows = []
-all_filled (bare ∷ others) [] = filled bare [] ∷ all_filled others []
-all_filled (bare ∷ others) (row ∷ rows) = filled bare row ∷ all_filled others rows
+all_filled (stored ∷ others) [] = filled stored [] ∷ all_filled others []
+all_filled (stored ∷ others) (row ∷ rows) = filled stored row ∷ all_filled others rows
 
 -- what is seen of the references that are kept: each with its versions, and the slots
 pub record KeptState : Type 0 where
@@ -109,17 +109,17 @@ pub record KeptState : Type 0 where
   pub slots : Slots
 
 -- what holds of a reference and its row
-pub record IsFilled (bare : Bare) (row : List ShownVersion) : Type 0 where
-  pub short : HasShortNumbers bare.kept.shown
-  pub numbers : AreNumbered bare.stored_first (stored_last bare) row
-  pub searched : AreSearchedBy (use_ways bare.kept.uses) row
+pub record IsFilled (stored : StoredReference) (row : List ShownVersion) : Type 0 where
+  pub short : HasShortNumbers stored.kept.shown
+  pub numbers : AreNumbered stored.stored_first (stored_last stored) row
+  pub searched : AreSearchedBy (use_ways stored.kept.uses) row
   pub counted : AreCounted row
-  pub rising : AreRising bare.stored_first bare.kept.shown.curr (span bare.kept.shown) row
+  pub rising : AreRising stored.stored_first stored.kept.shown.curr (span stored.kept.shown) row
 
 -- each reference has a row in the store
-pub record AreFilled (kept : List Bare) (store : StoreView) : Type 0 where
+pub record AreFilled (kept : List StoredReference) (store : StoreView) : Type 0 where
   pub count : length store.rows ≡ length kept
-  pub each : (r : ℕ) (k : Bare) → slice_get kept r ≡ Some k → IsFilled k (row_at store r)
+  pub each : (r : ℕ) (k : StoredReference) → slice_get kept r ≡ Some k → IsFilled k (row_at store r)
 
 -- ---- references
 

@@ -8,11 +8,13 @@
 //! `laws` what follows from the definitions. Their versions lie in a store of `hx_versions`.
 #![tactic(auto)]
 
+mod changing;
 mod fault;
 mod heads;
 mod info;
 mod judging;
 mod kept_references;
+mod kept_versions;
 pub mod laws;
 mod limits;
 mod lines;

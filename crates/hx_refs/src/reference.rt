@@ -48,9 +48,9 @@ pub(crate) struct KeptReference {
 
 impl Model for KeptReference {
     ghost use Rattle.std.specs.Prelude.{[]};
-    ghost use Rattle.hx_refs.specs.Kept.{Bare, IsBare};
+    ghost use Rattle.hx_refs.specs.Kept.{StoredReference, IsStoredReference};
 
-    ghost Value = { Bare };
+    ghost Value = { StoredReference };
 
     ghost view = { λ reference. record {
       kept = record {
@@ -70,7 +70,7 @@ impl Model for KeptReference {
     } };
 
     ghost invariant = { λ reference.
-        IsBare reference.uses.items reference.curr reference.next reference.stored_first };
+        IsStoredReference reference.uses.items reference.curr reference.next reference.stored_first };
 }
 
 impl KeptReference {

@@ -1,7 +1,7 @@
 ghost use Rattle.std.specs.Prelude.{◌≡◌, ◌≢◌, ◌+◌, ◌^◌, ◌<◌, ◌≤◌, [], ◌∷◌, All, length, slice_get, None, Some, IfOk, IfErr, IfSome, IsOk, OnOk, OnErr, option_map};
 ghost use Rattle.std.specs.Option.{option_copied};
 ghost use Rattle.hx_refs.specs.Additions.{addition_fault, after_addition, AdditionAsksFor, AdditionCountsLarge, MayRefuse};
-ghost use Rattle.hx_refs.specs.Changes.{after_change_of_value, after_clearing, after_commit, after_deletion, after_preparation, answer, commit_fault, deletion_fault, fault_at, has_number, preparation_fault, prepared_version, value_fault, MayFail};
+ghost use Rattle.hx_refs.specs.Changes.{after_clearing, after_commit, after_preparation, answer, commit_fault, fault_at, preparation_fault, prepared_version};
 ghost use Rattle.hx_sample.specs.Changes.{has_key};
 ghost use Rattle.hx_sample.specs.Seen.{value_of};
 ghost use Rattle.hx_sample.specs.Tables.{entry_of, found_at, TakesValue};
@@ -12,7 +12,6 @@ ghost use Rattle.hx_refs.specs.References.{after_output, after_tidying, entries_
 ghost use Rattle.hx_refs.specs.SlotCounts.{least_slots, most_slots, slots_in_all};
 ghost use Rattle.hx_refs.specs.TableChanges.{is_key_of};
 ghost use Rattle.hx_refs.specs.Uses.{after_use, head_for, use_parts, uses_in_order, uses_of, KeepsToCase};
-ghost use Rattle.hx_versions.specs.Versions.{is_chosen};
 
 use crate::fault::RefFault;
 use crate::heads::KeptHead;
@@ -40,7 +39,7 @@ pub struct Refs {
     limits: Limits,
     first: u32,
     heads: Vec<KeptHead>,
-    kept: KeptReferences,
+    pub(crate) kept: KeptReferences,
 }
 
 impl Model for Refs {
@@ -209,6 +208,16 @@ impl Refs {
         self.kept.use_at(r, k)
     }
 
+    /// The position of the reference that the head `head` searches, counted from 0. None exactly
+    /// where there are no more than `head` heads.
+    pub fn reference_of(&self, head: u32) -> Option<u32>
+        ensures { result
+            ≡ option_map (λ known. known.list) (slice_get self.now.content.heads head) }
+    {
+        let known = self.heads.get(head as usize)?;
+        Some(known.list)
+    }
+
     /// The entries of a version of the reference at the position `r`, in their order: of the
     /// version `ver`, or without one of that which is searched. None where the reference has no
     /// such version.
@@ -327,129 +336,6 @@ impl Refs {
             (M.state maker.old) (M.state maker.new) }
     {
         self.kept.add(self.alloc, self.limits, r, ver, pairs, maker)
-    }
-
-    /// Removes all entries with the key from a version of the reference at the position `r`: from
-    /// the version `ver`, or without one from that which is searched. `BadVersion` exactly where
-    /// the reference has no such version, and else `KeyNotFound` exactly where the version has no
-    /// such entry; nothing is changed then. It takes no memory.
-    ///
-    /// There are more than `r` references. HAProxy management guide 2.4, section 9.3, `del acl`,
-    /// `del map`; that a version can be named is hxeval's own.
-    pub fn del_key(&mut self, r: u32, ver: Option<u32>, key: &[u8]) -> Result<(), RefFault>
-        requires { r < length self.old.content.references }
-        ensures answer { result
-            ≡ answer tt (fault_at self.old.content r (deletion_fault ver (has_key key.now))) }
-        ensures ok { OnOk result (self.new.content ≡ after_deletion self.old.content r ver
-            (has_key key.now)) }
-        ensures err { OnErr result (self.new ≡ self.old) }
-    {
-        self.delete(r, ver, &Choice::Key(key))
-    }
-
-    /// Removes the entry with the number from a version of the reference at the position `r`. What
-    /// is refused, and what stands then, is as for [`Refs::del_key`]; a number of another version
-    /// is that of no entry. It takes no memory.
-    ///
-    /// There are more than `r` references. HAProxy management guide 2.4, section 9.3, `del acl`,
-    /// `del map`; that a version can be named is hxeval's own.
-    pub fn del_id(&mut self, r: u32, ver: Option<u32>, number: u64) -> Result<(), RefFault>
-        requires { r < length self.old.content.references }
-        ensures answer { result
-            ≡ answer tt (fault_at self.old.content r (deletion_fault ver (has_number number))) }
-        ensures ok { OnOk result (self.new.content ≡ after_deletion self.old.content r ver
-            (has_number number)) }
-        ensures err { OnErr result (self.new ≡ self.old) }
-    {
-        self.delete(r, ver, &Choice::Number(number))
-    }
-
-    fn delete(&mut self, r: u32, ver: Option<u32>, choice: &Choice<'_>) -> Result<(), RefFault>
-        requires { r < length self.old.content.references }
-        ensures answer { result
-            ≡ answer tt (fault_at self.old.content r (deletion_fault ver (is_chosen choice.now))) }
-        ensures ok { OnOk result (self.new.content ≡ after_deletion self.old.content r ver
-            (is_chosen choice.now)) }
-        ensures err { OnErr result (self.new ≡ self.old) }
-    {
-        self.kept.delete(r, ver, choice)
-    }
-
-    /// Changes the value of all entries with the key in a version of the reference at the position
-    /// `r`, to copies of `value`: in the version `ver`, or without one in that which is searched.
-    /// Their places, numbers and keys stay.
-    ///
-    /// `BadVersion` exactly where the reference has no such version, and else `KeyNotFound` exactly
-    /// where the version has no such entry, and else `BadValue` exactly where an output can't read
-    /// the value. `NoMemory` where memory runs out. Nothing is changed then.
-    ///
-    /// There are more than `r` references. HAProxy management guide 2.4, section 9.3, `set map`;
-    /// that a version can be named is hxeval's own.
-    pub fn set_key(
-        &mut self,
-        r: u32,
-        ver: Option<u32>,
-        key: &[u8],
-        value: &[u8],
-    ) -> Result<(), RefFault>
-        requires { r < length self.old.content.references }
-        ensures ok { OnOk result
-            (self.new.content ≡ after_change_of_value self.old.content r ver (has_key key.now)
-            value.now) }
-        ensures none { OnOk result
-            (fault_at self.old.content r (value_fault ver (has_key key.now) value.now) ≡ None) }
-        ensures refused { IfErr result
-            (MayFail (fault_at self.old.content r (value_fault ver (has_key key.now) value.now))) }
-        ensures kept { OnErr result (self.new ≡ self.old) }
-    {
-        self.set(r, ver, &Choice::Key(key), value)
-    }
-
-    /// Changes the value of the entry with the number in a version of the reference at the position
-    /// `r`, to a copy of `value`. Its place, number and key stay. What is refused, and what stands
-    /// then, is as for [`Refs::set_key`]; a number of another version is that of no entry.
-    ///
-    /// There are more than `r` references. HAProxy management guide 2.4, section 9.3, `set map`;
-    /// that a version can be named is hxeval's own.
-    pub fn set_id(
-        &mut self,
-        r: u32,
-        ver: Option<u32>,
-        number: u64,
-        value: &[u8],
-    ) -> Result<(), RefFault>
-        requires { r < length self.old.content.references }
-        ensures ok { OnOk result
-            (self.new.content ≡ after_change_of_value self.old.content r ver (has_number number)
-            value.now) }
-        ensures none { OnOk result
-            (fault_at self.old.content r (value_fault ver (has_number number) value.now) ≡ None) }
-        ensures refused { IfErr result (MayFail
-            (fault_at self.old.content r (value_fault ver (has_number number) value.now))) }
-        ensures kept { OnErr result (self.new ≡ self.old) }
-    {
-        self.set(r, ver, &Choice::Number(number), value)
-    }
-
-    fn set(
-        &mut self,
-        r: u32,
-        ver: Option<u32>,
-        choice: &Choice<'_>,
-        value: &[u8],
-    ) -> Result<(), RefFault>
-        requires { r < length self.old.content.references }
-        ensures ok { OnOk result
-            (self.new.content ≡ after_change_of_value self.old.content r ver (is_chosen choice.now)
-            value.now) }
-        ensures none { OnOk result
-            (fault_at self.old.content r (value_fault ver (is_chosen choice.now) value.now)
-            ≡ None) }
-        ensures refused { IfErr result (MayFail
-            (fault_at self.old.content r (value_fault ver (is_chosen choice.now) value.now))) }
-        ensures kept { OnErr result (self.new ≡ self.old) }
-    {
-        self.kept.set(r, ver, choice, value)
     }
 
     /// Removes the entries of a version of the reference at the position `r`: of the version `ver`,

@@ -1,6 +1,6 @@
 use Rattle.std.proofs.Common.{◌++◌, ◌∷◌, [], ap, refl, ◌∙◌}
 use Rattle.std.specs.Option.{option_copied}
-use Rattle.hx_refs.specs.Kept.{all_filled, Bare, Kept}
+use Rattle.hx_refs.specs.Kept.{all_filled, StoredReference, Kept}
 use Rattle.hx_refs.specs.References.{new_reference}
 use Rattle.hx_versions.specs.Rows.{StoreView}
 use Rattle.hx_refs.proofs.FilledLemmas.{filled_more, filled_with_new}
@@ -18,7 +18,7 @@ invariant_of-self-2 c =
 
 pub returns-clause-ok : goal.returns-clause-ok
 returns-clause-ok c =
-    let new : Bare = record {
+    let new : StoredReference = record {
       kept = record {
         shown = record (new_reference c.args.first c.args.id (option_copied c.args.file) c.args.two_column c.args.acl) { versions = [] };
         uses = [];

@@ -1,7 +1,7 @@
 use Rattle.hx_versions.specs.Rows.{row_at}
 use Rattle.hx_refs.proofs.FilledLemmas.{row_itself}
 use Rattle.hx_refs.proofs.LoweredLemmas.{lowered_by_none}
-use Rattle.hx_refs.proofs.kept_references.lower.Goals as goal
+use Rattle.hx_refs.proofs.kept_versions.lower.Goals as goal
 
 pub returns-else-by-gt0-clause-lowered : goal.returns-else-by-gt0-clause-lowered
 returns-else-by-gt0-clause-lowered c =
