@@ -1,4 +1,5 @@
 pub mod ItemLemmas
+pub mod HeadTextLemmas
 pub mod VerdictLemmas
 pub mod StepLemmas
 pub mod UnseenEventLemmas

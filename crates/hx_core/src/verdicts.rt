@@ -1,8 +1,6 @@
-ghost use Rattle.std.specs.Prelude.{◌≡◌, [], ◌++◌, codes, slice_get, OnOk};
+ghost use Rattle.std.specs.Prelude.{◌≡◌, ◌++◌, codes, OnOk};
 ghost use Rattle.std.specs.Fmt.{decimal};
-ghost use Rattle.std.specs.List.{flat_map};
-ghost use Rattle.std.specs.Option.{option_map_or};
-ghost use Rattle.hx_core.specs.Answers.{changed_text, head_text, header_text, verdict_text};
+ghost use Rattle.hx_core.specs.Answers.{changed_text, head_text, verdict_text};
 ghost use Rattle.hx_core.specs.AnswerView.{verdict_without_head};
 
 use hx_http::Message;
@@ -123,44 +121,12 @@ fn append_changed(bytes: &mut Vec<u8>, read: &Message, made: &Message) -> Result
     append_head(bytes, made)
 }
 
-/// Appends the lines of a head.
+/// Appends the lines of a head. What stands between two lines is written in one piece.
 fn append_head(bytes: &mut Vec<u8>, head: &Message) -> Result<(), NoMemory>
     ensures { OnOk result (bytes.new.items ≡ bytes.old.items ++ head_text head.now) }
 {
-    let mut digits = Buffer::new();
     bytes.extend_from_slice(b"| ")?;
-    bytes.extend_from_slice(head.method())?;
-    bytes.extend_from_slice(b" ")?;
-    bytes.extend_from_slice(head.target())?;
-    bytes.extend_from_slice(b" HTTP/1.")?;
-    bytes.extend_from_slice(digits.format(head.minor()).as_bytes())?;
-    bytes.extend_from_slice(b"\n")?;
-    append_lines(bytes, head)
-}
-
-/// Appends the header lines of a head.
-fn append_lines(bytes: &mut Vec<u8>, head: &Message) -> Result<(), NoMemory>
-    ensures { OnOk result (bytes.new.items
-        ≡ bytes.old.items ++ flat_map header_text head.now.headers) }
-{
-    for at in 0..head.len() {
-        append_line(bytes, head, at)?;
-    }
-    Ok(())
-}
-
-/// Appends the header line at a position, if there is one.
-fn append_line(bytes: &mut Vec<u8>, head: &Message, at: usize) -> Result<(), NoMemory>
-    ensures { OnOk result (bytes.new.items
-        ≡ bytes.old.items ++ option_map_or header_text (slice_get head.now.headers at) []) }
-{
-    let Some((name, value)) = head.header(at) else {
-        return Ok(());
-    };
-    bytes.extend_from_slice(b"| ")?;
-    bytes.extend_from_slice(name)?;
-    bytes.extend_from_slice(b": ")?;
-    bytes.extend_from_slice(value)?;
+    head.append_lines(b"\n| ", bytes)?;
     bytes.extend_from_slice(b"\n")?;
     Ok(())
 }

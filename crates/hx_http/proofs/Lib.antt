@@ -9,3 +9,5 @@ pub mod ExtendLemmas
 pub mod LineLemmas
 pub mod PlaceLemmas
 pub mod TargetEditLemmas
+pub mod WritingLemmas
+pub mod SameLemmas

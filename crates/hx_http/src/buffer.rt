@@ -21,7 +21,8 @@ pub(crate) fn append(bytes: &mut Vec<u8>, text: &[u8]) -> Result<Span, AllocErro
     })
 }
 
-/// Appends the name and the value of a header line, and answers where they lie.
+/// Appends the name and the value of a header line, and answers where they lie. They stand as they
+/// are written, so that a copy of the line is one.
 pub(crate) fn append_line(
     bytes: &mut Vec<u8>,
     name: &[u8],
@@ -33,6 +34,7 @@ pub(crate) fn append_line(
     ensures extends { Extends bytes.old.items bytes.new.items }
 {
     let name = append(bytes, name)?;
+    append(bytes, b": ")?;
     let value = append(bytes, value)?;
     Ok(HeaderSpan { name, value })
 }
@@ -105,5 +107,6 @@ pub(crate) fn append_parts(
     head.method = append(bytes, spans.head.method.of(other))?;
     head.path = append(bytes, spans.head.path.of(other))?;
     let lines = append_lines(alloc, bytes, other, spans.lines.as_slice())?;
+    head.len = bytes.len();
     Ok(HeadSpans { head, lines })
 }

@@ -14,7 +14,8 @@ use hx_text::{NoMemory, has_bad_value_byte};
 impl Message {
     /// An equal message, with bytes of its own, from where this one has its memory. Bytes that are
     /// no part of this message, as those that followed the head, aren't copied where they are more
-    /// than the parts. `NoMemory` where memory runs out.
+    /// than the parts, and more than the head was long as it was read. `NoMemory` where memory runs
+    /// out.
     pub fn copy(&self) -> Result<Message, NoMemory>
         ensures { IfOk result (λ copied. copied ≡ self.now) }
     {
@@ -29,9 +30,16 @@ impl Message {
     pub fn same(&self, other: &Message) -> bool
         ensures { IsTrue result ↔ (self.now ≡ other.now) }
     {
-        self.method() == other.method()
+        if self.len() != other.len() {
+            return false;
+        }
+        // A copy that no edit has changed has the same bytes and the same spans.
+        if self.bytes.as_slice() == other.bytes.as_slice() && self.spans.same(&other.spans) {
+            return true;
+        }
+        self.minor() == other.minor()
             && self.target() == other.target()
-            && self.minor() == other.minor()
+            && self.method() == other.method()
             && same_lines(
                 self.bytes.as_slice(),
                 self.spans.lines.as_slice(),

@@ -1,4 +1,5 @@
-//! The head of an HTTP request: its reader, the message that it gives, and edits of the message.
+//! The head of an HTTP request: its reader, the message that it gives, edits of the message, and its
+//! text.
 //!
 //! ```
 //! let (mut message, len) = read_head(alloc, b"GET /p?q HTTP/1.1\r\nHost: h\r\n\r\nbody")?;
@@ -13,8 +14,9 @@
 //! ```
 //!
 //! `specs/Head.antt` says what the bytes of a request begin with, as the function `head_of`,
-//! `specs/Target.antt` what the path and the query of a target are, and `specs/Edits.antt` what
-//! each edit makes of a message, and which fault refuses it.
+//! `specs/Target.antt` what the path and the query of a target are, `specs/Edits.antt` what each
+//! edit makes of a message, and which fault refuses it, and `specs/Text.antt` what the lines of a
+//! head are as a text.
 #![tactic(auto)]
 
 mod buffer;
@@ -28,6 +30,7 @@ mod reading;
 mod spans;
 mod target;
 mod target_edits;
+mod writing;
 
 pub use fault::{EditFault, HeadFault};
 pub use head::{read_head, read_head_in};

@@ -28,15 +28,31 @@ pub(crate) fn count_others(bytes: &[u8], lines: &[HeaderSpan], name: &[u8]) -> u
     count
 }
 
+/// The position of the first line that has the name, or the number of lines without one.
+fn first_named(bytes: &[u8], lines: &[HeaderSpan], name: &[u8]) -> usize
+    requires { All (IsHeaderWithin (length bytes.now)) lines.now }
+    ensures none { lines_without bytes.now name.now (take result lines.now)
+        ≡ take result lines.now }
+    ensures within { result ≤ length lines.now }
+{
+    for i in 0..lines.len() {
+        if has_name(bytes, lines[i], name) {
+            return i;
+        }
+    }
+    lines.len()
+}
+
 /// Moves the lines that don't have the name to the front, in their order, and answers how many
-/// these are.
+/// these are. Those before the first that has it stay where they are.
 fn keep_others(bytes: &[u8], lines: &mut [HeaderSpan], name: &[u8]) -> usize
     requires { All (IsHeaderWithin (length bytes.now)) lines.old }
     ensures kept { take result lines.new ≡ lines_without bytes.now name.now lines.old }
     ensures within { result ≤ length lines.old }
 {
-    let mut kept = 0;
-    for i in 0..lines.len() {
+    let first = first_named(bytes, lines, name);
+    let mut kept = first;
+    for i in first..lines.len() {
         let line = lines[i];
         if !has_name(bytes, line, name) {
             lines[kept] = line;

@@ -52,7 +52,7 @@ impl Message {
         self.limit = 0;
         let bytes = &mut self.bytes;
         let spans = &mut self.spans;
-        if other.bytes.len() / 2 <= other.spans.total_len() {
+        if other.spans.are_half_of(other.bytes.len()) {
             copy_whole(bytes, spans, other.bytes.as_slice(), &other.spans)?;
         } else {
             copy_parts(bytes, spans, other.bytes.as_slice(), &other.spans)?;

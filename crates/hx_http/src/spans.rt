@@ -1,4 +1,4 @@
-ghost use Rattle.std.specs.Prelude.{◌≡◌, ◌*◌, ◌<◌, ◌≤◌, ◌↔◌, length, IfOk, IfSome, IfNone, IsErrOf, IsFalse, IsTrue, OnErr, OnOk};
+ghost use Rattle.std.specs.Prelude.{◌≡◌, ℕ, List, ◌*◌, ◌<◌, ◌≤◌, ◌↔◌, length, IfOk, IfSome, IfNone, IsErrOf, IsFalse, IsTrue, OnErr, OnOk};
 ghost use Rattle.httparse.specs.Spans.{RequestOverflows};
 ghost use Rattle.hx_http.specs.Head.{message, many, none, header_limit, IsHead, HasHead};
 ghost use Rattle.hx_http.specs.Spans.{parts_at, AreWithin, HasNoBytes};
@@ -49,13 +49,38 @@ impl HeadSpans {
         self.lines.clear();
     }
 
-    /// How many bytes the spans have, which says how much memory a copy of them takes.
+    /// Whether both are the same spans.
+    pub(crate) fn same(&self, other: &HeadSpans) -> bool
+        ensures { IsTrue result
+            → (bytes : List ℕ) → parts_at bytes self.now ≡ parts_at bytes other.now }
+    {
+        if self.head.method != other.head.method {
+            return false;
+        }
+        if self.head.path != other.head.path {
+            return false;
+        }
+        if self.head.version != other.head.version {
+            return false;
+        }
+        self.lines.as_slice() == other.lines.as_slice()
+    }
+
+    /// Whether half of so many bytes, or more, are of the head as it was read, or of the parts as
+    /// they are now. The former costs no look at the lines.
+    pub(crate) fn are_half_of(&self, count: usize) -> bool {
+        count / 2 <= self.head.len || count / 2 <= self.total_len()
+    }
+
+    /// How many bytes the spans have, each line with two bytes between name and value, which says
+    /// how much memory a copy of them takes.
     pub(crate) fn total_len(&self) -> usize {
         let mut len = len_of(self.head.method).saturating_add(len_of(self.head.path));
         for line in &self.lines {
             len = len
                 .saturating_add(len_of(line.name))
-                .saturating_add(len_of(line.value));
+                .saturating_add(len_of(line.value))
+                .saturating_add(2);
         }
         len
     }

@@ -1,10 +1,9 @@
-use Rattle.std.proofs.Common.{◌≡◌, Err, ap, ◌∙◌}
+use Rattle.std.proofs.Common.{◌≡◌, Err, ap}
 use Rattle.std.proofs.lemmas.Result.{err_from_is_err_and}
 use Rattle.hx_http.specs.declared.fault.HeadFault.TheVariants.{NotAHead, TooManyHeaders}
 use Rattle.hx_http.specs.Head.{message, many, none}
 use Rattle.hx_http.specs.Spans.{parts_at}
 use Rattle.hx_http.proofs.HeadLemmas.{only_head_is}
-use Rattle.hx_http.proofs.SpanLemmas.{no_bytes_parts, no_bytes_within}
 use Rattle.hx_http.proofs.message.Message.read.Goals as goal
 
 pub returns-in_err-len-clause-not_a_head : goal.returns-in_err-len-clause-not_a_head

@@ -1,9 +1,0 @@
-use Rattle.std.proofs.Common.{[], ◌∙◌}
-use Rattle.hx_core.specs.Answers.{header_text}
-use Rattle.hx_core.proofs.ItemLemmas.{one_item_more}
-use Rattle.hx_core.proofs.verdicts.append_lines.Goals as goal
-
-pub loop-at-preserved : goal.loop-at-preserved
-loop-at-preserved c =
-    c.in_ok-append_line.ensures
-    ∙ one_item_more header_text ([], []) c.args.bytes.now.items c.loop-at.bytes.items c.args.head.now.headers c.loop-at.at c.loop-at.invariant
