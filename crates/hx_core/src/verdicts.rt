@@ -66,13 +66,15 @@ fn append_words(bytes: &mut Vec<u8>, verdict: &Verdict) -> Result<(), NoMemory>
         ≡ bytes.old.items ++ verdict_without_head verdict.now) }
 {
     match verdict {
-        Verdict::Pass { backend } => {
-            let name = match backend {
-                Some(name) => name.as_slice(),
-                None => b"-".as_slice(),
-            };
+        Verdict::Pass { backend: None } => {
+            bytes.extend_from_slice(b" pass -\n")?;
+            Ok(())
+        }
+        Verdict::Pass {
+            backend: Some(name),
+        } => {
             bytes.extend_from_slice(b" pass ")?;
-            bytes.extend_from_slice(name)?;
+            bytes.extend_from_slice(name.as_slice())?;
             bytes.extend_from_slice(b"\n")?;
             Ok(())
         }

@@ -21,8 +21,8 @@ pub(crate) fn append(bytes: &mut Vec<u8>, text: &[u8]) -> Result<Span, AllocErro
     })
 }
 
-/// Appends the name and the value of a header line, and answers where they lie. They stand as they
-/// are written, so that a copy of the line is one.
+/// Appends the name and the value of a header line, and answers where they lie. They stand there as
+/// `NAME: VALUE`, so that one copy writes the line.
 pub(crate) fn append_line(
     bytes: &mut Vec<u8>,
     name: &[u8],

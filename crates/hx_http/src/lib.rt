@@ -1,5 +1,5 @@
-//! The head of an HTTP request: its reader, the message that it gives, edits of the message, and its
-//! text.
+//! The head of an HTTP request: its reader, the message that it gives, edits of the message, and
+//! its text.
 //!
 //! ```
 //! let (mut message, len) = read_head(alloc, b"GET /p?q HTTP/1.1\r\nHost: h\r\n\r\nbody")?;

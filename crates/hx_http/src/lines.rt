@@ -1,5 +1,5 @@
 //! Header lines by their spans.
-ghost use Rattle.std.specs.Prelude.{◌≡◌, ◌<◌, ◌≤◌, ◌↔◌, [], ◌∷◌, ◌++◌, length, take, map, All, IsTrue};
+ghost use Rattle.std.specs.Prelude.{◌≡◌, ◌<◌, ◌≤◌, ◌↔◌, ◌+◌, [], ◌∷◌, ◌++◌, length, take, map, All, IsTrue};
 ghost use Rattle.httparse.specs.Spans.{header_bytes, IsHeaderWithin};
 ghost use Rattle.hx_http.specs.Edits.{has_name};
 ghost use Rattle.hx_http.specs.Spans.{lines_without};
@@ -11,7 +11,9 @@ fn has_name(bytes: &[u8], line: HeaderSpan, name: &[u8]) -> bool
     requires { IsHeaderWithin (length bytes.now) line }
     ensures { result ≡ has_name name.now (header_bytes bytes.now line) }
 {
-    line.name.of(bytes).eq_ignore_ascii_case(name)
+    let found = line.name.of(bytes);
+    // A line that has it most often writes it as it is asked for, which costs less to tell.
+    found == name || found.eq_ignore_ascii_case(name)
 }
 
 /// How many of the lines don't have the name.
@@ -33,6 +35,8 @@ fn first_named(bytes: &[u8], lines: &[HeaderSpan], name: &[u8]) -> usize
     requires { All (IsHeaderWithin (length bytes.now)) lines.now }
     ensures none { lines_without bytes.now name.now (take result lines.now)
         ≡ take result lines.now }
+    ensures named { result < length lines.now
+        → lines_without bytes.now name.now (take (result + 1) lines.now) ≡ take result lines.now }
     ensures within { result ≤ length lines.now }
 {
     for i in 0..lines.len() {
@@ -51,8 +55,11 @@ fn keep_others(bytes: &[u8], lines: &mut [HeaderSpan], name: &[u8]) -> usize
     ensures within { result ≤ length lines.old }
 {
     let first = first_named(bytes, lines, name);
+    if first == lines.len() {
+        return first;
+    }
     let mut kept = first;
-    for i in first..lines.len() {
+    for i in first + 1..lines.len() {
         let line = lines[i];
         if !has_name(bytes, line, name) {
             lines[kept] = line;
@@ -113,6 +120,12 @@ pub(crate) fn same_lines(
 {
     if lines.len() != other_lines.len() {
         return false;
+    }
+    // Where an edit has put a line in place of another, it is the last that differs.
+    if let Some(last) = lines.len().checked_sub(1) {
+        if !same_line(bytes, lines[last], other_bytes, other_lines[last]) {
+            return false;
+        }
     }
     for i in 0..lines.len() {
         if !same_line(bytes, lines[i], other_bytes, other_lines[i]) {
