@@ -1,2 +1,5 @@
 pub mod ListLemmas
 pub mod StepLemmas
+pub mod OneLemmas
+pub mod LastLemmas
+pub mod FoundLemmas

@@ -1,9 +1,10 @@
 -- Lists that are cut, filtered and joined.
-use Rattle.std.proofs.Common.{◌≡◌, ℕ, Bool, true, ◌+◌, ◌≤◌, ◌<◌, suc, zero, List, [], ◌∷◌, ◌++◌, Some, None, length, drop, map, refl, ap, sym, ◌∙◌, arith, add-one}
+use Rattle.std.proofs.Common.{◌≡◌, ℕ, Bool, true, ◌+◌, ◌≤◌, ◌<◌, suc, zero, List, [], ◌∷◌, ◌++◌, Some, None, length, drop, map, refl, ap, sym, subst, ◌∙◌, arith, add-one}
 use Rattle.std.specs.Prelude.{Option, slice_get, reverse, min, ◌^◌, ◌-◌}
 use Rattle.std.specs.List.{filter, flat_map}
 use Rattle.std.specs.Option.{option_map_or, option_to_list}
-use Rattle.std.specs.Str.{bytes_eq}
+use Rattle.std.specs.Str.{bytes_eq, str_eq_ignore_ascii_case, str_to_ascii_lowercase}
+use Rattle.std.proofs.lemmas.Slice.Eq.{bytes_eq-Decides}
 use Rattle.std.proofs.lemmas.List.{map-append, length-reverse, reverse-append}
 use Rattle.std.proofs.lemmas.Option.{slice_get_past}
 use Rattle.std.proofs.lemmas.List.Elements.{filter-append}
@@ -104,6 +105,13 @@ few_are_first (x ∷ y ∷ ys) few = absurd (omega (arith, few))
 
 pub few_by_count : {A : Type 0} (xs : List A) (n : ℕ) → n ≡ min (length xs) (2 ^ 64 - 1) → n ≤ 1 → option_to_list (slice_get xs zero) ≡ xs
 few_by_count xs n counted few = few_are_first xs (omega (arith, counted, few))
+
+-- a name that is the same is the same whatever the case of its letters
+pub same_whatever_case : (name other : List ℕ) → bytes_eq name other ≡ true → str_eq_ignore_ascii_case name other ≡ true
+same_whatever_case name other same =
+    let is : name ≡ other = (bytes_eq-Decides name other).0 same in
+    subst (λ (n : List ℕ). str_eq_ignore_ascii_case name n ≡ true) is
+    ((bytes_eq-Decides (str_to_ascii_lowercase name) (str_to_ascii_lowercase name)).1 refl)
 
 -- a reader that goes forward
 pub ruleset forward = (none_left, some_left, next_left)

@@ -79,6 +79,17 @@ occurrences_of (fetch.ReqHdrCnt name) context = count_of (header_values name con
 occurrences_of (fetch.ReqCookCnt name) context = count_of (cookie_values name context.message) ∷ []
 occurrences_of fetch context = text_occurrences (fetch_kind fetch) (texts_of fetch context.message)
 
+-- Whether a fetch has exactly one occurrence, whatever the request is: each has that isn't about
+-- lines, values, cookies or parameters.
+abbrev pub has_one_occurrence : Fetch → Bool
+has_one_occurrence (fetch.ReqHdr name at) = false
+has_one_occurrence (fetch.ReqFhdr name at) = false
+has_one_occurrence (fetch.ReqHdrIp name at) = false
+has_one_occurrence (fetch.ReqHdrVal name at) = false
+has_one_occurrence (fetch.ReqCook name) = false
+has_one_occurrence (fetch.UrlParam name delim) = false
+has_one_occurrence _ = true
+
 -- Whether the value is bytes that are copied, and not lent: those of an argument, of which the
 -- default of a variable is one where the variable isn't set, and those that `base` puts together
 -- where there is a path.

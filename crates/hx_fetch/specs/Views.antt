@@ -7,9 +7,7 @@ use Rattle.std.specs.Str.{bytes_eq, str_eq_ignore_ascii_case}
 use Rattle.hx_lists.specs.HeaderValues.{hdr_values}
 use Rattle.hx_lists.specs.NamedValues.{NamedValue, cookies, params}
 use Rattle.hx_sample.specs.declared.sample.Value.{Value}
-use Rattle.hx_sample.specs.Seen.{occurrence_value}
-use Rattle.hx_fetch.specs.declared.lookup.Found.{Found}
-use Rattle.hx_fetch.specs.declared.lookup.Found.TheVariants.{One, Texts}
+use Rattle.hx_fetch.specs.declared.lookup.TextQuery.{TextQuery}
 use Rattle.hx_fetch.specs.declared.texts.LineForm.{LineForm}
 use Rattle.hx_fetch.specs.declared.texts.LineForm.TheVariants as form
 use Rattle.hx_fetch.specs.declared.texts.LineRest.{LineRest}
@@ -54,8 +52,7 @@ abbrev pub texts_of_reader : Option (List ℕ) → LineRest → LineForm → Lis
 texts_of_reader name rest form lines =
     texts_of_rest name rest ++ flat_map (texts_of_line form name) lines
 
--- the occurrences that a looked up fetch stands for
-abbrev pub found_occurrences : Found → List (Option Value)
-found_occurrences (One occurrence) = occurrence_value occurrence ∷ []
-found_occurrences (Texts source at kind) =
-    text_occurrences kind (selection at (source_texts source))
+-- the occurrences that a fetch about lines, values, cookies or parameters leads to
+abbrev pub query_occurrences : TextQuery → List (Option Value)
+query_occurrences query =
+    text_occurrences query.kind (selection query.at (source_texts query.source))

@@ -1,10 +1,11 @@
-ghost use Rattle.std.specs.Prelude.{◌≡◌, ◌≤◌, false, length, IfOk, IsOk};
+ghost use Rattle.std.specs.Prelude.{◌≡◌, ◌≤◌, false, true, is_some, length, IfOk, IsOk};
+ghost use Rattle.std.specs.List.{list_any};
 ghost use Rattle.hx_sample.specs.Seen.{occurrence_value};
-ghost use Rattle.hx_fetch.specs.Fetches.{occurrences_of, chosen_of, is_copied, takes_last};
+ghost use Rattle.hx_fetch.specs.Fetches.{occurrences_of, chosen_of, has_one_occurrence, is_copied, takes_last};
 ghost use Rattle.hx_fetch.specs.World.{context_of};
 
-use crate::lookup::{Found, look_up};
-use crate::walks::{list, lone, pick, pick_end, read_text};
+use crate::lookup::{has_one_occurrence, sole_occurrence, text_query};
+use crate::walks::{has_value, list, lone, pick, pick_end, read_text};
 use crate::world::World;
 use hx_ast::Fetch;
 use hx_sample::{Sample, Samples};
@@ -53,10 +54,13 @@ pub fn occurrences<'w>(
     ensures no_memory { is_copied fetch.now (context_of world.now) ≡ false
         → length (occurrences_of fetch.now (context_of world.now)) ≤ 1 → IsOk result }
 {
-    match look_up(alloc, fetch, world)? {
-        Found::One(occurrence) => Ok(Samples::lone(alloc, occurrence)),
-        Found::Texts(source, None, kind) => list(alloc, source, kind),
-        Found::Texts(source, Some(at), kind) => Ok(lone(alloc, pick(source, at), kind)),
+    if has_one_occurrence(fetch) {
+        return Ok(Samples::lone(alloc, sole_occurrence(alloc, fetch, world)?));
+    }
+    let query = text_query(fetch, world);
+    match query.at {
+        None => list(alloc, query.source, query.kind),
+        Some(at) => Ok(lone(alloc, pick(query.source, at), query.kind)),
     }
 }
 
@@ -74,11 +78,55 @@ pub fn chosen<'w>(
         occurrence_value occurrence ≡ chosen_of fetch.now (context_of world.now)) }
     ensures no_memory { is_copied fetch.now (context_of world.now) ≡ false → IsOk result }
 {
-    match look_up(alloc, fetch, world)? {
-        Found::One(occurrence) => Ok(occurrence),
-        Found::Texts(source, at, kind) => match pick_end(source, at, takes_last(fetch)) {
-            Some(text) => Ok(read_text(alloc, text, kind)),
-            None => Ok(None),
+    if has_one_occurrence(fetch) {
+        sole_occurrence(alloc, fetch, world)
+    } else {
+        Ok(chosen_text(alloc, fetch, world))
+    }
+}
+
+/// The same of a fetch that hasn't one occurrence.
+fn chosen_text<'w>(alloc: Global, fetch: &Fetch, world: &World<'w>) -> Option<Sample<'w>>
+    requires { has_one_occurrence fetch.now ≡ false }
+    ensures { occurrence_value result ≡ chosen_of fetch.now (context_of world.now) }
+{
+    let query = text_query(fetch, world);
+    match pick_end(query.source, query.at, takes_last(fetch)) {
+        Some(text) => read_text(alloc, text, query.kind),
+        None => None,
+    }
+}
+
+/// Whether the one occurrence of a fetch is a value.
+fn is_sole_found(fetch: &Fetch, world: &World<'_>) -> bool
+    requires { has_one_occurrence fetch.now ≡ true }
+    ensures { result ≡ is_some (chosen_of fetch.now (context_of world.now)) }
+{
+    match fetch {
+        Fetch::Var(name, default) => {
+            default.is_some() || world.vars.get(world.conn.id, name).is_some()
+        }
+        Fetch::Path | Fetch::Base => world.message.path().is_some(),
+        Fetch::Query => world.message.query().is_some(),
+        _ => true,
+    }
+}
+
+/// Whether some occurrence of `fetch` in `world` is a value. No value is made for that, and no
+/// memory is taken, neither of `alloc` nor else.
+#[tactic(auto, using(crate::proofs::OneLemmas::found_alone, crate::proofs::FoundLemmas::found_picked))]
+pub fn is_found(alloc: Global, fetch: &Fetch, world: &World<'_>) -> bool
+    ensures { result ≡ list_any is_some (occurrences_of fetch.now (context_of world.now)) }
+{
+    if has_one_occurrence(fetch) {
+        return is_sole_found(fetch, world);
+    }
+    let query = text_query(fetch, world);
+    match query.at {
+        None => has_value(alloc, query.source, query.kind),
+        Some(at) => match pick(query.source, at) {
+            Some(text) => read_text(alloc, text, query.kind).is_some(),
+            None => false,
         },
     }
 }

@@ -18,6 +18,7 @@ mod texts;
 mod walks;
 mod world;
 
-pub use fetching::{chosen, occurrences};
+pub use fetching::{chosen, is_found, occurrences};
+pub use lookup::has_one_occurrence;
 pub use occurrence_reader::OccurrenceReader;
 pub use world::{Conn, World};

@@ -8,12 +8,14 @@ ghost use Rattle.hx_fetch.specs.Views.{lines_under};
 use hx_http::Message;
 use std::marker::Model;
 
+/// Most lines write a name as it is asked for, which is known at once.
+#[tactic(auto, using(crate::proofs::ListLemmas::same_whatever_case))]
 fn is_header_name(line_name: &[u8], name: Option<&[u8]>) -> bool
     ensures { result ≡ option_map_or (str_eq_ignore_ascii_case line_name.now)
         (option_copied name.entry) true }
 {
     match name {
-        Some(name) => line_name.eq_ignore_ascii_case(name),
+        Some(name) => line_name == name || line_name.eq_ignore_ascii_case(name),
         None => true,
     }
 }

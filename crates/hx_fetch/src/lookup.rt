@@ -1,14 +1,14 @@
-ghost use Rattle.std.specs.Prelude.{◌≡◌, ◌==◌, [], ◌++◌, false, is_some, IfOk, IsOk, Some, codes, option_map, slice_get, unwrap_or, if◌then◌else◌};
+ghost use Rattle.std.specs.Prelude.{◌≡◌, ◌==◌, [], ◌∷◌, ◌++◌, false, true, is_some, IfOk, IsOk, Some, codes, option_map, slice_get, unwrap_or, if◌then◌else◌};
 ghost use Rattle.std.specs.Option.{option_copied};
 ghost use Rattle.hx_ast.specs.declared.fetch.Fetch.TheVariants as fetch;
 ghost use Rattle.hx_sample.specs.declared.sample.Value.TheVariants as value;
 ghost use Rattle.hx_sample.specs.Seen.{bytes_of, occurrence_value};
 ghost use Rattle.hx_sample.specs.Vars.{var_of};
 ghost use Rattle.hx_http.specs.Target.{path_of};
-ghost use Rattle.hx_fetch.specs.Fetches.{base_of, is_copied, occurrences_of, value_or_default};
+ghost use Rattle.hx_fetch.specs.Fetches.{base_of, chosen_of, has_one_occurrence, is_copied, occurrences_of, value_or_default};
 ghost use Rattle.hx_fetch.specs.Names.{cookie_values, header_lines, header_values};
-ghost use Rattle.hx_fetch.specs.Views.{found_occurrences, source_texts};
-ghost use Rattle.hx_fetch.specs.World.{context_of};
+ghost use Rattle.hx_fetch.specs.Views.{query_occurrences, source_texts};
+ghost use Rattle.hx_fetch.specs.World.{Context, context_of};
 
 use crate::lines::Lines;
 use crate::texts::TextSource;
@@ -20,12 +20,13 @@ use hx_sample::{Bytes, Sample, lend};
 use hx_text::{Kind, NoMemory, Octets, VarName};
 use std::alloc::Global;
 
-/// What a fetch leads to: one occurrence, or a source of texts, of which all or the one of the
-/// number that is given are its occurrences, each as a value of a kind.
-#[derive(Drop)]
-pub(crate) enum Found<'f, 'w> {
-    One(Option<Sample<'w>>),
-    Texts(TextSource<'f, 'w>, Option<i64>, Kind),
+/// What a fetch about lines, values, cookies or parameters leads to: a source of texts, of which all
+/// or the one of the number that is given are its occurrences, each as a value of a kind.
+#[derive(Clone, Copy)]
+pub(crate) struct TextQuery<'f, 'w> {
+    pub source: TextSource<'f, 'w>,
+    pub at: Option<i64>,
+    pub kind: Kind,
 }
 
 fn version_text(minor: u8) -> &'static [u8]
@@ -134,52 +135,89 @@ fn copied<'w>(alloc: Global, octets: &Octets) -> Result<Bytes<'w>, NoMemory>
     Ok(Bytes::Own(Octets::copy(alloc, octets.as_slice())?))
 }
 
-/// What a fetch leads to in a world. Texts and sources lend from the message, the variables and the
-/// fetch; the arguments of a fetch, and what `base` puts together, are copied.
-pub(crate) fn look_up<'f, 'w>(
+/// Whether `fetch` has exactly one occurrence, whatever the request is: that which `chosen` gives.
+/// Each has that isn't about lines, values, cookies or parameters.
+#[tactic(auto, using(crate::proofs::OneLemmas::one_occurrence))]
+pub fn has_one_occurrence(fetch: &Fetch) -> bool
+    ensures value { result ≡ has_one_occurrence fetch.now }
+    ensures one { has_one_occurrence fetch.now ≡ true → (context : Context)
+        → occurrences_of fetch.now context ≡ chosen_of fetch.now context ∷ [] }
+{
+    match fetch {
+        Fetch::ReqHdr(_, _) | Fetch::ReqFhdr(_, _) => false,
+        Fetch::ReqHdrIp(_, _) | Fetch::ReqHdrVal(_, _) => false,
+        Fetch::ReqCook(_) | Fetch::UrlParam(_, _) => false,
+        _ => true,
+    }
+}
+
+/// The occurrence of a fetch that has one. Texts lend from the message and the variables; the
+/// arguments of a fetch, and what `base` puts together, are copied.
+pub(crate) fn sole_occurrence<'w>(
     alloc: Global,
-    fetch: &'f Fetch,
+    fetch: &Fetch,
     world: &World<'w>,
-) -> Result<Found<'f, 'w>, NoMemory>
-    ensures value { IfOk result (λ found.
-        found_occurrences found ≡ occurrences_of fetch.now (context_of world.now)) }
+) -> Result<Option<Sample<'w>>, NoMemory>
+    requires { has_one_occurrence fetch.now ≡ true }
+    ensures value { IfOk result (λ occurrence.
+        occurrence_value occurrence ≡ chosen_of fetch.now (context_of world.now)) }
     ensures no_memory { is_copied fetch.now (context_of world.now) ≡ false → IsOk result }
 {
     let message = world.message;
     let conn = world.conn;
-    Ok(match fetch {
-        Fetch::AlwaysTrue => Found::One(Some(Sample::Bool(true))),
-        Fetch::AlwaysFalse => Found::One(Some(Sample::Bool(false))),
-        Fetch::Bool(b) => Found::One(Some(Sample::Bool(*b))),
-        Fetch::Int(n) => Found::One(Some(Sample::Int(*n))),
-        Fetch::Str(text) => Found::One(Some(Sample::Str(copied(alloc, text)?))),
-        Fetch::Bin(bytes) => Found::One(Some(Sample::Bin(copied(alloc, bytes)?))),
-        Fetch::Ipv4(ip) => Found::One(Some(Sample::Ip(*ip))),
-        Fetch::Ipv6(ip) => Found::One(Some(Sample::Ip(*ip))),
-        Fetch::Var(name, default) => Found::One(variable_or(alloc, world, name, default)?),
-        Fetch::Src => Found::One(Some(Sample::Ip(conn.src))),
-        Fetch::Dst => Found::One(Some(Sample::Ip(conn.dst))),
-        Fetch::SrcPort => Found::One(Some(Sample::Int(i64::from(conn.src_port)))),
-        Fetch::DstPort => Found::One(Some(Sample::Int(i64::from(conn.dst_port)))),
-        Fetch::Method => Found::One(Some(Sample::Method(Bytes::Lent(message.method())))),
-        Fetch::ReqVer => Found::One(lent_text(Some(version_text(message.minor())))),
-        Fetch::Path => Found::One(lent_text(message.path())),
-        Fetch::Query => Found::One(lent_text(message.query())),
-        Fetch::Url => Found::One(lent_text(Some(message.target()))),
-        Fetch::Base => Found::One(base(alloc, message)?),
-        Fetch::ReqHdr(name, at) => Found::Texts(values(message, name), *at, Kind::Str),
-        Fetch::ReqFhdr(name, at) => Found::Texts(lines(message, name), *at, Kind::Str),
-        Fetch::ReqHdrIp(name, at) => Found::Texts(values(message, name), *at, Kind::Ip),
-        Fetch::ReqHdrVal(name, at) => Found::Texts(values(message, name), *at, Kind::Int),
+    match fetch {
+        Fetch::AlwaysTrue => Ok(Some(Sample::Bool(true))),
+        Fetch::AlwaysFalse => Ok(Some(Sample::Bool(false))),
+        Fetch::Bool(b) => Ok(Some(Sample::Bool(*b))),
+        Fetch::Int(n) => Ok(Some(Sample::Int(*n))),
+        Fetch::Str(text) => Ok(Some(Sample::Str(copied(alloc, text)?))),
+        Fetch::Bin(bytes) => Ok(Some(Sample::Bin(copied(alloc, bytes)?))),
+        Fetch::Ipv4(ip) => Ok(Some(Sample::Ip(*ip))),
+        Fetch::Ipv6(ip) => Ok(Some(Sample::Ip(*ip))),
+        Fetch::Var(name, default) => variable_or(alloc, world, name, default),
+        Fetch::Src => Ok(Some(Sample::Ip(conn.src))),
+        Fetch::Dst => Ok(Some(Sample::Ip(conn.dst))),
+        Fetch::SrcPort => Ok(Some(Sample::Int(i64::from(conn.src_port)))),
+        Fetch::DstPort => Ok(Some(Sample::Int(i64::from(conn.dst_port)))),
+        Fetch::Method => Ok(Some(Sample::Method(Bytes::Lent(message.method())))),
+        Fetch::ReqVer => Ok(lent_text(Some(version_text(message.minor())))),
+        Fetch::Path => Ok(lent_text(message.path())),
+        Fetch::Query => Ok(lent_text(message.query())),
+        Fetch::Url => Ok(lent_text(Some(message.target()))),
+        Fetch::Base => base(alloc, message),
         Fetch::ReqHdrCnt(name) => {
             let source = TextSource::Values(message, given_name(name));
-            Found::One(Some(count(source)))
+            Ok(Some(count(source)))
         }
-        Fetch::ReqCook(name) => Found::Texts(cookies(message, name), None, Kind::Str),
-        Fetch::ReqCookCnt(name) => Found::One(Some(count(cookies(message, name)))),
+        Fetch::ReqCookCnt(name) => Ok(Some(count(cookies(message, name)))),
+        Fetch::ReqHdr(_, _) | Fetch::ReqFhdr(_, _) => unreachable!(),
+        Fetch::ReqHdrIp(_, _) | Fetch::ReqHdrVal(_, _) => unreachable!(),
+        Fetch::ReqCook(_) | Fetch::UrlParam(_, _) => unreachable!(),
+    }
+}
+
+/// The texts of a fetch that hasn't one occurrence. They lend from the message and the fetch.
+pub(crate) fn text_query<'f, 'w>(fetch: &'f Fetch, world: &World<'w>) -> TextQuery<'f, 'w>
+    requires { has_one_occurrence fetch.now ≡ false }
+    ensures { query_occurrences result ≡ occurrences_of fetch.now (context_of world.now) }
+{
+    let message = world.message;
+    match fetch {
+        Fetch::ReqHdr(name, at) => query(values(message, name), *at, Kind::Str),
+        Fetch::ReqFhdr(name, at) => query(lines(message, name), *at, Kind::Str),
+        Fetch::ReqHdrIp(name, at) => query(values(message, name), *at, Kind::Ip),
+        Fetch::ReqHdrVal(name, at) => query(values(message, name), *at, Kind::Int),
+        Fetch::ReqCook(name) => query(cookies(message, name), None, Kind::Str),
         Fetch::UrlParam(name, delim) => {
             let source = TextSource::Params(message, given_name(name), *delim);
-            Found::Texts(source, None, Kind::Str)
+            query(source, None, Kind::Str)
         }
-    })
+        _ => unreachable!(),
+    }
+}
+
+fn query<'f, 'w>(source: TextSource<'f, 'w>, at: Option<i64>, kind: Kind) -> TextQuery<'f, 'w>
+    ensures { result ≡ record { source = source.entry; at = at; kind = kind } }
+{
+    TextQuery { source, at, kind }
 }

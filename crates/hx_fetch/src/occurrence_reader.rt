@@ -4,10 +4,10 @@ ghost use Rattle.std.specs.Option.{option_copied, option_to_list};
 ghost use Rattle.hx_sample.specs.Seen.{occurrence_value};
 ghost use Rattle.hx_fetch.specs.Fetches.{is_copied, occurrences_of, text_occurrences};
 ghost use Rattle.hx_fetch.specs.ReaderView.{left_occurrences};
-ghost use Rattle.hx_fetch.specs.Views.{found_occurrences};
+ghost use Rattle.hx_fetch.specs.Views.{query_occurrences};
 ghost use Rattle.hx_fetch.specs.World.{context_of};
 
-use crate::lookup::{Found, look_up};
+use crate::lookup::{TextQuery, has_one_occurrence, sole_occurrence, text_query};
 use crate::texts::TextReader;
 use crate::walks::{pick, read_text};
 use crate::world::World;
@@ -91,29 +91,29 @@ impl<'f, 'w> OccurrenceReader<'f, 'w> {
             reader ≡ occurrences_of fetch.now (context_of world.now)) }
         ensures no_memory { is_copied fetch.now (context_of world.now) ≡ false → IsOk result }
     {
-        Ok(OccurrenceReader::of_found(alloc, look_up(alloc, fetch, world)?))
-    }
-
-    /// All occurrences that a looked up fetch stands for.
-    fn of_found(alloc: Global, found: Found<'f, 'w>) -> OccurrenceReader<'f, 'w>
-        ensures { result ≡ found_occurrences found.entry }
-    {
-        match found {
-            Found::One(occurrence) => OccurrenceReader {
+        if has_one_occurrence(fetch) {
+            let occurrence = sole_occurrence(alloc, fetch, world)?;
+            return Ok(OccurrenceReader {
                 alloc,
                 kind: Kind::Any,
                 left: Left::One(Some(occurrence)),
-            },
-            Found::Texts(source, None, kind) => OccurrenceReader {
-                alloc,
-                kind,
-                left: Left::Texts(TextReader::new(source)),
-            },
-            Found::Texts(source, Some(at), kind) => OccurrenceReader {
-                alloc,
-                kind,
-                left: Left::One(picked(alloc, pick(source, at), kind)),
-            },
+            });
+        }
+        Ok(OccurrenceReader::of_texts(alloc, text_query(fetch, world)))
+    }
+
+    /// All occurrences that a fetch about texts leads to.
+    fn of_texts(alloc: Global, query: TextQuery<'f, 'w>) -> OccurrenceReader<'f, 'w>
+        ensures { result ≡ query_occurrences query.entry }
+    {
+        let left = match query.at {
+            None => Left::Texts(TextReader::new(query.source)),
+            Some(at) => Left::One(picked(alloc, pick(query.source, at), query.kind)),
+        };
+        OccurrenceReader {
+            alloc,
+            kind: query.kind,
+            left,
         }
     }
 }

@@ -1,14 +1,20 @@
-ghost use Rattle.std.specs.Prelude.{◌≡◌, ◌+◌, ◌-◌, ◌^◌, ◌≤◌, ◌<◌, ◌↔◌, min, pos, Some, IsOk, IsTrue, IfOk, length, drop, reverse, slice_get};
+ghost use Rattle.std.specs.Prelude.{◌≡◌, ◌+◌, ◌-◌, ◌^◌, ◌≤◌, ◌<◌, ◌↔◌, min, pos, Some, is_some, IsOk, IsTrue, IfOk, length, drop, reverse, slice_get};
 ghost use Rattle.std.specs.Bool.{OnTrue};
+ghost use Rattle.std.specs.List.{list_any};
 ghost use Rattle.std.specs.Option.{option_copied, option_to_list};
+ghost use Rattle.hx_lists.specs.HeaderValues.{hdr_values};
 ghost use Rattle.hx_sample.specs.Cast.{cast_of};
 ghost use Rattle.hx_sample.specs.Seen.{occurrence_value, value_of};
 ghost use Rattle.hx_sample.specs.declared.sample.Value.TheVariants as value;
 ghost use Rattle.hx_fetch.specs.Fetches.{text_occurrences, count_of};
+ghost use Rattle.hx_fetch.specs.Names.{header_lines};
 ghost use Rattle.hx_fetch.specs.Picks.{occurrence_at, selection_end};
 ghost use Rattle.hx_fetch.specs.Views.{source_texts};
 
-use crate::texts::{TextReader, TextSource};
+use crate::lines::Lines;
+use crate::texts::{TextReader, TextSource, lone_value};
+use hx_http::Message;
+use hx_lists::hdr_values;
 use hx_sample::{Bytes, Sample, Samples, cast};
 use hx_text::{Kind, NoMemory};
 use std::alloc::Global;
@@ -58,9 +64,37 @@ fn nth_back<'w>(source: TextSource<'_, 'w>, after: u64) -> Option<&'w [u8]>
     texts.next()
 }
 
-/// The last text, if there is one.
+/// The last line of a header, if there is one.
 #[tactic(auto, using(crate::proofs::StepLemmas::last_of_none))]
-fn last<'w>(source: TextSource<'_, 'w>) -> Option<&'w [u8]>
+fn last_line<'w>(message: &'w Message, name: Option<&[u8]>) -> Option<&'w [u8]>
+    ensures { option_copied result
+        ≡ slice_get (reverse (header_lines (option_copied name.entry) message.now)) 0 }
+{
+    let mut last = None;
+    for line in Lines::new(message, name) {
+        last = Some(line);
+    }
+    last
+}
+
+/// The last value of a header line.
+#[tactic(auto, using(crate::proofs::StepLemmas::last_of_none))]
+fn last_value(line: &[u8]) -> Option<&[u8]>
+    ensures { option_copied result ≡ slice_get (reverse (hdr_values line.now)) 0 }
+{
+    if let Some(value) = lone_value(line) {
+        return Some(value);
+    }
+    let mut last = None;
+    for value in hdr_values(line) {
+        last = Some(value);
+    }
+    last
+}
+
+/// The last of all texts, if there is one.
+#[tactic(auto, using(crate::proofs::StepLemmas::last_of_none))]
+fn last_of_all<'w>(source: TextSource<'_, 'w>) -> Option<&'w [u8]>
     ensures { option_copied result ≡ slice_get (reverse (source_texts source.entry)) 0 }
 {
     let mut last = None;
@@ -68,6 +102,22 @@ fn last<'w>(source: TextSource<'_, 'w>) -> Option<&'w [u8]>
         last = Some(text);
     }
     last
+}
+
+/// The last text, if there is one. Of a header only the last line is cut into its values, as each
+/// line has some.
+#[tactic(auto, using(crate::proofs::LastLemmas::last_of_lines))]
+fn last<'w>(source: TextSource<'_, 'w>) -> Option<&'w [u8]>
+    ensures { option_copied result ≡ slice_get (reverse (source_texts source.entry)) 0 }
+{
+    match source {
+        TextSource::Lines(message, name) => last_line(message, name),
+        TextSource::Values(message, name) => match last_line(message, name) {
+            Some(line) => last_value(line),
+            None => None,
+        },
+        _ => last_of_all(source),
+    }
 }
 
 /// The text of the occurrence `at`, if there is one.
@@ -120,12 +170,51 @@ pub(crate) fn count<'w>(source: TextSource<'_, '_>) -> Sample<'w>
     Sample::Int(text_count(source).min(i64::MAX as u64) as i64)
 }
 
+fn has_line(message: &Message, name: Option<&[u8]>) -> bool
+    ensures { result
+        ≡ is_some (slice_get (header_lines (option_copied name.entry) message.now) 0) }
+{
+    Lines::new(message, name).next().is_some()
+}
+
+/// Whether there is a text. A header line has some values, so it needn't be cut into them.
+#[tactic(auto, using(crate::proofs::FoundLemmas::value_in_lines))]
+fn has_text(source: TextSource<'_, '_>) -> bool
+    ensures { result ≡ is_some (slice_get (source_texts source.entry) 0) }
+{
+    match source {
+        TextSource::Lines(message, name) => has_line(message, name),
+        TextSource::Values(message, name) => has_line(message, name),
+        _ => TextReader::new(source).next().is_some(),
+    }
+}
+
+/// Whether some text is a value of the kind.
+#[tactic(auto, using(crate::proofs::FoundLemmas::found_as_text))]
+pub(crate) fn has_value(alloc: Global, source: TextSource<'_, '_>, kind: Kind) -> bool
+    ensures { result ≡ list_any is_some (text_occurrences kind (source_texts source.entry)) }
+{
+    if kind == Kind::Str {
+        return has_text(source);
+    }
+    for text in TextReader::new(source) {
+        if read_text(alloc, text, kind).is_some() {
+            return true;
+        }
+    }
+    false
+}
+
 /// The text as a value of the kind, or none where it writes none. No memory is taken, neither of
 /// `alloc` nor else.
 pub(crate) fn read_text<'w>(alloc: Global, text: &'w [u8], kind: Kind) -> Option<Sample<'w>>
     ensures { occurrence_value result ≡ cast_of (value.Str text.now) kind }
 {
-    match cast(alloc, Sample::Str(Bytes::Lent(text)), kind) {
+    let sample = Sample::Str(Bytes::Lent(text));
+    if kind == Kind::Str {
+        return Some(sample);
+    }
+    match cast(alloc, sample, kind) {
         Ok(value) => value,
         Err(_) => unreachable!(),
     }

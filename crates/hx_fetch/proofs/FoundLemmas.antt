@@ -1,0 +1,38 @@
+-- Whether some text is a value.
+use Rattle.std.proofs.Common.{◌≡◌, ◌≢◌, ◌||◌, ℕ, ℤ, Bool, true, false, List, [], ◌∷◌, ◌++◌, Some, is_some, refl, ap, sym}
+use Rattle.std.specs.Prelude.{Option, slice_get}
+use Rattle.std.specs.List.{flat_map, list_any}
+use Rattle.std.specs.Option.{option_to_list}
+use Rattle.hx_lists.specs.HeaderValues.{hdr_pieces, hdr_values}
+use Rattle.hx_lists.proofs.CommaLemmas.{IsCutAtCommas-hdr_pieces}
+use Rattle.hx_text.specs.declared.kinds.Kind.{Kind}
+use Rattle.hx_text.specs.declared.kinds.Kind.TheVariants as kind
+use Rattle.hx_fetch.specs.Fetches.{text_occurrences}
+use Rattle.hx_fetch.specs.Picks.{occurrence_at, selection}
+use Rattle.hx_fetch.proofs.LastLemmas.{map_some}
+
+-- of lists of which the first has an item
+first_of_joined : (xs ys : List (List ℕ)) → xs ≢ [] → is_some (slice_get (xs ++ ys) 0) ≡ true
+first_of_joined [] ys some = absurd (some refl)
+first_of_joined (x ∷ xs) ys some = refl
+
+-- there is a value exactly where there is a line
+pub value_in_lines : (lines : List (List ℕ)) → is_some (slice_get lines 0) ≡ is_some (slice_get (flat_map hdr_values lines) 0)
+value_in_lines [] = refl
+value_in_lines (line ∷ lines) =
+    sym (first_of_joined (hdr_values line) (flat_map hdr_values lines) (map_some (hdr_pieces line) (IsCutAtCommas-hdr_pieces line).some))
+
+-- each text is a value of the type of texts
+pub found_as_text : (k : Kind) (texts : List (List ℕ)) → k ≡ kind.Str → is_some (slice_get texts 0) ≡ list_any is_some (text_occurrences k texts)
+found_as_text kind.Str [] is = refl
+found_as_text kind.Str (text ∷ texts) is = refl
+found_as_text _ texts is = cc
+
+or_false : (b : Bool) → (b || false) ≡ b
+or_false true = refl
+or_false false = refl
+
+-- of the one that is selected
+pub found_picked : (k : Kind) (at : ℤ) (texts : List (List ℕ)) (text : Option (List ℕ)) → text ≡ occurrence_at at texts
+    → list_any is_some (text_occurrences k (option_to_list text)) ≡ list_any is_some (text_occurrences k (selection (Some at) texts))
+found_picked k at texts text is = ap (λ o. list_any is_some (text_occurrences k (option_to_list o))) is
