@@ -1,6 +1,9 @@
-ghost use Rattle.std.specs.Prelude.{◌≡◌, IfOk, None};
-ghost use Rattle.hx_fetch.specs.Fetches.{occurrences_of};
-ghost use Rattle.hx_fetch.specs.World.{context_of};
+ghost use Rattle.std.specs.Prelude.{◌≡◌, [], ◌∷◌, true, is_some, List, IfOk, IfSome, None};
+ghost use Rattle.std.specs.List.{list_any};
+ghost use Rattle.hx_fetch.specs.Fetches.{has_one_occurrence, occurrences_of};
+ghost use Rattle.hx_fetch.specs.World.{Context, context_of};
+ghost use Rattle.hx_sample.specs.Find.{Entry};
+ghost use Rattle.hx_sample.specs.Tables.{TableHead};
 ghost use Rattle.hx_sample.specs.Seen.{occurrence_value, value_of};
 ghost use Rattle.hx_expr.specs.Built.{default_text, default_value};
 ghost use Rattle.hx_expr.specs.Values.{HasTableHead, HasTableHeads, IsHeadBy, converted_value, expr_value, expr_values, map_value, mapped_value, value_after};
@@ -10,7 +13,7 @@ use crate::plan::{Built, Plan, PlanConv};
 use hx_ast::{Conv, kind_out};
 use hx_conv_text::apply as apply_text;
 use hx_conv_val::apply as apply_val;
-use hx_fetch::{OccurrenceReader, World, chosen};
+use hx_fetch::{OccurrenceReader, World, chosen, has_one_occurrence, is_found};
 use hx_pool::Steps;
 use hx_sample::{Bytes, Sample, Samples, Tables, cast};
 use hx_text::{By, NoMemory, Out};
@@ -109,6 +112,34 @@ impl Plan {
     {
         OccurrenceReader::new(alloc, &self.fetch, world)
     }
+
+    /// Whether the expression has exactly one value, whatever the request is: that which `eval`
+    /// gives, and which may be none. Then `eval` does what `occurrences` and `eval_occurrence` do,
+    /// with less work.
+    #[tactic(auto, using(crate::proofs::ValueLemmas::one_value))]
+    pub fn has_one_value(&self) -> bool
+        ensures value { result ≡ has_one_occurrence self.now.fetch }
+        ensures one { has_one_occurrence self.now.fetch ≡ true
+            → (context : Context) (heads : List TableHead) (lists : List (List Entry))
+            → expr_values context heads lists self.now
+            ≡ expr_value context heads lists self.now ∷ [] }
+    {
+        has_one_occurrence(&self.fetch)
+    }
+
+    /// Whether the expression has some value in `world` that isn't none, if that can be told
+    /// without a converter: where it has none. No value is made for that, and no memory is taken.
+    #[tactic(auto, using(crate::proofs::ValueLemmas::found_unconverted))]
+    pub fn is_found(&self, alloc: Global, world: &World<'_>) -> Option<bool>
+        ensures { IfSome result (λ found.
+            (heads : List TableHead) (lists : List (List Entry)) → found
+            ≡ list_any is_some (expr_values (context_of world.now) heads lists self.now)) }
+    {
+        match self.convs.as_slice() {
+            [] => Some(is_found(alloc, &self.fetch, world)),
+            _ => None,
+        }
+    }
 }
 
 /// What the converters of the expression make of an occurrence of its fetch in `world`, one after
@@ -154,8 +185,12 @@ pub fn eval<'w, T: Tables, L: Ledger>(
         ≡ expr_value (context_of world.now) (T.heads (T.state tables.now))
         (T.lists (T.state tables.now)) plan.now) }
 {
+    let convs = plan.convs.as_slice();
+    if let [] = convs {
+        return chosen(alloc, &plan.fetch, world);
+    }
     let occurrence = chosen(alloc, &plan.fetch, world)?;
-    eval_occurrence(alloc, plan, occurrence, world, tables, steps)
+    convert(alloc, convs, occurrence, world, tables, steps)
 }
 
 /// The values of the expression in `world`, one for each occurrence of its fetch, in their order,
