@@ -5,3 +5,4 @@ pub mod LocalLemmas
 pub mod PredefinedLemmas
 pub mod TextLemmas
 pub mod AclSetLemmas
+pub mod MatchLemmas

@@ -3,7 +3,7 @@ use Rattle.std.specs.List.{list_any}
 use Rattle.hx_expr.specs.Values.{value_after}
 use Rattle.hx_fetch.specs.World.{context_of}
 use Rattle.hx_acl.specs.Matching.{finds_entry, occurrence_matches, test_matches}
-use Rattle.hx_acl.proofs.test.Test.matches.Given as goal
+use Rattle.hx_acl.proofs.test.Test.some_matches.Given as goal
 
 -- an occurrence that is left matches, after the converters, exactly where one of all does
 abbrev pub invariant-loop-occurrence : goal.invariant-loop-occurrence
