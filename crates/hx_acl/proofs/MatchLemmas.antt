@@ -1,5 +1,5 @@
 -- When tests of one value match, and those that need a value alone.
-use Rattle.std.proofs.Common.{◌≡◌, Bool, true, false, ◌||◌, ℕ, List, [], ◌∷◌, Option, None, Some, is_some, refl, ap, sym, ◌∙◌}
+use Rattle.std.proofs.Common.{◌≡◌, Bool, true, false, ◌||◌, List, [], ◌∷◌, Option, None, Some, is_some, refl, ap, sym, ◌∙◌}
 use Rattle.std.specs.List.{list_any}
 use Rattle.hx_ast.specs.declared.statement.Decl.{Decl}
 use Rattle.hx_expr.specs.Values.{expr_value, expr_values}

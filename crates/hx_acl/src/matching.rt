@@ -112,6 +112,7 @@ impl Test {
     }
 
     /// Whether the occurrence matches.
+    #[inline(always)]
     fn accepts<T: Tables, L: Ledger>(
         &self,
         alloc: Global,

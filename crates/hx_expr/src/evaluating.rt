@@ -173,6 +173,7 @@ pub fn eval_occurrence<'w, T: Tables, L: Ledger>(
 ///
 /// The heads that the expression names are heads of these tables, with the match methods that it
 /// names there.
+#[inline(always)]
 pub fn eval<'w, T: Tables, L: Ledger>(
     alloc: Global,
     plan: &Plan,
@@ -185,12 +186,37 @@ pub fn eval<'w, T: Tables, L: Ledger>(
         ≡ expr_value (context_of world.now) (T.heads (T.state tables.now))
         (T.lists (T.state tables.now)) plan.now) }
 {
-    let convs = plan.convs.as_slice();
-    if let [] = convs {
-        return chosen(alloc, &plan.fetch, world);
+    if let [] = plan.convs.as_slice() {
+        chosen(alloc, &plan.fetch, world)
+    } else {
+        eval_converted(alloc, plan, world, tables, steps)
     }
+}
+
+/// The same of an expression that may have converters. It is kept out of its caller, as `convert`
+/// is.
+#[inline(never)]
+fn eval_converted<'w, T: Tables, L: Ledger>(
+    alloc: Global,
+    plan: &Plan,
+    world: &World<'w>,
+    tables: &'w T,
+    steps: &mut Steps<L>,
+) -> Result<Option<Sample<'w>>, NoMemory>
+    requires heads { HasTableHeads (T.heads (T.state tables.now)) plan.now.convs }
+    ensures { IfOk result (λ value. occurrence_value value
+        ≡ expr_value (context_of world.now) (T.heads (T.state tables.now))
+        (T.lists (T.state tables.now)) plan.now) }
+{
     let occurrence = chosen(alloc, &plan.fetch, world)?;
-    convert(alloc, convs, occurrence, world, tables, steps)
+    convert(
+        alloc,
+        plan.convs.as_slice(),
+        occurrence,
+        world,
+        tables,
+        steps,
+    )
 }
 
 /// The values of the expression in `world`, one for each occurrence of its fetch, in their order,

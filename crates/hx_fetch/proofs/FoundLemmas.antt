@@ -1,5 +1,5 @@
 -- Whether some text is a value.
-use Rattle.std.proofs.Common.{◌≡◌, ◌≢◌, ◌||◌, ℕ, ℤ, Bool, true, false, List, [], ◌∷◌, ◌++◌, Some, is_some, refl, ap, sym}
+use Rattle.std.proofs.Common.{◌≡◌, ◌≢◌, ℕ, ℤ, true, List, [], ◌∷◌, ◌++◌, Some, is_some, refl, ap, sym}
 use Rattle.std.specs.Prelude.{Option, slice_get}
 use Rattle.std.specs.List.{flat_map, list_any}
 use Rattle.std.specs.Option.{option_to_list}
@@ -10,6 +10,7 @@ use Rattle.hx_text.specs.declared.kinds.Kind.TheVariants as kind
 use Rattle.hx_fetch.specs.Fetches.{text_occurrences}
 use Rattle.hx_fetch.specs.Picks.{occurrence_at, selection}
 use Rattle.hx_fetch.proofs.LastLemmas.{map_some}
+use Rattle.hx_fetch.proofs.OneLemmas.{found_alone}
 
 -- of lists of which the first has an item
 first_of_joined : (xs ys : List (List ℕ)) → xs ≢ [] → is_some (slice_get (xs ++ ys) 0) ≡ true
@@ -28,11 +29,10 @@ found_as_text kind.Str [] is = refl
 found_as_text kind.Str (text ∷ texts) is = refl
 found_as_text _ texts is = cc
 
-or_false : (b : Bool) → (b || false) ≡ b
-or_false true = refl
-or_false false = refl
-
 -- of the one that is selected
 pub found_picked : (k : Kind) (at : ℤ) (texts : List (List ℕ)) (text : Option (List ℕ)) → text ≡ occurrence_at at texts
     → list_any is_some (text_occurrences k (option_to_list text)) ≡ list_any is_some (text_occurrences k (selection (Some at) texts))
 found_picked k at texts text is = ap (λ o. list_any is_some (text_occurrences k (option_to_list o))) is
+
+-- whether some occurrence is a value
+pub ruleset found = (found_alone, found_picked)

@@ -69,6 +69,7 @@ pub fn occurrences<'w>(
 /// `cook` with a name, and the first of the others. The occurrences and their values are those of
 /// `occurrences`, and no list of them is made. It fails only where memory runs out, which it can
 /// only for an argument and for `base` where there is a path.
+#[inline(always)]
 pub fn chosen<'w>(
     alloc: Global,
     fetch: &Fetch,
@@ -85,7 +86,9 @@ pub fn chosen<'w>(
     }
 }
 
-/// The same of a fetch that hasn't one occurrence.
+/// The same of a fetch that hasn't one occurrence. It is kept out of its caller, which most fetches
+/// don't leave: a function pays at its entry for the locals of all that is inlined into it.
+#[inline(never)]
 fn chosen_text<'w>(alloc: Global, fetch: &Fetch, world: &World<'w>) -> Option<Sample<'w>>
     requires { has_one_occurrence fetch.now ≡ false }
     ensures { occurrence_value result ≡ chosen_of fetch.now (context_of world.now) }
@@ -114,7 +117,7 @@ fn is_sole_found(fetch: &Fetch, world: &World<'_>) -> bool
 
 /// Whether some occurrence of `fetch` in `world` is a value. No value is made for that, and no
 /// memory is taken, neither of `alloc` nor else.
-#[tactic(auto, using(crate::proofs::OneLemmas::found_alone, crate::proofs::FoundLemmas::found_picked))]
+#[tactic(auto, using(crate::proofs::FoundLemmas::found))]
 pub fn is_found(alloc: Global, fetch: &Fetch, world: &World<'_>) -> bool
     ensures { result ≡ list_any is_some (occurrences_of fetch.now (context_of world.now)) }
 {
