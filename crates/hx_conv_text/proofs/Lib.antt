@@ -9,4 +9,5 @@ pub mod ReplacementLemmas
 pub mod RowLemmas
 pub mod PartLemmas
 pub mod FieldLemmas
+pub mod FixedLemmas
 pub mod WordLemmas

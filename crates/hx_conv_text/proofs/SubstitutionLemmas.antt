@@ -6,13 +6,12 @@ use Rattle.std.proofs.lemmas.List.{drop_more, get_or_default}
 use Rattle.std.proofs.lemmas.Option.{same_Some}
 use mathlib.Core.Path.{fun_ext}
 use Rattle.regex_hir.specs.Find.{matches_from}
-use Rattle.regex.specs.Bytes.{IsCapturesOf, captures_span, regex_pattern}
+use Rattle.regex.specs.Bytes.{IsCapturesOf, captures_span}
 use Rattle.regex.specs.Patterns.{Re, Match, SameCaptures, find, find_all, span}
 use Rattle.regex.specs.Replace.{IsReplacedBy, bytes_of, group_bytes, replaced_by}
 use Rattle.regex.specs.Search.{group_span}
 use Rattle.regex.specs.Writes.{both}
 use Rattle.regex.specs.declared.bytes.captures.Captures.{Captures}
-use Rattle.regex.specs.declared.bytes.regex.Regex.{Regex}
 use Rattle.regex.proofs.ForCallers.{find_all_alike, spans}
 use Rattle.regex_syntax.proofs.CapturesLemmas.{find_alike}
 use Rattle.std.specs.Option.{option_to_list}
@@ -22,7 +21,7 @@ use Rattle.hx_regex.specs.Searches.{IsPatternOf}
 use Rattle.hx_conv_text.specs.Captured.{captured}
 use Rattle.hx_conv_text.specs.Substitution.{expanded_of, expansion, expansion_at, substituted_text}
 
-plain : (group : ℕ → List ℕ) (b : ℕ) (rest : List ℕ) → (b ≡ 92 → ⊥) ⊎ (rest ≡ [])
+pub plain : (group : ℕ → List ℕ) (b : ℕ) (rest : List ℕ) → (b ≡ 92 → ⊥) ⊎ (rest ≡ [])
     → expansion group (b ∷ rest) ≡ b ∷ expansion group rest
 plain group b [] h = refl
 plain group b (next ∷ rest) (inl other) = rw (ne_eqb b 92 other) refl

@@ -20,6 +20,7 @@ mod joining;
 pub mod laws;
 mod letters;
 mod pieces;
+mod replacing;
 mod substitution;
 mod texts;
 mod url;

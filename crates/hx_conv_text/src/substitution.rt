@@ -1,4 +1,4 @@
-ghost use Rattle.std.specs.Prelude.{◌≡◌, ℕ, Bool, List, Some, ◌++◌, ◌≤◌, drop, take, length, option_map, option_to_list, unwrap_or, IfOk};
+ghost use Rattle.std.specs.Prelude.{◌≡◌, ℕ, Bool, List, Some, option_map, option_to_list, unwrap_or, IfOk, IsTrue};
 ghost use Rattle.regex.specs.Bytes.{matcher_pattern, regex_pattern};
 ghost use Rattle.regex.specs.Patterns.{find, find_all};
 ghost use Rattle.regex.specs.Replace.{replaced_by};
@@ -8,6 +8,7 @@ ghost use Rattle.hx_conv_text.specs.Captured.{captured};
 ghost use Rattle.hx_conv_text.specs.Converters.{AreInputWhereEqual};
 ghost use Rattle.hx_conv_text.specs.Substitution.{expansion, expansion_at, expanded_of, substituted_text};
 
+use crate::replacing::{with_each_fixed, with_first_fixed, with_part_replaced};
 use hx_regex::{RegularExpression, Search};
 use hx_sample::Bytes;
 use hx_text::{NoMemory, Octets};
@@ -28,7 +29,8 @@ fn group<'h>(captures: &Captures<'_, 'h>, number: u8) -> &'h [u8]
 fn expansion(alloc: Global, sub: &[u8], captures: &Captures<'_, '_>) -> Result<Vec<u8>, AllocError>
     ensures { IfOk result (λ made. made.items ≡ expansion (captured captures.now) sub.now) }
 {
-    let mut made = Vec::new(alloc);
+    let room = sub.len().saturating_add(captures.get_match().len());
+    let mut made = Vec::with_capacity(alloc, room)?;
     let mut at = 0;
     while at < sub.len() {
         let b = sub[at];
@@ -50,9 +52,35 @@ fn expansion(alloc: Global, sub: &[u8], captures: &Captures<'_, '_>) -> Result<V
     Ok(made)
 }
 
-/// The replacement `sub` at the leftmost match of what the matcher searches for. None exactly where
-/// nothing matches.
-fn first_expansion(
+/// Whether the replacement is the same at each match: without a backslash it names no group.
+fn is_fixed(sub: &[u8]) -> bool
+    ensures { IsTrue result → (group : ℕ → List ℕ) → expansion group sub.now ≡ sub.now }
+{
+    !sub.contains(&b'\\')
+}
+
+/// A replacement that is the same at each match, where there is one. None exactly where nothing
+/// matches.
+fn fixed_expansion(
+    alloc: Global,
+    matcher: &mut Matcher<'_>,
+    sub: &[u8],
+    input: &[u8],
+) -> Result<Option<Octets>, NoMemory>
+    requires { (group : ℕ → List ℕ) → expansion group sub.now ≡ sub.now }
+    ensures value { IfOk result (λ made. made ≡ option_map (expansion_at sub.now input.now)
+        (find (matcher_pattern matcher.old) input.now 0)) }
+    ensures same { matcher_pattern matcher.new ≡ matcher_pattern matcher.old }
+{
+    if matcher.is_match(input) {
+        Ok(Some(Octets::copy(alloc, sub)?))
+    } else {
+        Ok(None)
+    }
+}
+
+/// A replacement that names groups, at the leftmost match. None exactly where nothing matches.
+fn captured_expansion(
     alloc: Global,
     matcher: &mut Matcher<'_>,
     sub: &[u8],
@@ -65,6 +93,25 @@ fn first_expansion(
     match matcher.captures(input) {
         Some(captures) => Ok(Some(Octets::from_vec(expansion(alloc, sub, &captures)?))),
         None => Ok(None),
+    }
+}
+
+/// The replacement `sub` at the leftmost match of what the matcher searches for. None exactly where
+/// nothing matches.
+fn first_expansion(
+    alloc: Global,
+    matcher: &mut Matcher<'_>,
+    sub: &[u8],
+    input: &[u8],
+) -> Result<Option<Octets>, NoMemory>
+    ensures value { IfOk result (λ made. made ≡ option_map (expansion_at sub.now input.now)
+        (find (matcher_pattern matcher.old) input.now 0)) }
+    ensures same { matcher_pattern matcher.new ≡ matcher_pattern matcher.old }
+{
+    if is_fixed(sub) {
+        fixed_expansion(alloc, matcher, sub, input)
+    } else {
+        captured_expansion(alloc, matcher, sub, input)
     }
 }
 
@@ -113,29 +160,9 @@ pub fn expand_by(
     }
 }
 
-/// The input with the bytes from `start` to `end` replaced.
-fn with_part_replaced(
-    alloc: Global,
-    input: &[u8],
-    start: usize,
-    end: usize,
-    replacement: &[u8],
-) -> Result<Octets, NoMemory>
-    requires starts { start ≤ length input.now }
-    requires ends { end ≤ length input.now }
-    ensures { IfOk result (λ made.
-        made ≡ take start input.now ++ replacement.now ++ drop end input.now) }
-{
-    let kept = start.saturating_add(input.len() - end);
-    let mut made = Vec::with_capacity(alloc, kept.saturating_add(replacement.len()))?;
-    made.extend_from_slice(&input[..start])?;
-    made.extend_from_slice(replacement)?;
-    made.extend_from_slice(&input[end..])?;
-    Ok(Octets::from_vec(made))
-}
-
-/// The input with the leftmost match replaced. None where nothing matches.
-fn with_first_replaced(
+/// The input with the leftmost match replaced by what `sub` stands for there. None where nothing
+/// matches.
+fn with_first_expanded(
     alloc: Global,
     matcher: &mut Matcher<'_>,
     sub: &[u8],
@@ -157,8 +184,9 @@ fn with_first_replaced(
     }
 }
 
-/// The input with each match replaced. None where nothing matches.
-fn with_each_replaced(
+/// The input with each match replaced by what `sub` stands for there. None where nothing matches:
+/// this is found out first, since the library would copy the input.
+fn with_each_expanded(
     alloc: Global,
     matcher: &mut Matcher<'_>,
     sub: &[u8],
@@ -180,6 +208,44 @@ fn with_each_replaced(
         { expansion(alloc, sub, captures) },
     )?;
     Ok(Some(Octets::from_vec(made)))
+}
+
+/// The input with the leftmost match replaced. None where nothing matches.
+fn with_first_replaced(
+    alloc: Global,
+    matcher: &mut Matcher<'_>,
+    sub: &[u8],
+    input: &[u8],
+) -> Result<Option<Octets>, NoMemory>
+    ensures value { IfOk result (λ made. unwrap_or made input.now
+        ≡ replaced_by (expansion_at sub.now input.now) input.now 0
+        (option_to_list (find (matcher_pattern matcher.old) input.now 0))) }
+    ensures same { matcher_pattern matcher.new ≡ matcher_pattern matcher.old }
+{
+    if is_fixed(sub) {
+        with_first_fixed(alloc, matcher, sub, input)
+    } else {
+        with_first_expanded(alloc, matcher, sub, input)
+    }
+}
+
+/// The input with each match replaced. None where nothing matches.
+fn with_each_replaced(
+    alloc: Global,
+    matcher: &mut Matcher<'_>,
+    sub: &[u8],
+    input: &[u8],
+) -> Result<Option<Octets>, NoMemory>
+    ensures value { IfOk result (λ made. unwrap_or made input.now
+        ≡ replaced_by (expansion_at sub.now input.now) input.now 0
+        (find_all (matcher_pattern matcher.old) input.now)) }
+    ensures same { matcher_pattern matcher.new ≡ matcher_pattern matcher.old }
+{
+    if is_fixed(sub) {
+        with_each_fixed(alloc, matcher, sub, input)
+    } else {
+        with_each_expanded(alloc, matcher, sub, input)
+    }
 }
 
 /// The input with the leftmost match, or each match, replaced. None where nothing matches.

@@ -1,7 +1,7 @@
 use Rattle.std.proofs.Common.{Some, option_map, sym, ap, ◌∙◌}
 use Rattle.hx_conv_text.specs.Substitution.{expansion_at}
 use Rattle.hx_conv_text.proofs.SubstitutionLemmas.{expansion-captured}
-use Rattle.hx_conv_text.proofs.substitution.first_expansion.Goals as goal
+use Rattle.hx_conv_text.proofs.substitution.captured_expansion.Goals as goal
 
 pub returns-in_ok-expansion-in-Some-clause-value : goal.returns-in_ok-expansion-in-Some-clause-value
 returns-in_ok-expansion-in-Some-clause-value c =

@@ -4,7 +4,7 @@ use Rattle.std.specs.Option.{option_to_list}
 use Rattle.regex.specs.Replace.{replaced_by}
 use Rattle.hx_conv_text.specs.Substitution.{expansion_at}
 use Rattle.hx_conv_text.proofs.SubstitutionLemmas.{expansion-captured, first_made, none_made, whole_span}
-use Rattle.hx_conv_text.proofs.substitution.with_first_replaced.Goals as goal
+use Rattle.hx_conv_text.proofs.substitution.with_first_expanded.Goals as goal
 
 pub returns-in_ok-made-in-Some-clause-value : goal.returns-in_ok-made-in-Some-clause-value
 returns-in_ok-made-in-Some-clause-value c =

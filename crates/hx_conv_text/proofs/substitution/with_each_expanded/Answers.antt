@@ -2,7 +2,7 @@ use Rattle.std.proofs.Common.{◌≡◌, ◌∙◌, refl}
 use Rattle.hx_conv_text.specs.Captured.{captured}
 use Rattle.hx_conv_text.specs.Substitution.{expansion, expansion_at}
 use Rattle.hx_conv_text.proofs.SubstitutionLemmas.{expansion-captured, none_replaced, replaced_as}
-use Rattle.hx_conv_text.proofs.substitution.with_each_replaced.Goals as goal
+use Rattle.hx_conv_text.proofs.substitution.with_each_expanded.Goals as goal
 
 pub returns-then-not-is_match-clause-value : goal.returns-then-not-is_match-clause-value
 returns-then-not-is_match-clause-value c =
