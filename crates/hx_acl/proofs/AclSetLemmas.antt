@@ -75,7 +75,7 @@ declared_once (d ∷ acls) name (suc position) decl at =
 
 -- ---- the walk from the last declaration of a name to the first
 
-get_of_take : {A : Type 0} (xs : List A) (n k : ℕ) (x : A) → slice_get (take n xs) k ≡ Some x → slice_get xs k ≡ Some x
+pub get_of_take : {A : Type 0} (xs : List A) (n k : ℕ) (x : A) → slice_get (take n xs) k ≡ Some x → slice_get xs k ≡ Some x
 get_of_take [] zero k x at = absurd (cc at)
 get_of_take [] (suc n) k x at = absurd (cc at)
 get_of_take (y ∷ ys) zero k x at = absurd (cc at)
@@ -241,11 +241,11 @@ read_at test tests acls name position declared view left is =
     let short : position < length tests = omega (arith, within, ap length view, length-map tests declaration) in
     slice_get_read tests (length tests) position declared refl short is
 
-seen_at : (tests : List Declared) (acls : Acls) (position : ℕ) (declared : Declared) → declarations tests ≡ acls → slice_get tests position ≡ Some declared → slice_get acls position ≡ Some (declared.name, declared.test)
+pub seen_at : (tests : List Declared) (acls : Acls) (position : ℕ) (declared : Declared) → declarations tests ≡ acls → slice_get tests position ≡ Some declared → slice_get acls position ≡ Some (declared.name, declared.test)
 seen_at tests acls position declared view at =
     sym (ap (λ (xs : Acls). slice_get xs position) view) ∙ slice_get-map declaration tests position ∙ ap (option_map declaration) at
 
-before_at : (tests : List Declared) (acls : Acls) (positions : List (List ℕ × ℕ)) (position : ℕ) (declared : Declared) → declarations tests ≡ acls → AreIndexed tests positions → slice_get tests position ≡ Some declared → IsLast (take position acls) declared.name declared.earlier
+pub before_at : (tests : List Declared) (acls : Acls) (positions : List (List ℕ × ℕ)) (position : ℕ) (declared : Declared) → declarations tests ≡ acls → AreIndexed tests positions → slice_get tests position ≡ Some declared → IsLast (take position acls) declared.name declared.earlier
 before_at tests acls positions position declared view indexed at =
     let same : declarations (take position tests) ≡ take position acls =
     sym (take-map declaration position tests) ∙ ap (take position) view in

@@ -6,3 +6,5 @@ pub mod PredefinedLemmas
 pub mod TextLemmas
 pub mod AclSetLemmas
 pub mod MatchLemmas
+pub mod GroundLemmas
+pub mod GroundWalkLemmas

@@ -3,6 +3,7 @@ pub mod Tests
 pub mod Matching
 pub mod Predefined
 pub mod Holds
+pub mod Grounds
 pub mod Typing
 pub mod Expressions
 -- views of the code, for the contracts of private functions

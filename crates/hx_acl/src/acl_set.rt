@@ -1,12 +1,14 @@
 ghost use Rattle.std.specs.Prelude.{◌≡◌, ◌↔◌, [], ◌∷◌, ◌++◌, Contains, OnOk, OnErr, IfOk, IsErrOf, true, false};
 ghost use Rattle.hx_acl.specs.AclSetView.{IsLast};
 ghost use Rattle.hx_acl.specs.Expressions.{has_expressions};
+ghost use Rattle.hx_acl.specs.Grounds.{name_ground};
 ghost use Rattle.hx_acl.specs.Holds.{HasAclsHeads, name_holds};
 ghost use Rattle.hx_acl.specs.Typing.{is_decl_typed};
 ghost use Rattle.hx_expr.specs.Expressions.{expression_texts};
 ghost use Rattle.hx_expr.specs.Faults.{CompileCountsLarge};
 ghost use Rattle.hx_fetch.specs.World.{context_of};
 
+use crate::explaining::{Ground, predefined_ground};
 use crate::predefined::predefined_matches;
 use crate::test::{Test, build_test};
 use crate::typing::is_decl_typed;
@@ -157,5 +159,36 @@ impl AclSet {
             left = declared.earlier;
         }
         Ok(false)
+    }
+
+    /// What the ACL of this name holds by in `world`, if it holds. Its declarations are tried from
+    /// the last one on, and the first of them that matches counts.
+    pub(crate) fn name_ground<'w, T: Tables, L: Ledger>(
+        &self,
+        alloc: Global,
+        name: &Octets,
+        world: &World<'w>,
+        tables: &'w T,
+        steps: &mut Steps<L>,
+    ) -> Result<Option<Ground>, NoMemory>
+        requires { HasAclsHeads (T.heads (T.state tables.now)) self.now }
+        ensures { IfOk result (λ given. given
+            ≡ name_ground (context_of world.now) (T.heads (T.state tables.now))
+            (T.lists (T.state tables.now))
+            self.now name.now) }
+    {
+        let Some(last) = self.last_of(name) else {
+            return Ok(predefined_ground(name.as_slice(), world));
+        };
+        let tests = self.tests.as_slice();
+        let mut given = None;
+        let mut left = Some(last);
+        while let Some(at) = left {
+            let declared = &tests[at];
+            let first = declared.test.matching_ground(alloc, world, tables, steps)?;
+            given = first.or(given);
+            left = declared.earlier;
+        }
+        Ok(given)
     }
 }

@@ -26,7 +26,7 @@ use std::sync::ledger::Ledger;
 /// see it as its conjunctions, each the list of its terms.
 #[derive(Drop)]
 pub struct Condition {
-    conjs: Items<Items<TestTerm>>,
+    pub(crate) conjs: Items<Items<TestTerm>>,
 }
 
 impl Model for Condition {
@@ -150,7 +150,7 @@ fn term_holds<'w, T: Tables, L: Ledger>(
 }
 
 /// Whether the ACL of a term holds.
-fn acl_holds<'w, T: Tables, L: Ledger>(
+pub(crate) fn acl_holds<'w, T: Tables, L: Ledger>(
     alloc: Global,
     acl: &TermAcl,
     acls: &AclSet,

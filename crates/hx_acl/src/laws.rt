@@ -1,9 +1,11 @@
 //! Laws: what the definition of conditions implies.
 ghost use Rattle.std.specs.Prelude.{◌≡◌, [], ◌∷◌, ◌++◌, ◌||◌, Bool, List, ℕ, Some, true, false, is_some, map, slice_get};
-ghost use Rattle.std.specs.List.{list_any};
+ghost use Rattle.std.specs.List.{list_all, list_any};
 ghost use Rattle.hx_ast.specs.declared.fetch.Fetch.{Fetch};
 ghost use Rattle.hx_ast.specs.declared.statement.AclUse.TheVariants as acl;
-ghost use Rattle.hx_acl.specs.Holds.{Acls, declared_matches, name_holds, term_holds};
+ghost use Rattle.hx_ast.specs.declared.statement.Term.{Term};
+ghost use Rattle.hx_acl.specs.Grounds.{conj_grounds, held_of};
+ghost use Rattle.hx_acl.specs.Holds.{Acls, cond_holds, declared_matches, name_holds, term_holds};
 ghost use Rattle.hx_acl.specs.Matching.{test_matches};
 ghost use Rattle.hx_acl.specs.Predefined.{keyed_matches};
 ghost use Rattle.hx_expr.specs.Values.{expr_values};
@@ -61,3 +63,16 @@ pub fn predefined_acls_are_as_declared(by: By, ci: bool)
 {
     none_is_found_where_none_hits(by, ci);
 }
+
+/// Why a condition holds is said exactly where it holds, and of each of its conjunctions exactly
+/// where all terms of it hold.
+pub fn a_condition_with_grounds_holds()
+    ensures condition { (context : Context) (heads : List TableHead) (lists : List (List Entry))
+        (acls : Acls) (cond : List (List Term))
+        → is_some (held_of context heads lists acls cond)
+        ≡ cond_holds context heads lists acls cond }
+    ensures conjunction { (context : Context) (heads : List TableHead) (lists : List (List Entry))
+        (acls : Acls) (conj : List Term)
+        → is_some (conj_grounds context heads lists acls conj)
+        ≡ list_all (term_holds context heads lists acls) conj }
+{}

@@ -2,6 +2,7 @@
 //!
 //! `specs/Matching.antt` says when a declaration matches, `specs/Predefined.antt` which ACLs are
 //! predefined, and `specs/Holds.antt` when a condition holds, as the function `cond_holds`.
+//! `specs/Grounds.antt` says by which of its conjunctions, and by what each term of it does.
 //!
 //! ```
 //! let mut acls = AclSet::new(alloc);
@@ -15,6 +16,7 @@
 mod acl_set;
 mod building;
 mod condition;
+mod explaining;
 pub mod laws;
 mod matching;
 mod predefined;
@@ -24,4 +26,5 @@ mod typing;
 
 pub use acl_set::AclSet;
 pub use condition::Condition;
+pub use explaining::{Ground, Held};
 pub use typing::{is_cond_typed, is_decl_typed};
