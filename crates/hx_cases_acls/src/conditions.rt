@@ -1,11 +1,11 @@
-//! Calls of hx_acl: whether conditions hold.
+//! Calls of hx_acl: whether conditions hold, and by what.
 
 ghost use Rattle.std.specs.Prelude.{◌≡◌, ◌<◌, IfOk, OnOk};
 ghost use Rattle.hx_acl.specs.Holds.{HasAclsHeads, HasCondHeads};
 
 use crate::statements::{new_speller, spelled};
 use crate::uses::Filled;
-use hx_acl::{AclSet, Condition};
+use hx_acl::{AclSet, Condition, Ground, Held};
 use hx_ast::{Cond, Decl, Statement};
 use hx_cases_base::{CaseFault, State, pairs};
 use hx_expr::PlanFault;
@@ -81,10 +81,41 @@ fn declared(
     Ok(acls)
 }
 
-/// Writes whether a condition holds.
-fn show_holds<L: Ledger>(
+/// What is asked of a condition.
+#[derive(Clone, Copy)]
+enum Question {
+    /// whether it holds
+    Holds,
+    /// by which conjunction, and by what
+    Grounds,
+}
+
+/// Writes what a term holds by.
+fn show_ground(out: &mut String, ground: &Ground) -> Result<(), CaseFault> {
+    match ground {
+        Ground::Negated => Ok(out.push_str(" not")?),
+        Ground::Sample => Ok(out.push_str(" sample")?),
+        Ground::Entry { head, number } => Ok(write!(out, " {head}:{number}")?),
+    }
+}
+
+/// Writes by which conjunction a condition holds, counted from 1, and by what each of its terms.
+fn show_grounds(out: &mut String, held: &Option<Held>) -> Result<(), CaseFault> {
+    let Some(held) = held else {
+        return Ok(out.push_str("not|")?);
+    };
+    write!(out, "{}", held.conj)?;
+    for ground in held.grounds.as_slice() {
+        show_ground(out, ground)?;
+    }
+    Ok(out.push_str("|")?)
+}
+
+/// Writes what is asked of a condition.
+fn show_asked<L: Ledger>(
     alloc: Global,
     out: &mut String,
+    asked: Question,
     condition: &Condition,
     acls: &AclSet,
     filled: &Filled,
@@ -106,14 +137,23 @@ fn show_holds<L: Ledger>(
         vars: &state.vars,
     };
     let mut steps = Steps::<L>::open(blank);
-    let holds = condition.holds(alloc, acls, &world, &filled.refs, &mut steps)?;
-    Ok(out.push_str(if holds { "holds|" } else { "not|" })?)
+    match asked {
+        Question::Holds => {
+            let holds = condition.holds(alloc, acls, &world, &filled.refs, &mut steps)?;
+            Ok(out.push_str(if holds { "holds|" } else { "not|" })?)
+        }
+        Question::Grounds => {
+            let held = condition.grounds(alloc, acls, &world, &filled.refs, &mut steps)?;
+            show_grounds(out, &held)
+        }
+    }
 }
 
-/// Builds a condition, and writes whether it holds.
+/// Builds a condition, and writes what is asked of it.
 fn show_condition(
     alloc: Global,
     out: &mut String,
+    asked: Question,
     cond: &Cond,
     acls: &AclSet,
     filled: &Filled,
@@ -125,9 +165,10 @@ fn show_condition(
         return Err(CaseFault::BadArguments);
     }
     match Condition::build(alloc, cond, &mut PlainMaker::new()) {
-        Ok(condition) => show_holds::<Brand>(
+        Ok(condition) => show_asked::<Brand>(
             alloc,
             out,
+            asked,
             &condition,
             acls,
             filled,
@@ -138,10 +179,11 @@ fn show_condition(
     }
 }
 
-/// Writes of the condition of each rule whether it holds.
+/// Writes what is asked of the condition of each rule.
 fn show_conditions(
     alloc: Global,
     out: &mut String,
+    asked: Question,
     statements: &[Statement],
     filled: &Filled,
     state: &State,
@@ -150,11 +192,30 @@ fn show_conditions(
     for statement in statements {
         if let Statement::Rule(rule) = statement {
             if let Some(cond) = &rule.cond {
-                show_condition(alloc, out, cond, &acls, filled, state)?;
+                show_condition(alloc, out, asked, cond, &acls, filled, state)?;
             }
         }
     }
     Ok(())
+}
+
+/// Answers what is asked of the condition of each rule that the lines of a configuration spell.
+fn conditions_case(
+    alloc: Global,
+    state: &State,
+    out: &mut String,
+    asked: Question,
+    args: &[Vec<u8>],
+) -> Result<(), CaseFault> {
+    let [files, lines @ ..] = args else {
+        return Err(CaseFault::BadArguments);
+    };
+    let files = pairs(alloc, files.as_slice())?;
+    let (statements, tables) = read_lines(alloc, out, lines)?;
+    match Filled::new(alloc, out, tables, files.as_slice())? {
+        Some(filled) => show_conditions(alloc, out, asked, statements.as_slice(), &filled, state),
+        None => Ok(()),
+    }
 }
 
 /// `holds FILES LINE ..`: whether the condition of each rule holds that the lines of a
@@ -168,13 +229,16 @@ pub fn holds_case(
     out: &mut String,
     args: &[Vec<u8>],
 ) -> Result<(), CaseFault> {
-    let [files, lines @ ..] = args else {
-        return Err(CaseFault::BadArguments);
-    };
-    let files = pairs(alloc, files.as_slice())?;
-    let (statements, tables) = read_lines(alloc, out, lines)?;
-    match Filled::new(alloc, out, tables, files.as_slice())? {
-        Some(filled) => show_conditions(alloc, out, statements.as_slice(), &filled, state),
-        None => Ok(()),
-    }
+    conditions_case(alloc, state, out, Question::Holds, args)
+}
+
+/// `grounds FILES LINE ..`: the same, but by which conjunction a condition holds, and by what each
+/// of its terms: `not`, `sample`, or the head and the number of an entry, as `HEAD:NUMBER`.
+pub fn grounds_case(
+    alloc: Global,
+    state: &State,
+    out: &mut String,
+    args: &[Vec<u8>],
+) -> Result<(), CaseFault> {
+    conditions_case(alloc, state, out, Question::Grounds, args)
 }

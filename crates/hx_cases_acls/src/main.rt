@@ -22,7 +22,7 @@ mod statements;
 mod steps;
 mod uses;
 
-use crate::conditions::holds_case;
+use crate::conditions::{grounds_case, holds_case};
 use crate::entries::entries_case;
 use crate::random_calls::calls_case;
 use crate::statements::statements_case;
@@ -53,6 +53,7 @@ impl Calls for AclCalls {
             b"connection" => connection_case(&mut self.state, args),
             b"statements" => statements_case(alloc, out, args),
             b"holds" => holds_case(alloc, &self.state, out, args),
+            b"grounds" => grounds_case(alloc, &self.state, out, args),
             b"entries" => entries_case(alloc, out, args),
             b"references" => references_case(alloc, out, args),
             b"calls" => calls_case(alloc, out, args),
