@@ -9,3 +9,4 @@ pub mod RequestLemmas
 pub mod RuleLemmas
 pub mod RewritingLemmas
 pub mod LawLemmas
+pub mod DecidingLemmas

@@ -17,6 +17,7 @@ use Rattle.hx_rules.specs.declared.action.Rewrite.{Rewrite}
 use Rattle.hx_rules.specs.declared.action.Rewrite.TheVariants as rewrite
 use Rattle.hx_rules.specs.declared.action.TableChange.{TableChange}
 use Rattle.hx_rules.specs.declared.action.TableChange.TheVariants as change
+use Rattle.hx_rules.specs.declared.deciding.Decided.{Decided}
 use Rattle.hx_rules.specs.declared.verdict.Verdict.{Verdict}
 use Rattle.hx_rules.specs.Failures.{is_taken_in, StandsAt}
 use Rattle.hx_rules.specs.ProgramView.{action_of_built, action_of_change, action_of_rewrite}
@@ -139,11 +140,11 @@ stands_keep view conn program origin final stands none =
     ∙ rules_keep view conn program.acls done origin some.0
 
 -- whatever comes of the rules
-pub head_stays : {S : Type 0} (view : TableView S) (conn : Conn) (program : Rules) (origin final : State S) (result : Result Verdict TableFault)
-    → IfOk result (λ verdict. evaluation view conn program origin ≡ record { verdict = verdict; state = final })
+pub head_stays : {S : Type 0} (view : TableView S) (conn : Conn) (program : Rules) (origin final : State S) (result : Result Decided TableFault)
+    → IfOk result (λ decided. evaluation view conn program origin ≡ record { verdict = decided.verdict; state = final })
     → OnErr result (StandsAt view conn program origin final.message final.vars final.tables)
     → may_rewrite program ≡ false → final.message ≡ origin.message
-head_stays view conn program origin final (Ok verdict) ok err none =
+head_stays view conn program origin final (Ok decided) ok err none =
     sym (ap (λ made. made.state.message) ok) ∙ evaluation_keeps view conn program origin none
 head_stays view conn program origin final (Err fault) ok err none =
     stands_keep view conn program origin final err none

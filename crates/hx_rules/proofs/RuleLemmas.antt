@@ -14,6 +14,7 @@ use Rattle.hx_sample.specs.declared.tables.TableFault.{TableFault}
 use Rattle.hx_sample.specs.declared.tables.TableFault.TheVariants as fault
 use Rattle.hx_rules.specs.declared.actions.Continuation.{Continuation}
 use Rattle.hx_rules.specs.declared.actions.Continuation.TheVariants as continuation
+use Rattle.hx_rules.specs.declared.deciding.Decided.{Decided}
 use Rattle.hx_rules.specs.declared.verdict.Verdict.{Verdict}
 use Rattle.hx_rules.specs.declared.verdict.Verdict.TheVariants as verdict
 use Rattle.hx_rules.specs.Failures.{ActionAsksFor, is_taken_in, RulesAskFor, StandsAt}
@@ -139,7 +140,7 @@ edit_leaves : {S : Type 0} (edit : Edit) (state : State S) → Leaves state (edi
 edit_leaves edit state =
     rewritten_leaves state (record state { message = edit.head }) (is_none edit.fault) verdict.Error
 
-action_leaves : {S : Type 0} (view : TableView S) (conn : Conn) (does : Action) (state : State S) → Leaves state (action_effect view conn does state)
+pub action_leaves : {S : Type 0} (view : TableView S) (conn : Conn) (does : Action) (state : State S) → Leaves state (action_effect view conn does state)
 action_leaves view conn action.Allow state = refl
 action_leaves view conn (action.Deny status) state = refl
 action_leaves view conn (action.SetVar name expr) state = tt
@@ -232,9 +233,9 @@ counts_for_more T U fault.TooLarge Asked Wider first before now wider count last
 counts_for_more T U fault.NoMemory Asked Wider first before now wider count last counts = (counts.0 ∙ count, counts.1 ∙ last)
 
 -- a rule that failed counts as the rules do
-pub rules_count : {S : Type 0} {view : TableView S} {near conn : Conn} {program : Rules} {origin state : State S} {rule : Rule} {left : List Rule} (acls : Acls) (given : TableFault) (first before now : MakerState) → Comes view conn program origin state (rule ∷ left) → near ≡ conn → acls ≡ program.acls → before.too_large ≡ first.too_large → before.large ≡ first.large → ChangeCountsLarge {T = Continuation} (Err given) (RuleAsksFor view near acls rule state) before now → ChangeCountsLarge {T = Option Verdict} (Err given) (RulesAskFor view conn program origin) first now
+pub rules_count : {S : Type 0} {view : TableView S} {near conn : Conn} {program : Rules} {origin state : State S} {rule : Rule} {left : List Rule} (acls : Acls) (given : TableFault) (first before now : MakerState) → Comes view conn program origin state (rule ∷ left) → near ≡ conn → acls ≡ program.acls → before.too_large ≡ first.too_large → before.large ≡ first.large → ChangeCountsLarge {T = Continuation} (Err given) (RuleAsksFor view near acls rule state) before now → ChangeCountsLarge {T = Option Decided} (Err given) (RulesAskFor view conn program origin) first now
 rules_count {S} {view} {near} {conn} {program} {origin} {state} {rule} {left} acls given first before now at here same count last counts =
-    counts_for_more Continuation (Option Verdict) given (RuleAsksFor view near acls rule state) (RulesAskFor view conn program origin) first before now
+    counts_for_more Continuation (Option Decided) given (RuleAsksFor view near acls rule state) (RulesAskFor view conn program origin) first before now
     (λ text asks. asks_for acls text at here same asks) count last counts
 
 -- ---- what holds of the same things

@@ -7,6 +7,7 @@ pub mod Rewrites
 pub mod Rewriting
 pub mod Locations
 pub mod Verdicts
+pub mod Deciding
 pub mod Tables
 pub mod Failures
 pub mod Reached

@@ -1,6 +1,8 @@
-ghost use Rattle.std.specs.Prelude.{◌≡◌, length, false, IfOk, OnErr, OnOk};
+ghost use Rattle.std.specs.Prelude.{◌≡◌, length, false, IfOk, OnErr, OnOk, option_map};
+ghost use Rattle.std.specs.Option.{unwrap_or};
 ghost use Rattle.hx_acl.specs.Holds.{HasAclsHeads};
 ghost use Rattle.hx_sample.specs.Changes.{ChangeCountsLarge};
+ghost use Rattle.hx_rules.specs.Deciding.{deciding_at, deciding_of};
 ghost use Rattle.hx_rules.specs.Failures.{RulesAskFor, StandsAt};
 ghost use Rattle.hx_rules.specs.EffectView.{evaluation_of, effect_of, rule_effect, RuleAsksFor};
 ghost use Rattle.hx_rules.specs.RequestView.{IsSameRequest, state_of};
@@ -10,6 +12,7 @@ ghost use Rattle.hx_rules.specs.Tables.{ChangesOneOf, HasHeads, HasLists, HasRul
 ghost use Rattle.hx_rules.specs.Verdicts.{evaluation, start, verdict_at};
 
 use crate::actions::Continuation;
+use crate::deciding::{Decided, Deciding};
 use crate::program::{BuiltRule, Program};
 use crate::request::Request;
 use crate::verdict::Verdict;
@@ -54,20 +57,27 @@ impl<T: Tables> Request<'_, T> {
     }
 
     /// Goes through the rules of `http-request`. The verdict of the first that gives one, if one
-    /// does.
+    /// does, and which that is.
     fn apply_rules<M: ReMaker, L: Ledger>(
         &mut self,
         program: &Program,
         maker: &mut M,
         steps: &mut Steps<L>,
-    ) -> Result<Option<Verdict>, TableFault>
+    ) -> Result<Option<Decided>, TableFault>
         requires heads { HasHeads (T.heads (T.state self.old.tables.now)) program.now }
         requires lists { HasLists (length (T.lists (T.state self.old.tables.now))) program.now }
         ensures ok { IfOk result (λ given.
             evaluation (table_view T.heads T.lists T.after_change) self.old.conn.now program.now
             (state_of T.state self.old)
             ≡ evaluation_of (table_view T.heads T.lists T.after_change) self.old.conn.now
-            program.now given (state_of T.state self.new)) }
+            program.now (option_map (λ decided. decided.verdict) given)
+            (state_of T.state self.new)) }
+        ensures by { IfOk result (λ given.
+            deciding_of (table_view T.heads T.lists T.after_change) self.old.conn.now program.now
+            (state_of T.state self.old)
+            ≡ unwrap_or (option_map (λ decided. decided.by) given)
+            (in_state deciding_at (table_view T.heads T.lists T.after_change) self.old.conn.now
+            (state_of T.state self.new) program.now)) }
         ensures stands { StandsAt (table_view T.heads T.lists T.after_change) self.old.conn.now
             program.now (state_of T.state self.old) self.new.message.now self.new.vars.now
             (T.state self.new.tables.now) }
@@ -78,53 +88,62 @@ impl<T: Tables> Request<'_, T> {
             (M.state maker.old) (M.state maker.new) }
     {
         let acls = &program.acls;
+        let mut at = 0;
         let mut rest = program.rules.as_slice();
         while let [rule, others @ ..] = rest {
             match self.apply_rule(acls, rule, maker, steps)? {
                 Continuation::Goes => {}
                 Continuation::Stops => return Ok(None),
-                Continuation::Ends(verdict) => return Ok(Some(verdict)),
+                Continuation::Ends(verdict) => {
+                    let by = Deciding::Rule(at);
+                    return Ok(Some(Decided { verdict, by }));
+                }
             }
+            at += 1;
             rest = others;
         }
         Ok(None)
     }
 
-    /// The verdict where the rules of `http-request` give none.
-    fn later_verdict<L: Ledger>(
+    /// The verdict where the rules of `http-request` give none, and what decides it.
+    fn decided_later<L: Ledger>(
         &self,
         program: &Program,
         steps: &mut Steps<L>,
-    ) -> Result<Verdict, NoMemory>
+    ) -> Result<Decided, NoMemory>
         requires { HasHeads (T.heads (T.state self.now.tables.now)) program.now }
-        ensures { IfOk result (λ verdict. verdict
+        ensures verdict { IfOk result (λ decided. decided.verdict
             ≡ in_state verdict_at (table_view T.heads T.lists T.after_change) self.now.conn.now
+            (state_of T.state self.now) program.now) }
+        ensures by { IfOk result (λ decided. decided.by
+            ≡ in_state deciding_at (table_view T.heads T.lists T.after_change) self.now.conn.now
             (state_of T.state self.now) program.now) }
     {
         let acls = &program.acls;
         let redirects = program.redirects.as_slice();
-        if let Some(verdict) = self.redirected(acls, redirects, steps)? {
-            return Ok(verdict);
+        if let Some(decided) = self.redirected(acls, redirects, steps)? {
+            return Ok(decided);
         }
         let backends = program.backends.as_slice();
-        let fallback = &program.fallback;
-        let backend = self.backend(acls, backends, fallback, steps)?;
-        Ok(Verdict::Pass { backend })
+        self.backend(acls, backends, &program.fallback, steps)
     }
 
-    /// The verdict of all rules.
-    fn verdict<M: ReMaker, L: Ledger>(
+    /// The verdict of all rules, and what decides it.
+    fn decided<M: ReMaker, L: Ledger>(
         &mut self,
         program: &Program,
         maker: &mut M,
         steps: &mut Steps<L>,
-    ) -> Result<Verdict, TableFault>
+    ) -> Result<Decided, TableFault>
         requires heads { HasHeads (T.heads (T.state self.old.tables.now)) program.now }
         requires lists { HasLists (length (T.lists (T.state self.old.tables.now))) program.now }
-        ensures ok { IfOk result (λ verdict.
+        ensures ok { IfOk result (λ decided.
             evaluation (table_view T.heads T.lists T.after_change) self.old.conn.now program.now
             (state_of T.state self.old)
-            ≡ record { verdict = verdict; state = state_of T.state self.new }) }
+            ≡ record { verdict = decided.verdict; state = state_of T.state self.new }) }
+        ensures by { IfOk result (λ decided. decided.by
+            ≡ deciding_of (table_view T.heads T.lists T.after_change) self.old.conn.now program.now
+            (state_of T.state self.old)) }
         ensures stands { OnErr result (StandsAt (table_view T.heads T.lists T.after_change)
             self.old.conn.now program.now (state_of T.state self.old) self.new.message.now
             self.new.vars.now (T.state self.new.tables.now)) }
@@ -134,10 +153,10 @@ impl<T: Tables> Request<'_, T> {
             (state_of T.state self.old))
             (M.state maker.old) (M.state maker.new) }
     {
-        if let Some(verdict) = self.apply_rules(program, maker, steps)? {
-            return Ok(verdict);
+        if let Some(decided) = self.apply_rules(program, maker, steps)? {
+            return Ok(decided);
         }
-        Ok(self.later_verdict(program, steps)?)
+        Ok(self.decided_later(program, steps)?)
     }
 }
 
@@ -194,6 +213,52 @@ pub fn evaluate<T: Tables, M: ReMaker, L: Ledger>(
         (start message.old vars.old (T.state tables.old)))
         (M.state maker.old) (M.state maker.new) }
 {
+    let decided = decide(alloc, program, message, conn, vars, tables, maker, steps)?;
+    Ok(decided.verdict)
+}
+
+/// The verdict of the rules on a request, as of `evaluate`, and the statement that decides it: the
+/// rule of `http-request` that ends the evaluation with a denial, a redirect or an error; or else
+/// the redirect that is taken; or else the rule of `use_backend` that is taken, where its format
+/// makes a name; or else `default_backend`, where there is one. All else is as with `evaluate`.
+pub fn decide<T: Tables, M: ReMaker, L: Ledger>(
+    alloc: Global,
+    program: &Program,
+    message: &mut Message,
+    conn: &Conn,
+    vars: &mut Vars,
+    tables: &mut T,
+    maker: &mut M,
+    steps: &mut Steps<L>,
+) -> Result<Decided, TableFault>
+    requires heads { HasHeads (T.heads (T.state tables.old)) program.now }
+    requires lists { HasLists (length (T.lists (T.state tables.old))) program.now }
+    ensures verdict { IfOk result (λ decided. decided.verdict
+        ≡ (evaluation (table_view T.heads T.lists T.after_change) conn.now program.now
+        (start message.old vars.old (T.state tables.old))).verdict) }
+    ensures by { IfOk result (λ decided. decided.by
+        ≡ deciding_of (table_view T.heads T.lists T.after_change) conn.now program.now
+        (start message.old vars.old (T.state tables.old))) }
+    ensures message { OnOk result (message.new
+        ≡ (evaluation (table_view T.heads T.lists T.after_change) conn.now program.now
+        (start message.old vars.old (T.state tables.old))).state.message) }
+    ensures vars { OnOk result (vars.new
+        ≡ (evaluation (table_view T.heads T.lists T.after_change) conn.now program.now
+        (start message.old vars.old (T.state tables.old))).state.vars) }
+    ensures tables { OnOk result (T.state tables.new
+        ≡ (evaluation (table_view T.heads T.lists T.after_change) conn.now program.now
+        (start message.old vars.old (T.state tables.old))).state.tables) }
+    ensures stands { OnErr result (StandsAt (table_view T.heads T.lists T.after_change) conn.now
+        program.now (start message.old vars.old (T.state tables.old)) message.new vars.new
+        (T.state tables.new)) }
+    ensures unchanged { may_rewrite program.now ≡ false → message.new ≡ message.old }
+    ensures heads { T.heads (T.state tables.new) ≡ T.heads (T.state tables.old) }
+    ensures lists { length (T.lists (T.state tables.new)) ≡ length (T.lists (T.state tables.old)) }
+    ensures large { ChangeCountsLarge result
+        (RulesAskFor (table_view T.heads T.lists T.after_change) conn.now program.now
+        (start message.old vars.old (T.state tables.old)))
+        (M.state maker.old) (M.state maker.new) }
+{
     let mut request = Request {
         alloc,
         conn,
@@ -202,5 +267,5 @@ pub fn evaluate<T: Tables, M: ReMaker, L: Ledger>(
         tables,
         strict: true,
     };
-    request.verdict(program, maker, steps)
+    request.decided(program, maker, steps)
 }

@@ -1,15 +1,17 @@
 //! Laws: what the definitions of rules imply.
-ghost use Rattle.std.specs.Prelude.{◌≡◌, ◌∷◌, ◌++◌, [], List, false, true, filter, not};
+ghost use Rattle.std.specs.Prelude.{◌≡◌, ◌∷◌, ◌++◌, [], Bool, List, Some, false, true, filter, not};
 ghost use Rattle.hx_acl.specs.Holds.{Acls};
 ghost use Rattle.hx_ast.specs.declared.action.Action.{Action};
 ghost use Rattle.hx_ast.specs.declared.action.Action.TheVariants as action;
 ghost use Rattle.hx_ast.specs.declared.action.Part.{Part};
 ghost use Rattle.hx_ast.specs.declared.statement.Rule.{Rule};
+ghost use Rattle.hx_ast.specs.declared.statement.Term.{Term};
 ghost use Rattle.hx_fetch.specs.declared.world.Conn.{Conn};
 ghost use Rattle.hx_http.specs.Edits.{has_name, with_only_header};
 ghost use Rattle.hx_http.specs.Parts.{Parts};
 ghost use Rattle.hx_rules.specs.declared.verdict.Verdict.{Verdict};
 ghost use Rattle.hx_rules.specs.declared.verdict.Verdict.TheVariants as verdict;
+ghost use Rattle.hx_rules.specs.Deciding.{condition_of, deciding_of};
 ghost use Rattle.hx_rules.specs.Failures.{is_taken_in};
 ghost use Rattle.hx_rules.specs.Formats.{text_in};
 ghost use Rattle.hx_rules.specs.Programs.{Rules};
@@ -79,4 +81,14 @@ pub fn set_header_leaves_one_line<T: Tables>(name: &[u8], value: &[u8])
         → filter (λ line. not (has_name name.now line))
         (with_only_header name.now value.now head).headers
         ≡ filter (λ line. not (has_name name.now line)) head.headers }
+{}
+
+/// The statement that decides changes nothing more: where it has a condition, the statement is
+/// taken, by this condition, also in the state that stands after the request.
+pub fn what_decides_is_taken_at_the_end<T: Tables>()
+    ensures { (view : TableView T.State) (conn : Conn) (program : Rules) (origin : State T.State)
+        (unless : Bool) (cond : List (List Term))
+        → condition_of program (deciding_of view conn program origin) ≡ Some (unless, cond)
+        → is_taken_in view conn program.acls (evaluation view conn program origin).state unless
+        (Some cond) ≡ true }
 {}

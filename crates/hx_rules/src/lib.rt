@@ -1,6 +1,7 @@
 //! The rules of a frontend: how they are built from statements, and what they make of a request.
 //!
-//! `specs/Verdicts.antt` says what rules make of a request, as the function `evaluation`, and
+//! `specs/Verdicts.antt` says what rules make of a request, as the function `evaluation`,
+//! `specs/Deciding.antt` which statement decides it, as the function `deciding_of`, and
 //! `specs/Rewrites.antt`, `specs/Locations.antt` and `specs/Formats.antt` what rewrites, redirects
 //! and formats make of its head.
 //!
@@ -18,6 +19,7 @@ mod actions;
 mod backends;
 mod building;
 mod changes;
+mod deciding;
 mod evaluating;
 mod format;
 mod formats;
@@ -32,6 +34,7 @@ mod taking;
 mod typing;
 mod verdict;
 
-pub use evaluating::evaluate;
+pub use deciding::{Decided, Deciding, When};
+pub use evaluating::{decide, evaluate};
 pub use program::Program;
 pub use verdict::Verdict;

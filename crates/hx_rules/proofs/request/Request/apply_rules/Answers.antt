@@ -1,11 +1,14 @@
-use Rattle.std.proofs.Common.{◌≡◌, ◌∙◌, ◌+◌, ◌∷◌, length, ap, refl, sym, arith}
+use Rattle.std.proofs.Common.{None, Some, List, ◌≡◌, ◌∙◌, ◌+◌, ◌∷◌, length, ap, refl, sym, arith}
 use Rattle.std.proofs.lemmas.List.Elements.{All-head, All-rest, All-same}
 use Rattle.std.proofs.lemmas.Result.{err_from_is_err_and}
 use Rattle.hx_acl.specs.Holds.{HasAclsHeads}
 use Rattle.hx_ast.specs.declared.statement.Rule.{Rule}
+use Rattle.hx_rules.specs.declared.actions.Continuation.TheVariants as continuation
+use Rattle.hx_rules.specs.Deciding.{ending_rule}
 use Rattle.hx_rules.specs.RequestView.{state_of}
 use Rattle.hx_rules.specs.State.{table_view}
 use Rattle.hx_rules.specs.Tables.{ChangesOneOf, HasRuleHeads}
+use Rattle.hx_rules.proofs.DecidingLemmas.{decided_by, ending_there, none_ending}
 use Rattle.hx_rules.proofs.RequestLemmas.{same_later}
 use Rattle.hx_rules.proofs.RuleLemmas.{comes_first, comes_further, comes_to, evaluated, evaluated_ended, evaluated_stopped, first_and_others, no_rules_left, other_rules, rule_does, rules_count, same_both, stands_ended, stands_in, stands_stopped}
 use Rattle.hx_rules.proofs.request.Request.apply_rules.Goals as goal
@@ -16,8 +19,11 @@ pub loop-rest-init : goal.loop-rest-init
 loop-rest-init g c =
     let first = state_of g.T.Tables.state c.args.self.now in
     let all : c.as_slice-rest.result.now ≡ c.args.program.now.rules = c.as_slice-rest.ensures ∙ ap (λ p. p.rules) c.program.view_is in
+    let size : length c.as_slice-rest.result.now ≡ length c.args.program.now.rules = ap length all in
     record {
       acls = ap (λ p. p.acls) c.program.view_is;
+      count = omega (arith, size);
+      ending = ap (λ (rules : List Rule). ending_rule (table_view g.T.Tables.heads g.T.Tables.lists g.T.Tables.after_change) c.args.self.now.conn.now c.args.program.now.acls 0 rules first) all;
       comes = comes_first (table_view g.T.Tables.heads g.T.Tables.lists g.T.Tables.after_change) c.args.self.now.conn.now c.args.program.now first c.as_slice-rest.result.now all;
       same = record { conn = refl; message = refl; vars = refl; tables = refl; table_heads = refl; table_lists = refl };
       rest_heads = All-same (HasRuleHeads (g.T.Tables.heads first.tables)) c.as_slice-rest.result.now c.args.program.now.rules all c.requires.heads.rules;
@@ -80,6 +86,18 @@ returns-in-Stops-clause-ok g c =
     let does = rule_does (table_view g.T.Tables.heads g.T.Tables.lists g.T.Tables.after_change) c.rule-item.result (state_of g.T.Tables.state c.loop-rest.self) i.same.conn i.acls c.in_ok-apply_rule.ensures.ok in
     evaluated_stopped next _ at c.in-Stops.is does
 
+pub returns-in-Stops-clause-by : goal.returns-in-Stops-clause-by
+returns-in-Stops-clause-by g c =
+    let i = c.loop-rest.invariant in
+    let view = (table_view g.T.Tables.heads g.T.Tables.lists g.T.Tables.after_change) in
+    let list = first_and_others c.loop-rest.rest.now c.rule-item.result c.in-len1-up.len_at_least c.rule-item.is in
+    let at = comes_to c.rule-item.result (other_rules c.loop-rest.rest.now) i.comes list in
+    let next = state_of g.T.Tables.state c.apply_rule.new.self in
+    let does = rule_does view c.rule-item.result (state_of g.T.Tables.state c.loop-rest.self) i.same.conn i.acls c.in_ok-apply_rule.ensures.ok in
+    let there = ending_there view c.args.self.now.conn.now c.args.program.now.acls c.loop-rest.at c.rule-item.result (other_rules c.loop-rest.rest.now) c.loop-rest.rest.now (state_of g.T.Tables.state c.loop-rest.self) next _ continuation.Stops list c.in-Stops.is does in
+    decided_by view c.args.self.now.conn.now c.args.program.now (state_of g.T.Tables.state c.args.self.now) next None None (there ∙ i.ending)
+    (evaluated_stopped next _ at c.in-Stops.is does)
+
 pub returns-in-Stops-clause-stands : goal.returns-in-Stops-clause-stands
 returns-in-Stops-clause-stands g c =
     let i = c.loop-rest.invariant in
@@ -108,6 +126,18 @@ returns-in-Ends-clause-ok g c =
     let next = state_of g.T.Tables.state c.apply_rule.new.self in
     let does = rule_does (table_view g.T.Tables.heads g.T.Tables.lists g.T.Tables.after_change) c.rule-item.result (state_of g.T.Tables.state c.loop-rest.self) i.same.conn i.acls c.in_ok-apply_rule.ensures.ok in
     evaluated_ended next _ c.in-Ends.verdict at c.in-Ends.is does
+
+pub returns-in-Ends-clause-by : goal.returns-in-Ends-clause-by
+returns-in-Ends-clause-by g c =
+    let i = c.loop-rest.invariant in
+    let view = (table_view g.T.Tables.heads g.T.Tables.lists g.T.Tables.after_change) in
+    let list = first_and_others c.loop-rest.rest.now c.rule-item.result c.in-len1-up.len_at_least c.rule-item.is in
+    let at = comes_to c.rule-item.result (other_rules c.loop-rest.rest.now) i.comes list in
+    let next = state_of g.T.Tables.state c.apply_rule.new.self in
+    let does = rule_does view c.rule-item.result (state_of g.T.Tables.state c.loop-rest.self) i.same.conn i.acls c.in_ok-apply_rule.ensures.ok in
+    let there = ending_there view c.args.self.now.conn.now c.args.program.now.acls c.loop-rest.at c.rule-item.result (other_rules c.loop-rest.rest.now) c.loop-rest.rest.now (state_of g.T.Tables.state c.loop-rest.self) next _ (continuation.Ends c.in-Ends.verdict) list c.in-Ends.is does in
+    decided_by view c.args.self.now.conn.now c.args.program.now (state_of g.T.Tables.state c.args.self.now) next (Some c.in-Ends.verdict) (Some c.loop-rest.at) (there ∙ i.ending)
+    (evaluated_ended next _ c.in-Ends.verdict at c.in-Ends.is does)
 
 pub returns-in-Ends-clause-stands : goal.returns-in-Ends-clause-stands
 returns-in-Ends-clause-stands g c =
@@ -143,8 +173,12 @@ loop-rest-preserved g c =
     let next = state_of g.T.Tables.state c.apply_rule.new.self in
     let does = rule_does (table_view g.T.Tables.heads g.T.Tables.lists g.T.Tables.after_change) c.rule-item.result (state_of g.T.Tables.state c.loop-rest.self) i.same.conn i.acls c.in_ok-apply_rule.ensures.ok in
     let first = state_of g.T.Tables.state c.args.self.now in
+    let size : length c.loop-rest.rest.now ≡ length (other_rules c.loop-rest.rest.now) + 1 = ap length list ∙ omega arith in
+    let there = ending_there (table_view g.T.Tables.heads g.T.Tables.lists g.T.Tables.after_change) c.args.self.now.conn.now c.args.program.now.acls c.loop-rest.at c.rule-item.result (other_rules c.loop-rest.rest.now) c.loop-rest.rest.now (state_of g.T.Tables.state c.loop-rest.self) next _ continuation.Goes list c.in-Goes.is does in
     record {
       acls = i.acls;
+      count = omega (arith, i.count, size);
+      ending = there ∙ i.ending;
       comes = comes_further next _ at c.in-Goes.is does;
       same = same_later c.args.self.now c.loop-rest.self c.apply_rule.new.self i.same c.in_ok-apply_rule.ensures.same;
       rest_heads = All-rest (HasRuleHeads (g.T.Tables.heads first.tables)) c.rule-item.result (other_rules c.loop-rest.rest.now) c.loop-rest.rest.now list i.rest_heads;
@@ -158,6 +192,16 @@ loop-rest-preserved g c =
 pub returns-clause-ok : goal.returns-clause-ok
 returns-clause-ok g c =
     evaluated c.loop-rest.invariant.comes (no_rules_left c.loop-rest.rest.now c.in_default.len_below)
+
+pub returns-clause-by : goal.returns-clause-by
+returns-clause-by g c =
+    let i = c.loop-rest.invariant in
+    let view = (table_view g.T.Tables.heads g.T.Tables.lists g.T.Tables.after_change) in
+    let next = state_of g.T.Tables.state c.loop-rest.self in
+    let none = no_rules_left c.loop-rest.rest.now c.in_default.len_below in
+    decided_by view c.args.self.now.conn.now c.args.program.now (state_of g.T.Tables.state c.args.self.now) next None None
+    (none_ending view c.args.self.now.conn.now c.args.program.now.acls c.loop-rest.at c.loop-rest.rest.now next none ∙ i.ending)
+    (evaluated i.comes none)
 
 pub returns-clause-stands : goal.returns-clause-stands
 returns-clause-stands g c =

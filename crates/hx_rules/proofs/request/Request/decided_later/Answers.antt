@@ -1,7 +1,7 @@
 use Rattle.std.proofs.Common.{ap, refl}
 use Rattle.hx_acl.specs.Holds.{HasAclsHeads}
 use Rattle.hx_rules.proofs.RuleLemmas.{same_both}
-use Rattle.hx_rules.proofs.request.Request.later_verdict.Goals as goal
+use Rattle.hx_rules.proofs.request.Request.decided_later.Goals as goal
 
 pub redirected-requires-clause-acls : goal.redirected-requires-clause-acls
 redirected-requires-clause-acls g c =
