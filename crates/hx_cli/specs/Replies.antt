@@ -17,11 +17,14 @@ pub record ReplyParts : Type 0 where
 
 -- ---- entries
 
--- an entry: its number, as `0x` and sixteen hex digits, its key, and in a map its value; a list of
--- patterns has no values
+-- the number of an entry, as `0x` and sixteen hex digits
+abbrev pub number_text : ℕ → List ℕ
+number_text number = codes "0x" ++ encode_lower (to_be_bytes w64 number)
+
+-- an entry: its number, its key, and in a map its value; a list of patterns has no values
 unfoldable pub entry_text : Bool → Entry → List ℕ
 entry_text is_map entry =
-    codes "0x" ++ encode_lower (to_be_bytes w64 entry.number) ++ codes " " ++ entry.key
+    number_text entry.number ++ codes " " ++ entry.key
     ++ (if is_map then codes " " ++ entry.value else [])
 
 -- ---- uses

@@ -34,3 +34,4 @@ pub use fault::CommandFault;
 pub use reading::read_command;
 pub use reply::Reply;
 pub use sessions::Sessions;
+pub use texts::{append_decimal, append_number};

@@ -2,10 +2,8 @@ ghost use Rattle.std.specs.Prelude.{◌≡◌, [], ◌++◌, IfOk, OnOk, codes, 
 ghost use Rattle.std.specs.Prelude.{if◌then◌else◌, unwrap_or};
 ghost use Rattle.std.specs.Option.{option_map_or};
 ghost use Rattle.std.specs.Fmt.{decimal};
-ghost use Rattle.std.specs.Int.{to_be_bytes, w64};
-ghost use Rattle.hex.specs.Hex.{encode_lower};
 ghost use Rattle.hx_sample.specs.Tables.{entry_of};
-ghost use Rattle.hx_cli.specs.Replies.{entry_text, prepared_text, reference_text, use_text};
+ghost use Rattle.hx_cli.specs.Replies.{entry_text, number_text, prepared_text, reference_text, use_text};
 
 use hx_refs::RefInfo;
 use hx_sample::Hit;
@@ -13,16 +11,18 @@ use hx_text::{By, NoMemory, Octets};
 use itoa::Buffer;
 use std::alloc::Global;
 
-fn append_decimal(line: &mut Octets, number: u64) -> Result<(), NoMemory>
+/// Appends a number in decimal digits; where memory runs out, perhaps the first of them.
+pub fn append_decimal(line: &mut Octets, number: u64) -> Result<(), NoMemory>
     ensures { OnOk result (line.new ≡ line.old ++ decimal number) }
 {
     let mut digits = Buffer::new();
     line.push_all(digits.format(number).as_bytes())
 }
 
-fn append_number(line: &mut Octets, number: u64) -> Result<(), NoMemory>
-    ensures { OnOk result
-        (line.new ≡ line.old ++ (codes "0x" ++ encode_lower (to_be_bytes w64 number))) }
+/// Appends the number of an entry, as replies have it; where memory runs out, perhaps the first
+/// bytes of it.
+pub fn append_number(line: &mut Octets, number: u64) -> Result<(), NoMemory>
+    ensures { OnOk result (line.new ≡ line.old ++ number_text number) }
 {
     let mut digits = [0; 16];
     let Ok(()) = hex::encode_to_slice(number.to_be_bytes(), &mut digits) else {

@@ -5,7 +5,8 @@ use Rattle.hx_http.specs.Parts.{Parts}
 use Rattle.hx_record.specs.declared.Event.{Event}
 use Rattle.hx_refs.specs.declared.Slots.{Slots}
 use Rattle.hx_sample.specs.Vars.{after_request}
-use Rattle.hx_core.specs.Steps.{after_number, answer_of, refusal_of, request_evaluation, world_after}
+use Rattle.hx_core.specs.Steps.{after_number, refusal_of, request_evaluation, world_after}
+use Rattle.hx_core.specs.Telling.{Telling, told_answer}
 use Rattle.hx_core.specs.World.{World}
 use Rattle.hx_core.specs.declared.fault.StepFault.{StepFault}
 use Rattle.hx_core.specs.declared.fault.StepFault.TheVariants.{UnknownConn, ConnOpen, TooLarge, NoMemory}
@@ -21,15 +22,16 @@ after_parts world conn head =
     let state = (request_evaluation world conn head).state in
     record (after_number world) { vars = after_request state.vars; refs = state.tables }
 
--- The world goes on, and the event is answered. One that may not stand where it stands changes
+-- The world goes on, and the event is answered, with what is told of it. One that may not stand where it stands changes
 -- nothing. Where memory runs out, or an expression is too large, it may stand there.
-abbrev pub DoesStep : (before after : WorldState) → Event → Result (List ℕ) StepFault → Type 0
-DoesStep before after event (Ok text) =
+abbrev pub DoesStep : Telling → (before after : WorldState) → Event → Result (List ℕ) StepFault
+    → Type 0
+DoesStep telling before after event (Ok text) =
     (refusal_of before.world event ≡ None) × (after.world ≡ world_after before.world event)
-    × (text ≡ answer_of before.world event)
-DoesStep before after event (Err UnknownConn) =
+    × (text ≡ told_answer telling before.world event)
+DoesStep telling before after event (Err UnknownConn) =
     (refusal_of before.world event ≡ Some UnknownConn) × (after ≡ before)
-DoesStep before after event (Err ConnOpen) =
+DoesStep telling before after event (Err ConnOpen) =
     (refusal_of before.world event ≡ Some ConnOpen) × (after ≡ before)
-DoesStep before after event (Err TooLarge) = refusal_of before.world event ≡ None
-DoesStep before after event (Err NoMemory) = refusal_of before.world event ≡ None
+DoesStep telling before after event (Err TooLarge) = refusal_of before.world event ≡ None
+DoesStep telling before after event (Err NoMemory) = refusal_of before.world event ≡ None

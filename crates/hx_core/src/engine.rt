@@ -1,11 +1,13 @@
 ghost use Rattle.std.specs.Prelude.{◌≡◌, [], None, Some, IfErr, IfOk, IfSome, OnOk};
 ghost use Rattle.hx_refs.specs.References.{after_tidying};
 ghost use Rattle.hx_core.specs.Steps.{answer_of, EventAsksFor, IsRefusal, OpensOrCloses, refusal_of, StepCountsLarge, world_after};
+ghost use Rattle.hx_core.specs.Telling.{told_answer};
 ghost use Rattle.hx_core.specs.World.{first_world, FitRules, running};
 
 use crate::answer::Answer;
 use crate::fault::StepFault;
 use crate::heads::Heads;
+use crate::judge::{Judge, Silence};
 use crate::world::KeptWorld;
 use hx_outside::ReMaker;
 use hx_record::Event;
@@ -115,11 +117,41 @@ impl Engine {
         ensures stopped { IfSome self.old.stopped (λ fault. (result ≡ Err fault)
             × (self.new ≡ self.old) × (maker.new ≡ maker.old)) }
     {
+        self.step_by(event, &mut Silence, maker)
+    }
+
+    /// The same where `judge` judges requests: what it tells of one stands behind the lines that
+    /// answer it, in the answer to the same event.
+    pub fn step_by<J: Judge, M: ReMaker>(
+        &mut self,
+        event: &Event,
+        judge: &mut J,
+        maker: &mut M,
+    ) -> Result<Answer, StepFault>
+        ensures answer { IfOk result (λ answer. answer
+            ≡ told_answer (J.telling judge.old) self.old.world event.now) }
+        ensures telling { J.telling judge.new ≡ J.telling judge.old }
+        ensures world { OnOk result ((self.new.world ≡ world_after self.old.world event.now)
+            × (self.new.stopped ≡ None)) }
+        ensures slots { OnOk result (OpensOrCloses event.now
+            → self.new.slots ≡ after_tidying 64 self.old.slots) }
+        ensures allowed { OnOk result
+            ((self.old.stopped ≡ None) × (refusal_of self.old.world event.now ≡ None)) }
+        ensures refused { self.old.stopped ≡ None → IfErr result (λ fault. IsRefusal fault
+            → (refusal_of self.old.world event.now ≡ Some fault) × (self.new ≡ self.old)) }
+        ensures failed { self.old.stopped ≡ None → IfErr result (λ fault. ¬ (IsRefusal fault)
+            → (refusal_of self.old.world event.now ≡ None) × (self.new.stopped ≡ Some fault)) }
+        ensures large { self.old.stopped ≡ None
+            → StepCountsLarge result (EventAsksFor self.old.world event.now)
+            (M.state maker.old) (M.state maker.new) }
+        ensures stopped { IfSome self.old.stopped (λ fault. (result ≡ Err fault)
+            × (self.new ≡ self.old) × (judge.new ≡ judge.old) × (maker.new ≡ maker.old)) }
+    {
         if let Some(fault) = self.stopped {
             return Err(fault);
         }
         let room = emptied(self.alloc, &mut self.room);
-        match self.world.step(event, room, &mut self.heads, maker) {
+        match self.world.step(event, room, &mut self.heads, judge, maker) {
             Ok(answer) => {
                 self.world.tidy();
                 Ok(answer)

@@ -2,12 +2,14 @@ ghost use Rattle.std.specs.Prelude.{◌≡◌, [], IsErrOf, OnOk};
 ghost use Rattle.hx_core.specs.StepView.{DoesStep};
 ghost use Rattle.hx_core.specs.Steps.{EventAsksFor, OpensOrCloses, StepCountsLarge};
 ghost use Rattle.hx_refs.specs.References.{after_tidying};
+ghost use Rattle.hx_core.specs.Telling.{Telling};
 ghost use Rattle.hx_core.specs.World.{first_world, FitRules};
 
 use crate::answer::Answer;
 use crate::connections::Connections;
 use crate::fault::StepFault;
 use crate::heads::Heads;
+use crate::judge::Judge;
 use crate::replies::append_reply;
 use hx_cli::Sessions;
 use hx_fetch::Conn;
@@ -102,16 +104,18 @@ impl KeptWorld {
     }
 
     /// Goes on to the world after an event, and gives its answer in the memory of `room`. The head
-    /// of a request is kept in `heads`.
-    pub(crate) fn step<M: ReMaker>(
+    /// of a request is kept in `heads`, and it is `judge` that judges it, and tells of it.
+    pub(crate) fn step<J: Judge, M: ReMaker>(
         &mut self,
         event: &Event,
         room: Vec<u8>,
         heads: &mut Heads,
+        judge: &mut J,
         maker: &mut M,
     ) -> Result<Answer, StepFault>
         requires { room.items ≡ [] }
-        ensures steps { DoesStep self.old self.new event.now result }
+        ensures steps { DoesStep (J.telling judge.old) self.old self.new event.now result }
+        ensures telling { J.telling judge.new ≡ J.telling judge.old }
         ensures slots { OnOk result
             (OpensOrCloses event.now → self.new.slots ≡ self.old.slots) }
         ensures large { StepCountsLarge result (EventAsksFor self.old.world event.now)
@@ -134,7 +138,9 @@ impl KeptWorld {
                 };
                 self.open(conn, room)
             }
-            Event::Req { id, bytes } => self.request(*id, bytes.as_slice(), room, heads, maker),
+            Event::Req { id, bytes } => {
+                self.request(*id, bytes.as_slice(), room, heads, judge, maker)
+            }
             Event::Close { id } => self.close(*id, room),
             Event::Cli { session, text } => self.line(*session, text.as_slice(), room, maker),
         }
@@ -143,7 +149,7 @@ impl KeptWorld {
     /// A connection opens.
     fn open(&mut self, conn: Conn, room: Vec<u8>) -> Result<Answer, StepFault>
         requires { room.items ≡ [] }
-        ensures steps { DoesStep self.old self.new
+        ensures steps { (telling : Telling) → DoesStep telling self.old self.new
             (Event.Conn conn.id conn.src conn.src_port conn.dst conn.dst_port) result }
         ensures slots { OnOk result (self.new.slots ≡ self.old.slots) }
         ensures kind { ¬ (IsErrOf result StepFault.TooLarge) }
@@ -158,7 +164,8 @@ impl KeptWorld {
     /// A connection closes.
     fn close(&mut self, id: u32, room: Vec<u8>) -> Result<Answer, StepFault>
         requires { room.items ≡ [] }
-        ensures steps { DoesStep self.old self.new (Event.Close id) result }
+        ensures steps { (telling : Telling) → DoesStep telling self.old self.new (Event.Close id)
+            result }
         ensures slots { OnOk result (self.new.slots ≡ self.old.slots) }
         ensures kind { ¬ (IsErrOf result StepFault.TooLarge) }
     {
@@ -179,7 +186,8 @@ impl KeptWorld {
         maker: &mut M,
     ) -> Result<Answer, StepFault>
         requires { room.items ≡ [] }
-        ensures steps { DoesStep self.old self.new (Event.Cli session text.now) result }
+        ensures steps { (telling : Telling) → DoesStep telling self.old self.new
+            (Event.Cli session text.now) result }
         ensures large { StepCountsLarge result
             (EventAsksFor self.old.world (Event.Cli session text.now))
             (M.state maker.old) (M.state maker.new) }

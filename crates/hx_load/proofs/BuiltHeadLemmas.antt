@@ -194,7 +194,7 @@ statement_heads heads count (statement.Backend line format unless cond) program 
   rules = has.rules;
   redirects = has.redirects;
   backends = all_more (HasBackendHeads (map table_head heads)) program.backends
-      (backend_rule format unless cond) has.backends
+      (backend_rule line format unless cond) has.backends
       (record {
         format = heads_of_format heads format names.0;
         cond = heads_of_when heads cond names.1;

@@ -1,7 +1,7 @@
 -- What the statements of a configuration add to its rules, and which of them have types that fit
 -- and texts that are regular expressions (HAProxy configuration manual 2.4, sections 4.2, 7.1 and
 -- 7.3.1).
-use Rattle.std.specs.Prelude.{◌&&◌, Bool, true, false, List, [], ◌∷◌, ◌++◌, Option, Some, is_some}
+use Rattle.std.specs.Prelude.{◌&&◌, ℕ, Bool, true, false, List, [], ◌∷◌, ◌++◌, Option, Some, is_some}
 use Rattle.std.specs.List.{flat_map, list_all}
 use Rattle.std.specs.Option.{option_map_or}
 use Rattle.hx_acl.specs.Expressions.{cond_has_expressions, cond_texts, has_expressions}
@@ -23,8 +23,9 @@ use Rattle.hx_rules.specs.Programs.{BackendRule, Rules}
 
 -- ---- what they add
 
-abbrev pub backend_rule : List Part → Bool → Option (List (List Term)) → BackendRule
-backend_rule parts unless cond = record { format = parts; unless = unless; cond = cond }
+abbrev pub backend_rule : ℕ → List Part → Bool → Option (List (List Term)) → BackendRule
+backend_rule line parts unless cond =
+    record { line = line; format = parts; unless = unless; cond = cond }
 
 -- the old rules, with those of one statement more
 abbrev pub with_statement : Statement → Rules → Rules
@@ -33,8 +34,8 @@ with_statement (statement.Acl line name decl) old =
 with_statement (statement.Rule rule) old = record old { rules = old.rules ++ rule ∷ [] }
 with_statement (statement.Redirect rule) old = record old { redirects = old.redirects ++ rule ∷ [] }
 with_statement (statement.Backend line parts unless cond) old =
-    record old { backends = old.backends ++ backend_rule parts unless cond ∷ [] }
-with_statement (statement.Fallback line name) old = record old { fallback = Some name }
+    record old { backends = old.backends ++ backend_rule line parts unless cond ∷ [] }
+with_statement (statement.Fallback line name) old = record old { fallback = Some name; fallback_line = line }
 with_statement _ old = old
 
 -- ---- their parts: the expressions of formats and actions, and the texts of regular expressions

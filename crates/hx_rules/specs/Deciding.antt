@@ -123,3 +123,17 @@ condition_of program (by.Redirect position) =
 condition_of program (by.Backend position) =
     option_and_then backend_condition (slice_get program.backends position)
 condition_of program _ = None
+
+-- ---- lines
+
+-- the number of the line of the statement of a program that this names, or 0 where none stands
+-- there, and where nothing decides
+abbrev pub line_of : Rules → Deciding → ℕ
+line_of program (by.Rule position) =
+    option_map_or (λ rule. rule.line) (slice_get program.rules position) 0
+line_of program (by.Redirect position) =
+    option_map_or (λ rule. rule.line) (slice_get program.redirects position) 0
+line_of program (by.Backend position) =
+    option_map_or (λ rule. rule.line) (slice_get program.backends position) 0
+line_of program by.Fallback = program.fallback_line
+line_of program by.Nothing = 0

@@ -421,6 +421,7 @@ pub(crate) fn build_rule<M: ReMaker>(
 /// A rule of `use_backend`, built.
 pub(crate) fn build_backend<M: ReMaker>(
     alloc: Global,
+    line: u64,
     format: &Format,
     unless: bool,
     cond: &Option<Cond>,
@@ -428,7 +429,8 @@ pub(crate) fn build_backend<M: ReMaker>(
 ) -> Result<BuiltBackend, PlanFault>
     requires format { list_all is_typed (format_exprs format.now) ≡ true }
     requires cond { option_map_or is_cond_typed cond.now true ≡ true }
-    ensures built { IfOk result (λ built. built ≡ backend_rule format.now unless cond.now) }
+    ensures built { IfOk result (λ built. built
+        ≡ backend_rule line format.now unless cond.now) }
     ensures expressions { OnOk result ((list_all has_expressions (format_exprs format.now)
         && option_map_or cond_has_expressions cond.now true) ≡ true) }
     ensures typed { ¬ (IsErrOf result PlanFault.BadType) }
@@ -441,6 +443,7 @@ pub(crate) fn build_backend<M: ReMaker>(
     let format = build_format(alloc, format, maker)?;
     let cond = build_when(alloc, cond, maker)?;
     Ok(BuiltBackend {
+        line,
         format,
         unless,
         cond,

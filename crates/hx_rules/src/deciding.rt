@@ -1,7 +1,8 @@
 ghost use Rattle.std.specs.Prelude.{◌≡◌, List, IfSome, option_and_then, option_map, slice_get};
+ghost use Rattle.std.specs.Option.{option_map_or};
 ghost use Rattle.hx_acl.specs.Holds.{HasCondHeads};
 ghost use Rattle.hx_sample.specs.Tables.{TableHead};
-ghost use Rattle.hx_rules.specs.Deciding.{backend_condition, condition_of, rule_condition};
+ghost use Rattle.hx_rules.specs.Deciding.{backend_condition, condition_of, line_of, rule_condition};
 ghost use Rattle.hx_rules.specs.Tables.{HasHeads};
 
 use crate::program::{BuiltBackend, BuiltRule, Program};
@@ -72,12 +73,46 @@ fn backend_condition(rules: &[BuiltBackend], at: usize) -> Option<When<'_>>
     }
 }
 
+/// The line of the rule at a position, or 0 without one.
+fn rule_line(rules: &[BuiltRule], at: usize) -> u64
+    ensures { result ≡ option_map_or (λ rule. rule.line) (slice_get rules.now at) 0 }
+{
+    match rules.get(at) {
+        Some(rule) => rule.line,
+        None => 0,
+    }
+}
+
+/// The same of a rule of `use_backend`.
+fn backend_line(rules: &[BuiltBackend], at: usize) -> u64
+    ensures { result ≡ option_map_or (λ rule. rule.line) (slice_get rules.now at) 0 }
+{
+    match rules.get(at) {
+        Some(rule) => rule.line,
+        None => 0,
+    }
+}
+
 impl Program {
     /// The ACLs that the program declares.
     pub fn acls(&self) -> &AclSet
         ensures { result.now ≡ self.now.acls }
     {
         &self.acls
+    }
+
+    /// The number of the line of the statement that `by` names, counted from 1. It is 0 where none
+    /// stands at its position, and where nothing decides.
+    pub fn line(&self, by: &Deciding) -> u64
+        ensures { result ≡ line_of self.now by.now }
+    {
+        match by {
+            Deciding::Rule(at) => rule_line(self.rules.as_slice(), *at),
+            Deciding::Redirect(at) => rule_line(self.redirects.as_slice(), *at),
+            Deciding::Backend(at) => backend_line(self.backends.as_slice(), *at),
+            Deciding::Fallback => self.fallback_line,
+            Deciding::Nothing => 0,
+        }
     }
 
     /// When the statement is taken that `by` names. None where it has no condition, and where none

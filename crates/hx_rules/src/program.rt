@@ -50,10 +50,11 @@ impl BuiltRule {
     }
 }
 
-/// A rule of `use_backend`: what makes the backend's name, and when it is taken. Contracts see it
-/// as what it was built from.
+/// A rule of `use_backend`: the number of its line, what makes the backend's name, and when it is
+/// taken. Contracts see it as what it was built from.
 #[derive(Drop)]
 pub(crate) struct BuiltBackend {
+    pub(crate) line: u64,
     pub(crate) format: BuiltFormat,
     pub(crate) unless: bool,
     pub(crate) cond: Option<Condition>,
@@ -65,6 +66,7 @@ impl Model for BuiltBackend {
     ghost Value = { BackendRule };
 
     ghost view = { λ rule. record {
+      line = rule.line;
       format = rule.format;
       unless = rule.unless;
       cond = rule.cond;
@@ -73,7 +75,8 @@ impl Model for BuiltBackend {
 
 /// The rules of a frontend, ready to be evaluated (HAProxy configuration manual 2.4, section 4.2).
 /// Contracts see them as lists: of the declarations of ACLs, of the rules of `http-request`, of the
-/// redirects and of the rules of `use_backend`, and the backend where no other is taken.
+/// redirects and of the rules of `use_backend`, and the backend where no other is taken, with the
+/// number of its line.
 #[derive(Drop)]
 pub struct Program {
     alloc: Global,
@@ -82,6 +85,8 @@ pub struct Program {
     pub(crate) redirects: Items<BuiltRule>,
     pub(crate) backends: Items<BuiltBackend>,
     pub(crate) fallback: Option<Octets>,
+    /// The number of the line that names it, or 0.
+    pub(crate) fallback_line: u64,
     /// Whether one of `rules` rewrites the head of a request.
     rewrites: bool,
 }
@@ -100,6 +105,7 @@ impl Model for Program {
       redirects = program.redirects;
       backends = program.backends;
       fallback = program.fallback;
+      fallback_line = program.fallback_line;
     } };
 
     // how many rules there are is a `u64`, and whether one rewrites is known
@@ -120,6 +126,7 @@ impl Program {
             redirects: Items::new(alloc),
             backends: Items::new(alloc),
             fallback: None,
+            fallback_line: 0,
             rewrites: false,
         }
     }
@@ -191,17 +198,18 @@ impl Program {
                 Ok(())
             }
             Statement::Backend {
+                line,
                 format,
                 unless,
                 cond,
-                ..
             } => {
-                let rule = build_backend(alloc, format, *unless, cond, maker)?;
+                let rule = build_backend(alloc, *line, format, *unless, cond, maker)?;
                 self.backends.push(rule)?;
                 Ok(())
             }
-            Statement::Fallback { name, .. } => {
+            Statement::Fallback { line, name } => {
                 self.fallback = Some(Octets::copy(alloc, name.as_slice())?);
+                self.fallback_line = *line;
                 Ok(())
             }
         }
