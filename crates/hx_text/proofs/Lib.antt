@@ -8,3 +8,4 @@ pub mod NetworkLemmas
 pub mod GrammarLemmas
 pub mod DottedEndLemmas
 pub mod MethodLemmas
+pub mod ValueLemmas
