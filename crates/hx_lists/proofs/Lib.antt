@@ -2,6 +2,8 @@ pub mod CommaLemmas
 pub mod CutLemmas
 pub mod EndLemmas
 pub mod LengthLemmas
+pub mod MarkLemmas
+pub mod NameLemmas
 pub mod PieceLemmas
 pub mod QuotedLemmas
 pub mod SplitLemmas

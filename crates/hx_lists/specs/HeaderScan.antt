@@ -1,6 +1,7 @@
 -- A view of the code, for private contracts: the search for the end of a header line's first piece.
-use Rattle.std.specs.Prelude.{ℕ, List, map, take, drop}
+use Rattle.std.specs.Prelude.{ℕ, Bool, ◌||◌, ◌==◌, List, map, take, drop}
 use Rattle.std.specs.List.{slice_split}
+use Rattle.hx_base.specs.Bytes.{ascii}
 use Rattle.hx_lists.specs.HeaderValues.{Quoting, bytes_with_quoting, is_cut, pieces_with_prefix}
 
 -- the pieces of a text that begins at `quoting`, as `hdr_pieces` has them of a line
@@ -13,3 +14,7 @@ pieces_from quoting bytes =
 abbrev pub pieces_at : Quoting → List ℕ → ℕ → List (List ℕ)
 pieces_at quoting line position =
     pieces_with_prefix (take position line) (pieces_from quoting (drop position line))
+
+-- the byte ends a piece or begins a quoted string, where it stands outside those
+abbrev pub is_mark : ℕ → Bool
+is_mark b = b == ascii "," || b == ascii "\""

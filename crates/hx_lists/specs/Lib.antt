@@ -3,5 +3,7 @@ pub mod Blanks
 pub mod HeaderValues
 pub mod NamedValues
 pub mod Laws
--- A view of the code, for private contracts: the search for the end of a line's first piece.
+-- Views of the code, for private contracts: the search for the end of a line's first piece, and what
+-- a piece has under a name.
 pub mod HeaderScan
+pub mod PieceValues

@@ -1,7 +1,8 @@
 -- Values under names: the cookies of a line (HAProxy configuration manual 2.4 section 7.3.6, RFC
 -- 6265 section 4.2.1) and the parameters of a target (the same section of the manual).
-use Rattle.std.specs.Prelude.{ℕ, Bool, ◌||◌, ◌==◌, List, map, filter, Option}
-use Rattle.std.specs.List.{list_any, slice_split, before_first, after_first}
+use Rattle.std.specs.Prelude.{ℕ, Bool, ◌||◌, ◌==◌, List, map, filter, Option, option_map}
+use Rattle.std.specs.List.{find, list_any, slice_split, before_first, after_first}
+use Rattle.std.specs.Str.{bytes_eq}
 use Rattle.hx_base.specs.Bytes.{ascii, is_given}
 use Rattle.hx_lists.specs.Blanks.{trim_blanks}
 
@@ -20,10 +21,21 @@ abbrev pub named_values : (ℕ → Bool) → List ℕ → List NamedValue
 named_values separates text =
     map named_value (filter (list_any (λ b. b == ascii "=")) (slice_split separates text))
 
+-- the name and the value without the blanks at their ends
+abbrev pub trimmed_pair : NamedValue → NamedValue
+trimmed_pair pair = (trim_blanks pair.0, trim_blanks pair.1)
+
 -- the cookies of a line, which is cut at each `;`, names and values without blanks at their ends
 abbrev pub cookies : List ℕ → List NamedValue
-cookies line =
-    map (λ pair. (trim_blanks pair.0, trim_blanks pair.1)) (named_values (λ b. b == ascii ";") line)
+cookies line = map trimmed_pair (named_values (λ b. b == ascii ";") line)
+
+-- the pair has the name, whose letters' case counts
+abbrev pub is_named : List ℕ → NamedValue → Bool
+is_named name pair = bytes_eq pair.0 name
+
+-- the value of the first of the pairs that has the name
+abbrev pub value_named : List ℕ → List NamedValue → Option (List ℕ)
+value_named name pairs = option_map (λ pair. pair.1) (find (is_named name) pairs)
 
 -- `?` or the delimiter: the first in a target stands before its parameters
 abbrev pub begins_params : Option ℕ → ℕ → Bool

@@ -1,4 +1,4 @@
-ghost use Rattle.std.specs.Prelude.{◌≡◌, ◌≤◌, length};
+ghost use Rattle.std.specs.Prelude.{◌≡◌, ◌≤◌, drop, length};
 ghost use Rattle.std.specs.List.{prefix_len, suffix_len};
 ghost use Rattle.hx_base.specs.Bytes.{is_blank};
 ghost use Rattle.hx_lists.specs.Blanks.{first_blanks, last_blanks, trim_blanks};
@@ -25,11 +25,18 @@ fn trailing_blanks(bytes: &[u8]) -> usize
     bytes.iter().rev().take_while(|b| is_blank(**b)).count()
 }
 
+/// The bytes without the spaces and tabs that they begin with.
+pub(crate) fn without_first_blanks(bytes: &[u8]) -> &[u8]
+    ensures { result.now ≡ drop (prefix_len is_blank bytes.now) bytes.now }
+{
+    &bytes[leading_blanks(bytes)..]
+}
+
 /// The bytes without the spaces and tabs at both ends.
 pub(crate) fn trim_blanks(bytes: &[u8]) -> &[u8]
     ensures { result.now ≡ trim_blanks bytes.now }
 {
-    let rest = &bytes[leading_blanks(bytes)..];
+    let rest = without_first_blanks(bytes);
     &rest[..rest.len() - trailing_blanks(rest)]
 }
 

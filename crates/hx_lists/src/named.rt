@@ -1,10 +1,10 @@
 ghost use Rattle.std.specs.Prelude.{◌≡◌, List, ℕ, map};
 ghost use Rattle.std.specs.List.{after_first};
+ghost use Rattle.std.specs.Option.{option_copied};
 ghost use Rattle.std.specs.Iterator.{YieldsFirstBy, item_count};
 ghost use Rattle.memchr.specs.Find.{is_byte3};
 ghost use Rattle.hx_lists.specs.NamedValues.{begins_params, separates_params};
-ghost use Rattle.hx_lists.specs.NamedValues.{cookies, params};
-ghost use Rattle.hx_lists.specs.Blanks.{trim_blanks};
+ghost use Rattle.hx_lists.specs.NamedValues.{cookies, is_named, params, trimmed_pair, value_named};
 
 use crate::blanks::trim_blanks;
 use crate::pairs::{Pairs, Separators};
@@ -21,8 +21,7 @@ pub struct Cookies<'a> {
 impl<'a> Model for Cookies<'a> {
     ghost Value = { List (List ℕ × List ℕ) };
 
-    ghost view = { λ cookies.
-        map (λ pair. (trim_blanks pair.0, trim_blanks pair.1)) cookies.pairs };
+    ghost view = { λ cookies. map trimmed_pair cookies.pairs };
 }
 
 impl<'a> Cookies<'a> {
@@ -32,6 +31,16 @@ impl<'a> Cookies<'a> {
         Cookies {
             pairs: Pairs::new(line, Separators(b';', b';', b';')),
         }
+    }
+
+    /// Gives the value of the first cookie of a name among those that are left, if there is one. It
+    /// and those before it are then given, and without such a cookie all are. The case of letters
+    /// counts. Cookies of other names cost less here than where `next` gives them.
+    pub fn next_named(&mut self, name: &[u8]) -> Option<&'a [u8]>
+        ensures value { option_copied result ≡ value_named name.now self.old }
+        ensures left { self.new ≡ after_first (is_named name.now) self.old }
+    {
+        self.pairs.next_trimmed(name)
     }
 }
 
