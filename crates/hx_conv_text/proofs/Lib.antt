@@ -1,4 +1,5 @@
 pub mod PieceLemmas
+pub mod SearchLemmas
 pub mod EndLemmas
 pub mod SpanLemmas
 pub mod LetterLemmas
@@ -10,4 +11,5 @@ pub mod RowLemmas
 pub mod PartLemmas
 pub mod FieldLemmas
 pub mod FixedLemmas
+pub mod ExpandedLemmas
 pub mod WordLemmas

@@ -179,3 +179,23 @@ last_all most skipped spans e f = rw (e, f) refl
 pub last_some : (most skipped : ℕ) (spans : List (ℕ × ℕ)) → ¬ (most ≡ 0) → skipped ≡ length spans - most
     → drop skipped spans ≡ last_items most spans
 last_some most skipped spans h e = rw (ne_eqb most 0 h, e) refl
+
+-- a walk over spans has come to one: it, and those that are left
+pub record IsComeTo (spans : List (ℕ × ℕ)) (last : ℕ × ℕ) (left : List (ℕ × ℕ)) : Type 0 where
+  pub passed : ℕ
+  pub at : drop passed spans ≡ last ∷ left
+
+pub next_come : (spans left rest : List (ℕ × ℕ)) (last span : ℕ × ℕ) → IsComeTo spans last left → left ≡ span ∷ rest
+    → IsComeTo spans span rest
+next_come spans left rest last span is e = record {
+  passed = is.passed + 1;
+  at = drop_next spans left last is.passed is.at ∙ e;
+}
+
+pub last_come : (spans left : List (ℕ × ℕ)) (last : ℕ × ℕ) → IsComeTo spans last left → left ≡ []
+    → last ∷ [] ≡ last_items 1 spans
+last_come spans left last is e =
+    let rest : drop is.passed spans ≡ last ∷ [] = is.at ∙ ap (λ l. last ∷ l) e in
+    let size : length spans - is.passed ≡ 1 = sym (length-drop is.passed spans) ∙ ap length rest in
+    let passed : is.passed ≡ length spans - 1 = omega (arith, size) in
+    sym rest ∙ ap (λ n. drop n spans) passed

@@ -1,14 +1,13 @@
 -- What replaces the matches of an expression, and that expressions which match the same are
 -- replaced the same.
-use Rattle.std.proofs.Common.{◌≡◌, ℕ, zero, suc, ◌+◌, ◌-◌, ◌*◌, ◌<◌, ◌≤◌, ◌==◌, ◌⊎◌, Bool, true, false, List, [], ◌∷◌, ◌++◌, map, get_or, drop, take, length, Option, Some, None, option_map, refl, sym, ap, ap₂, ◌∙◌, inl, inr, add-one, arith, append_assoc, is_some, slice_range, if◌then◌else◌}
+use Rattle.std.proofs.Common.{◌≡◌, ℕ, zero, suc, ◌+◌, ◌*◌, ◌<◌, ◌≤◌, ◌==◌, ◌⊎◌, Bool, true, false, List, [], ◌∷◌, ◌++◌, map, get_or, drop, length, Option, Some, None, option_map, refl, sym, ap, ap₂, ◌∙◌, inl, inr, arith, append_assoc, slice_range, if◌then◌else◌}
 use Rattle.std.proofs.lemmas.Bool.{ne_eqb}
 use Rattle.std.proofs.lemmas.List.{drop_more, get_or_default}
 use Rattle.std.proofs.lemmas.Option.{same_Some}
 use mathlib.Core.Path.{fun_ext}
-use Rattle.regex_hir.specs.Find.{matches_from}
 use Rattle.regex.specs.Bytes.{IsCapturesOf, captures_span}
 use Rattle.regex.specs.Patterns.{Re, Match, SameCaptures, find, find_all, span}
-use Rattle.regex.specs.Replace.{IsReplacedBy, bytes_of, group_bytes, replaced_by}
+use Rattle.regex.specs.Replace.{bytes_of, group_bytes, replaced_by}
 use Rattle.regex.specs.Search.{group_span}
 use Rattle.regex.specs.Writes.{both}
 use Rattle.regex.specs.declared.bytes.captures.Captures.{Captures}
@@ -27,11 +26,11 @@ plain group b [] h = refl
 plain group b (next ∷ rest) (inl other) = rw (ne_eqb b 92 other) refl
 plain group b (next ∷ rest) (inr none) = absurd cc
 
-pub plain_step : (group : ℕ → List ℕ) (sub : List ℕ) (at : ℕ) (made now : List ℕ) → at < length sub
+pub plain_step : (group : ℕ → List ℕ) (sub : List ℕ) (at : ℕ) (made now whole : List ℕ) → at < length sub
     → (get_or sub at 0 ≡ 92 → ⊥) ⊎ (drop (at + 1) sub ≡ []) → now ≡ made ++ get_or sub at 0 ∷ []
-    → made ++ expansion group (drop at sub) ≡ expansion group sub
-    → now ++ expansion group (drop (at + 1) sub) ≡ expansion group sub
-plain_step group sub at made now h other e so_far =
+    → made ++ expansion group (drop at sub) ≡ whole
+    → now ++ expansion group (drop (at + 1) sub) ≡ whole
+plain_step group sub at made now whole h other e so_far =
     let b = get_or sub at 0 in
     let rest = drop (at + 1) sub in
     ap (λ l. l ++ expansion group rest) e
@@ -128,45 +127,7 @@ pub substituted_is : (asked : ExpressionText) (sub : List ℕ) (each : Bool) (in
 substituted_is asked sub each input searched bytes is =
     rw is.is (ap Some (substituted_alike is.same input bytes sub each))
 
--- what is written in the place of each match
-pub replaced_as : (f : Match → List ℕ) (Writes : Match → List ℕ → Type 0) → ((m : Match) (w : List ℕ) → Writes m w → w ≡ f m)
-    → (hay : List ℕ) (at : ℕ) (ms : List Match) (out : List ℕ) → IsReplacedBy Writes hay at ms out → out ≡ replaced_by f hay at ms
-unfolding replaced_by
-replaced_as f Writes same hay at [] out h = h
-replaced_as f Writes same hay at (m ∷ ms) out h =
-    h.4 ∙ ap₂ (λ w r. (slice_range hay at m.start ++ w) ++ r) (same m h.0 h.2) (replaced_as f Writes same hay m.trace.end ms h.1 h.3)
-
 -- the span of the match as its captures have it
 pub whole_span : (input : List ℕ) (m : Match) (c : Captures) (s : ℕ × ℕ) → IsCapturesOf input m c → Some s ≡ captures_span c 0 → s ≡ span m
 unfolding group_span
 whole_span input m c s h e = same_Some _ _ e ∙ h.1.whole_is
-
--- nothing is replaced where nothing matches
-pub none_made : (written : Match → List ℕ) (input : List ℕ) → input ≡ replaced_by written input 0 []
-unfolding replaced_by
-none_made written input = refl
-
-no_matches : (e : Re) (input : List ℕ) → find e input 0 ≡ None → find_all e input ≡ []
-unfolding matches_from
-no_matches e input none = rw (add-one, none) refl
-
-no_find : (found : Option Match) → false ≡ is_some found → found ≡ None
-no_find None none = refl
-no_find (Some m) none = cc
-
--- nothing is replaced where there is no match
-pub none_replaced : (sub input : List ℕ) (e re : Re) → e ≡ re → false ≡ is_some (find e input 0)
-    → input ≡ replaced_by (expansion_at sub input) input 0 (find_all re input)
-none_replaced sub input e re same none =
-    none_made (expansion_at sub input) input
-    ∙ ap (replaced_by (expansion_at sub input) input 0) (sym (no_matches e input (no_find (find e input 0) none)))
-    ∙ ap (λ (r : Re). replaced_by (expansion_at sub input) input 0 (find_all r input)) same
-
--- the leftmost match alone is replaced
-pub first_made : (sub input replacement : List ℕ) (m : Match) (s : ℕ × ℕ) → s ≡ span m → replacement ≡ expansion_at sub input m
-    → take s.0 input ++ replacement ++ drop s.1 input ≡ replaced_by (expansion_at sub input) input 0 (m ∷ [])
-unfolding replaced_by
-first_made sub input replacement m s e f =
-    let start : m.start ≡ m.start - 0 = omega arith in
-    ap₂ (λ (w : List ℕ) (t : ℕ × ℕ). take t.0 input ++ w ++ drop t.1 input) f e
-    ∙ ap (λ n. take n input ++ expansion_at sub input m ++ drop m.trace.end input) start

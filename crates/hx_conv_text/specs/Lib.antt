@@ -11,4 +11,5 @@ pub mod Building
 pub mod Scanning
 pub mod Built
 pub mod Captured
+pub mod Writing
 pub mod Letters

@@ -38,6 +38,29 @@ pub(crate) fn content<'a>(
         IsSameWhereBoth (kept_bytes sample.entry) (Some bytes))) }
     ensures not_printed { is_printed (value_of sample.entry) kind ≡ false → IsOk result }
 {
+    match (sample, kind) {
+        (Sample::Str(text), Kind::Str) => Ok(Some(text)),
+        (sample, kind) => cast_bytes(alloc, sample, kind),
+    }
+}
+
+/// The bytes of the sample where it may have to be cast. This is no part of `content`, so that a
+/// string costs no call.
+#[inline(never)]
+fn cast_bytes<'a>(
+    alloc: Global,
+    sample: Sample<'a>,
+    kind: Kind,
+) -> Result<Option<Bytes<'a>>, NoMemory>
+    ensures value { IfOk result (λ content.
+        option_map bytes_of content ≡ cast_content kind (value_of sample.entry)) }
+    ensures free { has_lent_bytes sample.entry ≡ true → IsOk result }
+    ensures lent { has_lent_bytes sample.entry ≡ true →
+        IfOk result (λ content. IfSome content (λ bytes. is_lent bytes ≡ true)) }
+    ensures kept { IfOk result (λ content. IfSome content (λ bytes.
+        IsSameWhereBoth (kept_bytes sample.entry) (Some bytes))) }
+    ensures not_printed { is_printed (value_of sample.entry) kind ≡ false → IsOk result }
+{
     let Some(sample) = cast(alloc, sample, kind)? else {
         return Ok(None);
     };

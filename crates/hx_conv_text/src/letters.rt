@@ -31,47 +31,43 @@ fn has_case(case: Case, text: &[u8]) -> bool
     text.iter().all(|b| byte_in_case(case, *b) == *b)
 }
 
-fn lent_in_case(alloc: Global, case: Case, text: &[u8]) -> Result<Vec<u8>, NoMemory>
-    ensures { IfOk result (λ made. made.items ≡ map (in_case case) text.now) }
+fn copied_in_case(alloc: Global, case: Case, text: &[u8]) -> Result<Octets, NoMemory>
+    ensures { IfOk result (λ made. made ≡ map (in_case case) text.now) }
 {
     match case {
-        Case::Lower => Ok(text.to_ascii_lowercase(alloc)?),
-        Case::Upper => Ok(text.to_ascii_uppercase(alloc)?),
+        Case::Lower => Ok(Octets::from_vec(text.to_ascii_lowercase(alloc)?)),
+        Case::Upper => Ok(Octets::from_vec(text.to_ascii_uppercase(alloc)?)),
     }
 }
 
-fn owned_in_case(case: Case, text: Octets) -> Vec<u8>
-    ensures { result.items ≡ map (in_case case) text }
+fn owned_in_case(case: Case, text: Octets) -> Octets
+    ensures { result ≡ map (in_case case) text }
 {
     let mut made = text.into_vec();
     match case {
         Case::Lower => made.make_ascii_lowercase(),
         Case::Upper => made.make_ascii_uppercase(),
     }
-    made
+    Octets::from_vec(made)
 }
 
-fn text_in_case(alloc: Global, case: Case, text: Bytes<'_>) -> Result<Octets, NoMemory>
-    ensures { IfOk result (λ made. made ≡ map (in_case case) (bytes_of text.entry)) }
-{
-    match text {
-        Bytes::Lent(text) => Ok(Octets::from_vec(lent_in_case(alloc, case, text)?)),
-        Bytes::Own(text) => Ok(Octets::from_vec(owned_in_case(case, text))),
-    }
-}
-
-/// The text with the letters of ASCII in a case. A text that has them so stays as it is, lent or
-/// owned, and an owned one keeps its memory: memory is taken for a lent one that changes alone.
+/// The text with the letters of ASCII in a case. An owned one is changed where it lies, and a lent
+/// one that has its letters so stays lent: memory is taken for a lent one that changes alone.
 fn with_case<'a>(alloc: Global, case: Case, text: Bytes<'a>) -> Result<Bytes<'a>, NoMemory>
     ensures value { IfOk result (λ made.
         bytes_of made ≡ map (in_case case) (bytes_of text.entry)) }
     ensures kept { IfOk result (AreInputWhereEqual text.entry) }
     ensures free { map (in_case case) (bytes_of text.entry) ≡ bytes_of text.entry → IsOk result }
 {
-    if has_case(case, text.as_slice()) {
-        return Ok(text);
+    match text {
+        Bytes::Own(text) => Ok(Bytes::Own(owned_in_case(case, text))),
+        text => {
+            if has_case(case, text.as_slice()) {
+                return Ok(text);
+            }
+            Ok(Bytes::Own(copied_in_case(alloc, case, text.as_slice())?))
+        }
     }
-    Ok(Bytes::Own(text_in_case(alloc, case, text)?))
 }
 
 /// The text with the letters of ASCII in lower case, as `with_case` gives it.

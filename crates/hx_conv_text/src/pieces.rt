@@ -3,6 +3,8 @@ ghost use Rattle.std.specs.List.{filter, position_or_len, prefix_len};
 ghost use Rattle.hx_conv_text.specs.Pieces.{field_spans, is_in, first_items, items_at, last_items, piece_count, text_across, word_spans};
 ghost use Rattle.hx_conv_text.specs.Scanning.{bytes_at, fields_after, is_filled, last_end, pieces_left, LiesWithin};
 
+use memchr::{memchr, memchr2};
+
 /// Where the text across the fields that `index` and `count` name begins and ends, with the
 /// delimiters between them. Where `index` is positive these are so many from the one of that number
 /// on, and where it is negative so many up to the one that is counted from the last, -1: one
@@ -17,6 +19,9 @@ pub(crate) fn field(
         ≡ text_across text.now (items_at index count (field_spans delims.now text.now)) }
     ensures within { IfSome result (LiesWithin text.now) }
 {
+    if index == 1 && piece_count(count) == 1 {
+        return next_field(delims, text, 0);
+    }
     let pieces = Pieces {
         words: false,
         delims,
@@ -36,6 +41,9 @@ pub(crate) fn word(
         ≡ text_across text.now (items_at index count (word_spans delims.now text.now)) }
     ensures within { IfSome result (LiesWithin text.now) }
 {
+    if index == 1 && piece_count(count) == 1 {
+        return next_word(delims, text, 0);
+    }
     let pieces = Pieces {
         words: true,
         delims,
@@ -48,15 +56,45 @@ pub(crate) fn word(
 pub(crate) fn is_in(bytes: &[u8], b: u8) -> bool
     ensures { result ≡ is_in bytes.now b }
 {
-    bytes.contains(&b)
+    match bytes {
+        [byte] => *byte == b,
+        _ => bytes.contains(&b),
+    }
 }
 
-/// How many bytes the text begins with that aren't in `bytes`.
+/// How many bytes the text begins with that aren't this one.
+fn leading_other(byte: u8, text: &[u8]) -> usize
+    ensures value { result ≡ position_or_len (is_in (byte ∷ [])) text.now }
+    ensures within { result ≤ length text.now }
+{
+    match memchr(byte, text) {
+        Some(at) => at,
+        None => text.len(),
+    }
+}
+
+/// How many bytes the text begins with that are neither of these two.
+fn leading_neither(first: u8, second: u8, text: &[u8]) -> usize
+    ensures value { result ≡ position_or_len (is_in (first ∷ second ∷ [])) text.now }
+    ensures within { result ≤ length text.now }
+{
+    match memchr2(first, second, text) {
+        Some(at) => at,
+        None => text.len(),
+    }
+}
+
+/// How many bytes the text begins with that aren't in `bytes`. One byte or two are searched for,
+/// which costs less than a test of each byte of the text against a list.
 pub(crate) fn leading_outside(bytes: &[u8], text: &[u8]) -> usize
     ensures value { result ≡ position_or_len (is_in bytes.now) text.now }
     ensures within { result ≤ length text.now }
 {
-    text.iter().take_while(|b| !is_in(bytes, **b)).count()
+    match bytes {
+        [byte] => leading_other(*byte, text),
+        [first, second] => leading_neither(*first, *second, text),
+        _ => text.iter().take_while(|b| !is_in(bytes, **b)).count(),
+    }
 }
 
 /// How many bytes the text begins with that are in `bytes`.
@@ -210,12 +248,28 @@ impl Pieces<'_, '_> {
         self.across(skipped, pieces - skipped)
     }
 
+    /// The last piece, found in one walk over all.
+    fn last(&self) -> Option<(usize, usize)>
+        ensures value { option_map (bytes_at self.now.text.now) result
+            ≡ text_across self.now.text.now (last_items 1 (pieces_left self.now 0)) }
+        ensures within { IfSome result (LiesWithin self.now.text.now) }
+    {
+        let mut last = self.next(0)?;
+        while let Some(span) = self.next(last.1 + 1) {
+            last = span;
+        }
+        Some(last)
+    }
+
     /// The span across the pieces that an index and a count name.
     fn part(&self, index: i64, count: Option<i64>) -> Option<(usize, usize)>
         ensures value { option_map (bytes_at self.now.text.now) result
             ≡ text_across self.now.text.now (items_at index count (pieces_left self.now 0)) }
         ensures within { IfSome result (LiesWithin self.now.text.now) }
     {
+        if index == -1 && piece_count(count) == 1 {
+            return self.last();
+        }
         let number = index.unsigned_abs() as usize;
         if index >= 0 {
             self.from_first(number.saturating_sub(1), piece_count(count))

@@ -1,14 +1,16 @@
-ghost use Rattle.std.specs.Prelude.{◌≡◌, ℕ, Bool, List, Some, option_map, option_to_list, unwrap_or, IfOk, IsTrue};
+ghost use Rattle.std.specs.Prelude.{◌≡◌, ℕ, ◌+◌, ◌-◌, ◌++◌, ◌≤◌, Bool, false, length, List, Some, option_map, option_to_list, unwrap_or, IfOk, IfSome, IsTrue, OnOk};
 ghost use Rattle.regex.specs.Bytes.{matcher_pattern, regex_pattern};
 ghost use Rattle.regex.specs.Patterns.{find, find_all};
 ghost use Rattle.regex.specs.Replace.{replaced_by};
+ghost use Rattle.regex.specs.Search.{next_match};
 ghost use Rattle.hx_outside.specs.Expressions.{expression, IsExpression};
 ghost use Rattle.hx_sample.specs.Seen.{bytes_of};
 ghost use Rattle.hx_conv_text.specs.Captured.{captured};
 ghost use Rattle.hx_conv_text.specs.Converters.{AreInputWhereEqual};
 ghost use Rattle.hx_conv_text.specs.Substitution.{expansion, expansion_at, expanded_of, substituted_text};
+ghost use Rattle.hx_conv_text.specs.Writing.{end_of, written_at};
 
-use crate::replacing::{with_each_fixed, with_first_fixed, with_part_replaced};
+use crate::replacing::{with_each_fixed, with_first_fixed};
 use hx_regex::{RegularExpression, Search};
 use hx_sample::Bytes;
 use hx_text::{NoMemory, Octets};
@@ -25,12 +27,15 @@ fn group<'h>(captures: &Captures<'_, 'h>, number: u8) -> &'h [u8]
     }
 }
 
-/// The replacement `sub` at a match.
-fn expansion(alloc: Global, sub: &[u8], captures: &Captures<'_, '_>) -> Result<Vec<u8>, AllocError>
-    ensures { IfOk result (λ made. made.items ≡ expansion (captured captures.now) sub.now) }
+/// Appends the replacement `sub` at a match. Where memory runs out it may have appended a part.
+fn append_expansion(
+    made: &mut Vec<u8>,
+    sub: &[u8],
+    captures: &Captures<'_, '_>,
+) -> Result<(), AllocError>
+    ensures { OnOk result (made.new.items
+        ≡ made.old.items ++ expansion (captured captures.now) sub.now) }
 {
-    let room = sub.len().saturating_add(captures.get_match().len());
-    let mut made = Vec::with_capacity(alloc, room)?;
     let mut at = 0;
     while at < sub.len() {
         let b = sub[at];
@@ -49,6 +54,16 @@ fn expansion(alloc: Global, sub: &[u8], captures: &Captures<'_, '_>) -> Result<V
         }
         at += 2;
     }
+    Ok(())
+}
+
+/// The replacement `sub` at a match.
+fn expansion(alloc: Global, sub: &[u8], captures: &Captures<'_, '_>) -> Result<Vec<u8>, AllocError>
+    ensures { IfOk result (λ made. made.items ≡ expansion (captured captures.now) sub.now) }
+{
+    let room = sub.len().saturating_add(captures.get_match().len());
+    let mut made = Vec::with_capacity(alloc, room)?;
+    append_expansion(&mut made, sub, captures)?;
     Ok(made)
 }
 
@@ -160,6 +175,76 @@ pub fn expand_by(
     }
 }
 
+/// Searches from `from` on for the match that follows one which ended before `after`, and appends to
+/// `made` what stands between the two and what `sub` stands for there. An empty match right where
+/// the last one ended is none: nothing is appended. The result is where the match ends that was
+/// found. Before the first match `after` is 0.
+fn write_from(
+    matcher: &mut Matcher<'_>,
+    sub: &[u8],
+    input: &[u8],
+    after: usize,
+    from: usize,
+    made: &mut Vec<u8>,
+) -> Result<Option<usize>, AllocError>
+    requires begins { after - 1 ≤ from }
+    ensures found { IfOk result (λ end. end
+        ≡ option_map end_of (find (matcher_pattern matcher.old) input.now from)) }
+    ensures made { IfOk result (λ _. made.new.items ≡ made.old.items
+        ++ written_at sub.now input.now after (find (matcher_pattern matcher.old) input.now from)) }
+    ensures within { IfOk result (λ end. IfSome end (λ n. n ≤ length input.now)) }
+    ensures same { matcher_pattern matcher.new ≡ matcher_pattern matcher.old }
+{
+    match matcher.captures_at(input, from) {
+        Some(captures) => {
+            let found = captures.get_match();
+            if found.end() < after {
+                return Ok(Some(found.end()));
+            }
+            let last = after.saturating_sub(1);
+            let left = input.len() - last;
+            made.reserve(left.saturating_add(sub.len()))?;
+            made.extend_from_slice(&input[last..found.start()])?;
+            append_expansion(made, sub, &captures)?;
+            Ok(Some(found.end()))
+        }
+        None => Ok(None),
+    }
+}
+
+/// Appends to `made` what stands between the match that ended before `after` and the next one, and
+/// what `sub` stands for there. The result is where the next match ends, and None where there is
+/// none. Before the first match `after` is 0. At the end of the input nothing is searched.
+fn write_next(
+    matcher: &mut Matcher<'_>,
+    sub: &[u8],
+    input: &[u8],
+    after: usize,
+    made: &mut Vec<u8>,
+) -> Result<Option<usize>, AllocError>
+    requires { after ≤ length input.now + 1 }
+    ensures found { IfOk result (λ end. end
+        ≡ option_map end_of (next_match false (matcher_pattern matcher.old) input.now after)) }
+    ensures made { IfOk result (λ _. made.new.items ≡ made.old.items
+        ++ written_at sub.now input.now after
+        (next_match false (matcher_pattern matcher.old) input.now after)) }
+    ensures within { IfOk result (λ end. IfSome end (λ n. n ≤ length input.now)) }
+    ensures same { matcher_pattern matcher.new ≡ matcher_pattern matcher.old }
+{
+    if after > input.len() {
+        return Ok(None);
+    }
+    let last = after.saturating_sub(1);
+    let Some(end) = write_from(matcher, sub, input, after, last, made)? else {
+        return Ok(None);
+    };
+    // An empty match right where the last one ended: the next begins at least one byte later.
+    if end < after {
+        return write_from(matcher, sub, input, after, after, made);
+    }
+    Ok(Some(end))
+}
+
 /// The input with the leftmost match replaced by what `sub` stands for there. None where nothing
 /// matches.
 fn with_first_expanded(
@@ -173,19 +258,18 @@ fn with_first_expanded(
         (option_to_list (find (matcher_pattern matcher.old) input.now 0))) }
     ensures same { matcher_pattern matcher.new ≡ matcher_pattern matcher.old }
 {
-    match matcher.captures(input) {
-        Some(captures) => {
-            let found = captures.get_match();
-            let replacement = expansion(alloc, sub, &captures)?;
-            let made = with_part_replaced(alloc, input, found.start(), found.end(), &replacement)?;
-            Ok(Some(made))
+    let mut made = Vec::new(alloc);
+    match write_from(matcher, sub, input, 0, 0, &mut made)? {
+        Some(end) => {
+            made.extend_from_slice(&input[end..])?;
+            Ok(Some(Octets::from_vec(made)))
         }
         None => Ok(None),
     }
 }
 
 /// The input with each match replaced by what `sub` stands for there. None where nothing matches:
-/// this is found out first, since the library would copy the input.
+/// no memory is taken before the first match.
 fn with_each_expanded(
     alloc: Global,
     matcher: &mut Matcher<'_>,
@@ -197,16 +281,15 @@ fn with_each_expanded(
         (find_all (matcher_pattern matcher.old) input.now)) }
     ensures same { matcher_pattern matcher.new ≡ matcher_pattern matcher.old }
 {
-    if !matcher.is_match(input) {
+    let mut made = Vec::new(alloc);
+    let mut after = 0;
+    while let Some(end) = write_next(matcher, sub, input, after, &mut made)? {
+        after = end + 1;
+    }
+    if after == 0 {
         return Ok(None);
     }
-    let made = matcher.replace_all_with(
-        alloc,
-        input,
-        |captures: &Captures<'_, '_>| -> Result<Vec<u8>, AllocError>
-            ensures { IfOk result (λ v. v.items ≡ expansion (captured captures.now) sub.entry.now) }
-        { expansion(alloc, sub, captures) },
-    )?;
+    made.extend_from_slice(&input[after - 1..])?;
     Ok(Some(Octets::from_vec(made)))
 }
 
