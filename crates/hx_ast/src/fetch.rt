@@ -25,7 +25,7 @@ pub enum Fetch {
     Ipv4(Ip),
     /// `ipv6(A)`: the address A
     Ipv6(Ip),
-    /// `var(NAME[,DEFAULT])`: the value of the variable NAME, or the text DEFAULT where it isn't set
+    /// `var(NAME[,DEFAULT])`: the value of the variable NAME, or DEFAULT where it isn't set
     Var(VarName, Option<Octets>),
     /// `src`: the address that the connection comes from
     Src,
