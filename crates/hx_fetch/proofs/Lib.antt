@@ -3,3 +3,4 @@ pub mod StepLemmas
 pub mod OneLemmas
 pub mod LastLemmas
 pub mod FoundLemmas
+pub mod NamedLemmas

@@ -54,12 +54,13 @@ fn next_cookie<'w>(pairs: &mut Cookies<'w>, name: Option<&[u8]>) -> Option<&'w [
     ensures none { IfNone result (values_under (option_copied name.entry) pairs.old ≡ []) }
     ensures left { IfNone result (pairs.new ≡ []) }
 {
-    while let Some((found, value)) = pairs.next() {
-        if is_pair_name(found, name) {
-            return Some(value);
+    match name {
+        Some(name) => pairs.next_named(name),
+        None => {
+            let (_, value) = pairs.next()?;
+            Some(value)
         }
     }
-    None
 }
 
 fn next_param<'w>(pairs: &mut Params<'w>, name: Option<&[u8]>) -> Option<&'w [u8]>
