@@ -10,3 +10,4 @@ pub mod RuleLemmas
 pub mod RewritingLemmas
 pub mod LawLemmas
 pub mod DecidingLemmas
+pub mod JudgedLemmas

@@ -158,7 +158,7 @@ if_leaves : {S : Type 0} (state : State S) (taken : Bool) (effect : Effect S) �
 if_leaves state true effect leaves = leaves
 if_leaves state false effect leaves = tt
 
-rule_leaves : {S : Type 0} (view : TableView S) (conn : Conn) (acls : Acls) (rule : Rule) (state : State S) → Leaves state (rule_effect view conn acls rule state)
+pub rule_leaves : {S : Type 0} (view : TableView S) (conn : Conn) (acls : Acls) (rule : Rule) (state : State S) → Leaves state (rule_effect view conn acls rule state)
 rule_leaves view conn acls rule state =
     if_leaves state (is_taken_in view conn acls state rule.unless rule.cond) (action_effect view conn rule.action state) (action_leaves view conn rule.action state)
 

@@ -11,6 +11,7 @@ pub mod Deciding
 pub mod Tables
 pub mod Failures
 pub mod Reached
+pub mod Judged
 -- views of the code, for the contracts of private functions
 pub mod ProgramView
 pub mod RedirectView

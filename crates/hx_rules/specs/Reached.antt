@@ -1,5 +1,5 @@
 -- Rules that are reached, and rewrites that are refused there.
-use Rattle.std.specs.Prelude.{◌≡◌, Bool, List, ◌∷◌, ◌++◌, is_some}
+use Rattle.std.specs.Prelude.{◌≡◌, ℕ, Bool, List, ◌∷◌, ◌++◌, length, is_some}
 use Rattle.hx_ast.specs.declared.action.Action.{Action}
 use Rattle.hx_ast.specs.declared.statement.Rule.{Rule}
 use Rattle.hx_fetch.specs.declared.world.Conn.{Conn}
@@ -15,6 +15,14 @@ pub record IsReached {S : Type 0} (view : TableView S) (conn : Conn) (program : 
     (origin state : State S) (before : List Rule) (rule : Rule) (after : List Rule) : Type 0 where
   pub rules : program.rules ≡ before ++ rule ∷ after
   pub effect : rules_effect view conn program.acls before origin ≡ Goes state
+
+-- the rule of `http-request` at a position, counted from 0, is reached in a state
+pub record IsReachedAt {S : Type 0} (view : TableView S) (conn : Conn) (program : Rules)
+    (origin : State S) (position : ℕ) (rule : Rule) (state : State S) : Type 0 where
+  pub before : List Rule
+  pub after : List Rule
+  pub reached : IsReached view conn program origin state before rule after
+  pub count : position ≡ length before
 
 -- the program with these rules of `http-request`, and all else as it is
 abbrev pub with_rules : List Rule → Rules → Rules

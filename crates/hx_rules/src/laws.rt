@@ -1,5 +1,5 @@
 //! Laws: what the definitions of rules imply.
-ghost use Rattle.std.specs.Prelude.{◌≡◌, ◌∷◌, ◌++◌, [], Bool, List, Some, false, true, filter, not};
+ghost use Rattle.std.specs.Prelude.{◌≡◌, ◌∷◌, ◌++◌, [], Bool, List, Some, false, true, filter, not, ℕ};
 ghost use Rattle.hx_acl.specs.Holds.{Acls};
 ghost use Rattle.hx_ast.specs.declared.action.Action.{Action};
 ghost use Rattle.hx_ast.specs.declared.action.Action.TheVariants as action;
@@ -9,22 +9,25 @@ ghost use Rattle.hx_ast.specs.declared.statement.Term.{Term};
 ghost use Rattle.hx_fetch.specs.declared.world.Conn.{Conn};
 ghost use Rattle.hx_http.specs.Edits.{has_name, with_only_header};
 ghost use Rattle.hx_http.specs.Parts.{Parts};
+ghost use Rattle.hx_rules.specs.declared.deciding.Deciding.{Deciding};
+ghost use Rattle.hx_rules.specs.declared.deciding.Deciding.TheVariants as by;
 ghost use Rattle.hx_rules.specs.declared.verdict.Verdict.{Verdict};
 ghost use Rattle.hx_rules.specs.declared.verdict.Verdict.TheVariants as verdict;
 ghost use Rattle.hx_rules.specs.Deciding.{condition_of, deciding_of};
 ghost use Rattle.hx_rules.specs.Failures.{is_taken_in};
 ghost use Rattle.hx_rules.specs.Formats.{text_in};
+ghost use Rattle.hx_rules.specs.Judged.{IsJudgedIn};
 ghost use Rattle.hx_rules.specs.Programs.{Rules};
-ghost use Rattle.hx_rules.specs.Reached.{IsReached, is_refused, with_rules};
+ghost use Rattle.hx_rules.specs.Reached.{IsReached, IsReachedAt, is_refused, with_rules};
 ghost use Rattle.hx_rules.specs.Rewriting.{is_rewrite};
 ghost use Rattle.hx_rules.specs.State.{State, TableView};
 ghost use Rattle.hx_rules.specs.Verdicts.{action_effect, evaluation, rules_effect, Ends, Goes};
 
 use hx_sample::Tables;
 
-/// A rule of `http-request` whose condition doesn't hold, or with `unless` does, leaves the message,
-/// the variables, the tables and the mode as they are. Where it is reached, the verdict of the
-/// request and what stands after it are those of the program without this rule.
+/// A rule of `http-request` whose condition doesn't hold, or with `unless` does, leaves the
+/// message, the variables, the tables and the mode as they are. Where it is reached, the verdict of
+/// the request and what stands after it are those of the program without this rule.
 pub fn rule_not_taken_changes_nothing<T: Tables>()
     ensures state { (view : TableView T.State) (conn : Conn) (acls : Acls) (rule : Rule)
         (state : State T.State) → is_taken_in view conn acls state rule.unless rule.cond ≡ false
@@ -62,9 +65,9 @@ pub fn refused_rewrite_is_an_error_in_strict_mode<T: Tables>()
         × (given ≡ verdict.Error) × (last ≡ state) }
 {}
 
-/// After a `set-header` that is taken and isn't refused, exactly one header line has the name, whose
-/// case doesn't count, and its value is the text of the format. All else of the request stays, the
-/// other lines in their order.
+/// After a `set-header` that is taken and isn't refused, exactly one header line has the name,
+/// whose case doesn't count, and its value is the text of the format. All else of the request
+/// stays, the other lines in their order.
 pub fn set_header_leaves_one_line<T: Tables>(name: &[u8], value: &[u8])
     ensures effect { (view : TableView T.State) (conn : Conn) (acls : Acls) (rule : Rule)
         (format : List Part) (state : State T.State)
@@ -83,12 +86,29 @@ pub fn set_header_leaves_one_line<T: Tables>(name: &[u8], value: &[u8])
         ≡ filter (λ line. not (has_name name.now line)) head.headers }
 {}
 
-/// The statement that decides changes nothing more: where it has a condition, the statement is
-/// taken, by this condition, also in the state that stands after the request.
-pub fn what_decides_is_taken_at_the_end<T: Tables>()
-    ensures { (view : TableView T.State) (conn : Conn) (program : Rules) (origin : State T.State)
+/// The statement that decides is judged, while the request is evaluated, in the state that stands
+/// after the request. No other statement decides, and this one is judged in no other state; where
+/// it is a rule of `http-request`, it is reached in no other. Where it has a condition, it is taken
+/// by this condition there.
+pub fn what_decides_is_judged_at_the_end<T: Tables>()
+    ensures always { (view : TableView T.State) (conn : Conn) (program : Rules)
+        (origin : State T.State)
+        → IsJudgedIn view conn program origin (deciding_of view conn program origin)
+        (evaluation view conn program origin).state }
+    ensures only { (view : TableView T.State) (conn : Conn) (program : Rules)
+        (origin : State T.State) (statement : Deciding) (state : State T.State)
+        → IsJudgedIn view conn program origin statement state
+        → (statement ≡ deciding_of view conn program origin)
+        × (state ≡ (evaluation view conn program origin).state) }
+    ensures rule { (view : TableView T.State) (conn : Conn) (program : Rules)
+        (origin : State T.State) (position : ℕ) (rule : Rule) (state : State T.State)
+        → deciding_of view conn program origin ≡ by.Rule position
+        → IsReachedAt view conn program origin position rule state
+        → state ≡ (evaluation view conn program origin).state }
+    ensures condition { (view : TableView T.State) (conn : Conn) (program : Rules)
+        (origin : State T.State) (statement : Deciding) (state : State T.State)
         (unless : Bool) (cond : List (List Term))
-        → condition_of program (deciding_of view conn program origin) ≡ Some (unless, cond)
-        → is_taken_in view conn program.acls (evaluation view conn program origin).state unless
-        (Some cond) ≡ true }
+        → IsJudgedIn view conn program origin statement state
+        → condition_of program statement ≡ Some (unless, cond)
+        → is_taken_in view conn program.acls state unless (Some cond) ≡ true }
 {}

@@ -1,9 +1,10 @@
 //! The rules of a frontend: how they are built from statements, and what they make of a request.
 //!
 //! `specs/Verdicts.antt` says what rules make of a request, as the function `evaluation`,
-//! `specs/Deciding.antt` which statement decides it, as the function `deciding_of`, and
-//! `specs/Rewrites.antt`, `specs/Locations.antt` and `specs/Formats.antt` what rewrites, redirects
-//! and formats make of its head.
+//! `specs/Deciding.antt` which statement decides it, as the function `deciding_of`,
+//! `specs/Judged.antt` in which state that statement is judged, and `specs/Rewrites.antt`,
+//! `specs/Locations.antt` and `specs/Formats.antt` what rewrites, redirects and formats make of its
+//! head.
 //!
 //! ```
 //! let mut program = Program::new(alloc);
