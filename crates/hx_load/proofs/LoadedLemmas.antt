@@ -24,7 +24,7 @@ use Rattle.hx_filling.proofs.NumberLemmas.{given_distinct}
 use Rattle.hx_load.specs.Configuration.{GiveStatements, IsFirstRefused, LinesGive, lines_of, statements_from}
 use Rattle.hx_load.specs.LineReading.{IsReadAs}
 use Rattle.hx_load.specs.LoadResult.{LoadJudgesLast, LoadReadsLast, LoadsHeld}
-use Rattle.hx_load.specs.Loads.{GivesProgram, GivesReferences, Judges, LineReads, Loading, Loads, declared, loaded, loading_filled, loading_named, loading_numbered, loading_of}
+use Rattle.hx_load.specs.Loads.{GivesProgram, GivesReferences, Judges, LineReads, LinesBring, Loading, Loads, declared, loaded, loading_filled, loading_named, loading_numbered, loading_of}
 use Rattle.hx_load.specs.Loads as loading
 use Rattle.hx_load.proofs.LoadingLemmas.{first_refused_is, given_are, lines_give}
 
@@ -292,6 +292,16 @@ pub same_declared : (env : Env) (limits : Limits) (config : List ℕ) (known : K
 same_declared env limits config known program specs refs d P p =
     subst (λ (s : ReferenceSpecs). P s.specs (declared_references limits s.specs s.heads)) d.brings.specs_are
     (subst (P specs.specs) d.refs_are p)
+
+-- what the lines bring
+pub lines_bring : (env : Env) (limits : Limits) (config : List ℕ) (known : Known) (program : Rules) (specs : ReferenceSpecs) (refs : References)
+    → Declares env limits config known program specs refs → LinesBring env limits config program refs
+lines_bring env limits config known program specs refs d = (
+  reading_of env config known program d.brings.lines,
+  gives_references env limits config known program specs refs d,
+  d.brings.lines.is,
+  d.refs_are ∙ ap (λ (s : ReferenceSpecs). declared_references limits s.specs s.heads) d.brings.specs_are,
+)
 
 -- the file that wasn't read is one to which the configuration comes
 pub fill_reads : (held : Option NamedBytes) (env : Env) (limits : Limits) (config : List ℕ) (known : Known) (program : Rules) (specs : ReferenceSpecs)

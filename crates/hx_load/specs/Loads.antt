@@ -123,6 +123,14 @@ GivesProgram env limits files config program references =
     × AreFilled files 0 (table_specs read.known) (declared limits read.known) references
     × (program ≡ with_statements read.value no_rules)
 
+-- What the lines of a configuration bring, whatever its files hold: they give statements, which
+-- make the program, and these are the references that they bring, before they have entries.
+abbrev pub LinesBring : Env → Limits → List ℕ → Rules → References → Type 0
+LinesBring env limits config program references =
+    (read : Reading (List Statement)) × GivesReferences env config read
+    × (program ≡ with_statements read.value no_rules)
+    × (references ≡ declared limits read.known)
+
 -- What a configuration loads as. It is refused at the first line with a fault; else where a number
 -- is given twice; else where a rule changes a file that is named nowhere else; else at the first
 -- entry with a fault, or says nothing where a file is missing before that.
