@@ -1,5 +1,5 @@
 -- The references of a configuration that is accepted begin at version 0.
-use Rattle.std.proofs.Common.{◌≡◌, ◌≢◌, ℕ, zero, suc, ◌+◌, Bool, true, false, List, [], ◌∷◌, ◌++◌, ◌<◌, ◌^◌, drop, length, refl, ap, sym, subst, ◌∙◌, if◌then◌else◌, arith, length-set}
+use Rattle.std.proofs.Common.{◌≡◌, ◌≢◌, ℕ, zero, suc, ◌+◌, Bool, true, false, List, [], ◌∷◌, ◌++◌, ◌<◌, ◌^◌, drop, length, refl, ap, subst, ◌∙◌, if◌then◌else◌, arith, length-set}
 use Rattle.std.specs.Bool.{⊤}
 use Rattle.std.specs.Prelude.{Option, None, Some, IfSome, slice_get, slice_set, unwrap_or}
 use Rattle.std.specs.Option.{option_map_or}

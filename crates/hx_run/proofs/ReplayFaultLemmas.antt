@@ -3,13 +3,14 @@ use Rattle.std.proofs.Common.{◌≡◌, ℕ, [], ◌++◌, List, Option, option
 use Rattle.hx_core.specs.World.{World}
 use Rattle.hx_replay.specs.Gathering.{IsOfRecord, Replays, WritesOutcome, replay_end}
 use Rattle.hx_replay.specs.Outcome.{Outcome, ReplayEnd, with_end}
-use Rattle.hx_replay.specs.Program.{engine_behavior, initial_world, Program}
+use Rattle.hx_replay.specs.Program.{initial_world, Program}
 use Rattle.hx_replay.specs.declared.replay_fault.ReplayFault.{ReplayFault}
 use Rattle.hx_replay.specs.declared.replay_fault.ReplayFault.TheVariants as replay
 use Rattle.hx_replay.proofs.OutcomeLemmas.{answers_with_end}
 use Rattle.hx_run.specs.Outcome.{run_end}
-use Rattle.hx_run.specs.Run.{accepted_outcome}
+use Rattle.hx_run.specs.Run.{accepted_outcome, behavior_of}
 use Rattle.hx_run.specs.RunFault.{IsReplayFault, result_end, run_result}
+use Rattle.hx_run.specs.declared.command.Detail.{Detail}
 use Rattle.hx_run.specs.declared.command.Task.TheVariants as task
 use Rattle.hx_run.specs.declared.run_fault.RunFault.TheVariants as run
 
@@ -22,10 +23,10 @@ ended last (Err replay.TooLarge) = refl
 ended last (Err replay.NoMemory) = refl
 
 -- the outcome of a replay is one of the run
-pub run_writes : (program : Program) (last : World) (left old new : Option (List ℕ)) (replayed : Result (Unit {0}) ReplayFault)
-    → Replays engine_behavior (initial_world program) last left old new [] replayed
-    → WritesOutcome (IsOfRecord (accepted_outcome task.Replay program) left) old new [] (result_end (run_result replayed))
-run_writes program last left old new replayed r = record {
+pub run_writes : (detail : Detail) (program : Program) (last : World) (left old new : Option (List ℕ)) (replayed : Result (Unit {0}) ReplayFault)
+    → Replays (behavior_of detail) (initial_world program) last left old new [] replayed
+    → WritesOutcome (IsOfRecord (accepted_outcome (task.Replay detail) program) left) old new [] (result_end (run_result replayed))
+run_writes detail program last left old new replayed r = record {
   outcome = with_end run_end r.outcome;
   is_such = record {
     bytes = r.is_such.bytes;

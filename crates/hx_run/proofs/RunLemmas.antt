@@ -19,7 +19,7 @@ use Rattle.hx_rules.specs.Tables.{HasHeads, HasLists}
 use Rattle.hx_replay.specs.Records.{IsRecord}
 use Rattle.hx_replay.specs.Gathering.{IsOfRecord, WritesOutcome}
 use Rattle.hx_replay.specs.Outcome.{ends_with}
-use Rattle.hx_replay.specs.Program.{engine_behavior, initial_world, Program, usual_limits}
+use Rattle.hx_replay.specs.Program.{initial_world, Program, usual_limits}
 use Rattle.hx_replay.specs.Replay.{BeginsWithDecided, ReplayAsksLast, WritesBeforeReading, WritesDecided, decided_outcome}
 use Rattle.hx_replay.proofs.LogLemmas.{before_map, before_none}
 use Rattle.hx_replay.proofs.WrittenLemmas.{begins_more}
@@ -28,8 +28,9 @@ use Rattle.hx_load.specs.LoadResult.{LoadJudgesLast, LoadReadsLast, LoadsHeld}
 use Rattle.hx_load.specs.Loads.{Loading, Loads, ReadsFile, loaded}
 use Rattle.hx_load.specs.Loads as loading
 use Rattle.hx_load.specs.References.{HasFiles}
-use Rattle.hx_run.specs.Run.{Setting, Accepts, AcceptsSome, AnswersBeforeReading, RunAsksLast, RunJudgesLast, RunReads, SourceFails, accepted_outcome, check_line, outcome_of}
+use Rattle.hx_run.specs.Run.{behavior_of, Setting, Accepts, AcceptsSome, AnswersBeforeReading, RunAsksLast, RunJudgesLast, RunReads, SourceFails, accepted_outcome, check_line, outcome_of}
 use Rattle.hx_run.specs.RunFault.{Attempted, Finishes, IsReplayFault, fault_end, result_end, fault_of_file, load_fault, sink_fault}
+use Rattle.hx_run.specs.declared.command.Detail.{Detail}
 use Rattle.hx_run.specs.declared.command.Task.{Task}
 use Rattle.hx_run.specs.declared.command.Task.TheVariants as task
 use Rattle.hx_load.specs.declared.LoadFault.{LoadFault}
@@ -171,10 +172,10 @@ unfolding outcome_of
 accepted_is s items rules refs bytes asked same l =
     let is : loaded s.env usual_limits l.files items ≡ loading.Accepted rules refs.content = l.is in rw (is, same) refl
 
-replayed_here : (s : Setting) (items : List ℕ) (rules : Rules) (refs : RefsState) (old new : Option (List ℕ)) (r : Result (Unit {0}) RunFault)
-    → s.task ≡ task.Replay → IsConfig s.held s.name (Some items) → LoadsHeld s.held s.env usual_limits items (Ok (rules, refs))
-    → WritesOutcome (IsOfRecord (accepted_outcome task.Replay (program_of rules refs.content)) s.left) old new [] (result_end r) → Attempted s old new r
-replayed_here s items rules refs old new r asked config l replays = record {
+replayed_here : (detail : Detail) (s : Setting) (items : List ℕ) (rules : Rules) (refs : RefsState) (old new : Option (List ℕ)) (r : Result (Unit {0}) RunFault)
+    → s.task ≡ (task.Replay detail) → IsConfig s.held s.name (Some items) → LoadsHeld s.held s.env usual_limits items (Ok (rules, refs))
+    → WritesOutcome (IsOfRecord (accepted_outcome (task.Replay detail) (program_of rules refs.content)) s.left) old new [] (result_end r) → Attempted s old new r
+replayed_here detail s items rules refs old new r asked config l replays = record {
   outcome = replays.outcome;
   is_such = record {
     config = Some items;
@@ -182,7 +183,7 @@ replayed_here s items rules refs old new r asked config l replays = record {
     bytes = replays.is_such.bytes;
     of_files = holds s.held s.name l.files (Some items) l.of_files config;
     of_source = replays.is_such.of_source;
-    is = replays.is_such.is ∙ accepted_is s items rules refs replays.is_such.bytes task.Replay asked l;
+    is = replays.is_such.is ∙ accepted_is s items rules refs replays.is_such.bytes (task.Replay detail) asked l;
   };
   wrote = replays.wrote;
   appended = replays.appended;
@@ -190,12 +191,12 @@ replayed_here s items rules refs old new r asked config l replays = record {
 }
 
 -- a record that was replayed
-pub replayed_run : (s : Setting) (now : Option NamedBytes) (limits : Limits) (items text : List ℕ) (rules : Rules) (refs : RefsState) (old new : Option (List ℕ)) (r : Result (Unit {0}) RunFault)
-    → s.task ≡ task.Replay
+pub replayed_run : (detail : Detail) (s : Setting) (now : Option NamedBytes) (limits : Limits) (items text : List ℕ) (rules : Rules) (refs : RefsState) (old new : Option (List ℕ)) (r : Result (Unit {0}) RunFault)
+    → s.task ≡ (task.Replay detail)
     → ReadsConfig s now limits items text → LoadsHeld now s.env limits text (Ok (rules, refs))
-    → WritesOutcome (IsOfRecord (accepted_outcome task.Replay (program_of rules refs.content)) s.left) old new [] (result_end r) → Attempted s old new r
-replayed_run s now limits items text rules refs old new r asked read l replays =
-    replayed_here s items rules refs old new r asked read.config
+    → WritesOutcome (IsOfRecord (accepted_outcome (task.Replay detail) (program_of rules refs.content)) s.left) old new [] (result_end r) → Attempted s old new r
+replayed_run detail s now limits items text rules refs old new r asked read l replays =
+    replayed_here detail s items rules refs old new r asked read.config
     (here s now limits items text read (λ (h : Option NamedBytes) (m : Limits) (t : List ℕ). LoadsHeld h s.env m t (Ok (rules, refs))) l) replays
 
 checked_here : (s : Setting) (items : List ℕ) (rules : Rules) (refs : RefsState) (old new : Option (List ℕ))
@@ -256,60 +257,60 @@ unchecked_run s now limits items text rules refs old new fault asked read l part
     unchecked_here s items rules refs old new fault asked read.config
     (here s now limits items text read (λ (h : Option NamedBytes) (m : Limits) (t : List ℕ). LoadsHeld h s.env m t (Ok (rules, refs))) l) part
 
-source_fails_here : (s : Setting) (items : List ℕ) (rules : Rules) (refs : RefsState) (left' old new : Option (List ℕ))
-    → s.task ≡ task.Replay → IsConfig s.held s.name (Some items) → LoadsHeld s.held s.env usual_limits items (Ok (rules, refs))
-    → WritesDecided engine_behavior (initial_world (program_of rules refs.content)) s.left left' old new → SourceFails s left' old new
-source_fails_here s items rules refs left' old new asked config l written =
-    (asked, record { program = program_of rules refs.content; accepted = loaded_accepts s items rules refs config l; is = written })
+source_fails_here : (detail : Detail) (s : Setting) (items : List ℕ) (rules : Rules) (refs : RefsState) (left' old new : Option (List ℕ))
+    → s.task ≡ (task.Replay detail) → IsConfig s.held s.name (Some items) → LoadsHeld s.held s.env usual_limits items (Ok (rules, refs))
+    → WritesDecided (behavior_of detail) (initial_world (program_of rules refs.content)) s.left left' old new → SourceFails s left' old new
+source_fails_here detail s items rules refs left' old new asked config l written =
+    (detail, asked, record { program = program_of rules refs.content; accepted = loaded_accepts s items rules refs config l; is = written })
 
 -- a replay that the source ended
-pub source_fails : (s : Setting) (now : Option NamedBytes) (limits : Limits) (items text : List ℕ) (rules : Rules) (refs : RefsState) (left' old new : Option (List ℕ))
-    → s.task ≡ task.Replay
+pub source_fails : (detail : Detail) (s : Setting) (now : Option NamedBytes) (limits : Limits) (items text : List ℕ) (rules : Rules) (refs : RefsState) (left' old new : Option (List ℕ))
+    → s.task ≡ (task.Replay detail)
     → ReadsConfig s now limits items text → LoadsHeld now s.env limits text (Ok (rules, refs))
-    → WritesDecided engine_behavior (initial_world (program_of rules refs.content)) s.left left' old new → SourceFails s left' old new
-source_fails s now limits items text rules refs left' old new asked read l written =
-    source_fails_here s items rules refs left' old new asked read.config
+    → WritesDecided (behavior_of detail) (initial_world (program_of rules refs.content)) s.left left' old new → SourceFails s left' old new
+source_fails detail s now limits items text rules refs left' old new asked read l written =
+    source_fails_here detail s items rules refs left' old new asked read.config
     (here s now limits items text read (λ (h : Option NamedBytes) (m : Limits) (t : List ℕ). LoadsHeld h s.env m t (Ok (rules, refs))) l) written
 
-asks_here : (s : Setting) (items : List ℕ) (rules : Rules) (refs : RefsState) (large : Option ExpressionText)
-    → s.task ≡ task.Replay → IsConfig s.held s.name (Some items) → LoadsHeld s.held s.env usual_limits items (Ok (rules, refs))
-    → ReplayAsksLast engine_behavior EventAsksFor (initial_world (program_of rules refs.content)) s.left large → RunAsksLast s large
-asks_here s items rules refs large asked config l asks =
-    (asked, record { program = program_of rules refs.content; accepted = loaded_accepts s items rules refs config l; is = asks })
+asks_here : (detail : Detail) (s : Setting) (items : List ℕ) (rules : Rules) (refs : RefsState) (large : Option ExpressionText)
+    → s.task ≡ (task.Replay detail) → IsConfig s.held s.name (Some items) → LoadsHeld s.held s.env usual_limits items (Ok (rules, refs))
+    → ReplayAsksLast (behavior_of detail) EventAsksFor (initial_world (program_of rules refs.content)) s.left large → RunAsksLast s large
+asks_here detail s items rules refs large asked config l asks =
+    (detail, asked, record { program = program_of rules refs.content; accepted = loaded_accepts s items rules refs config l; is = asks })
 
 -- a text for which an event asks
-pub run_asks : (s : Setting) (now : Option NamedBytes) (limits : Limits) (items text : List ℕ) (rules : Rules) (refs : RefsState) (large : Option ExpressionText)
-    → s.task ≡ task.Replay
+pub run_asks : (detail : Detail) (s : Setting) (now : Option NamedBytes) (limits : Limits) (items text : List ℕ) (rules : Rules) (refs : RefsState) (large : Option ExpressionText)
+    → s.task ≡ (task.Replay detail)
     → ReadsConfig s now limits items text → LoadsHeld now s.env limits text (Ok (rules, refs))
-    → ReplayAsksLast engine_behavior EventAsksFor (initial_world (program_of rules refs.content)) s.left large → RunAsksLast s large
-run_asks s now limits items text rules refs large asked read l asks =
-    asks_here s items rules refs large asked read.config
+    → ReplayAsksLast (behavior_of detail) EventAsksFor (initial_world (program_of rules refs.content)) s.left large → RunAsksLast s large
+run_asks detail s now limits items text rules refs large asked read l asks =
+    asks_here detail s items rules refs large asked read.config
     (here s now limits items text read (λ (h : Option NamedBytes) (m : Limits) (t : List ℕ). LoadsHeld h s.env m t (Ok (rules, refs))) l) asks
 
 -- ---- what is written before more of the record is read
 
 -- this was written of what the bytes decide that reads gave, under the configuration of a setting
 abbrev Answered : Setting → (old new : Option (List ℕ)) → List ℕ → Type 0
-Answered s old new bytes = (s.task ≡ task.Replay) × AcceptsSome s (λ program. BeginsWithDecided engine_behavior (initial_world program) bytes old new)
+Answered s old new bytes = (detail : Detail) × (s.task ≡ task.Replay detail) × AcceptsSome s (λ program. BeginsWithDecided (behavior_of detail) (initial_world program) bytes old new)
 
 -- the record wasn't read
 pub nothing_read : (s : Setting) (log : Option Log) (old new : Option (List ℕ)) → AnswersBeforeReading s log log old new
 nothing_read s log old new = before_none log (Answered s old new)
 
-before_here : (s : Setting) (items : List ℕ) (rules : Rules) (refs : RefsState) (log log' : Option Log) (old new : Option (List ℕ))
-    → s.task ≡ task.Replay → IsConfig s.held s.name (Some items) → LoadsHeld s.held s.env usual_limits items (Ok (rules, refs))
-    → WritesBeforeReading engine_behavior (initial_world (program_of rules refs.content)) log log' old new → AnswersBeforeReading s log log' old new
-before_here s items rules refs log log' old new asked config l written =
-    before_map log log' (λ bytes. BeginsWithDecided engine_behavior (initial_world (program_of rules refs.content)) bytes old new) (Answered s old new) written
-    (λ bytes begins. (asked, record { program = program_of rules refs.content; accepted = loaded_accepts s items rules refs config l; is = begins }))
+before_here : (detail : Detail) (s : Setting) (items : List ℕ) (rules : Rules) (refs : RefsState) (log log' : Option Log) (old new : Option (List ℕ))
+    → s.task ≡ (task.Replay detail) → IsConfig s.held s.name (Some items) → LoadsHeld s.held s.env usual_limits items (Ok (rules, refs))
+    → WritesBeforeReading (behavior_of detail) (initial_world (program_of rules refs.content)) log log' old new → AnswersBeforeReading s log log' old new
+before_here detail s items rules refs log log' old new asked config l written =
+    before_map log log' (λ bytes. BeginsWithDecided (behavior_of detail) (initial_world (program_of rules refs.content)) bytes old new) (Answered s old new) written
+    (λ bytes begins. (detail, asked, record { program = program_of rules refs.content; accepted = loaded_accepts s items rules refs config l; is = begins }))
 
 -- a record that was replayed
-pub answers_before : (s : Setting) (now : Option NamedBytes) (limits : Limits) (items text : List ℕ) (rules : Rules) (refs : RefsState) (log log' : Option Log)
-    (old new : Option (List ℕ)) → s.task ≡ task.Replay
+pub answers_before : (detail : Detail) (s : Setting) (now : Option NamedBytes) (limits : Limits) (items text : List ℕ) (rules : Rules) (refs : RefsState) (log log' : Option Log)
+    (old new : Option (List ℕ)) → s.task ≡ (task.Replay detail)
     → ReadsConfig s now limits items text → LoadsHeld now s.env limits text (Ok (rules, refs))
-    → WritesBeforeReading engine_behavior (initial_world (program_of rules refs.content)) log log' old new → AnswersBeforeReading s log log' old new
-answers_before s now limits items text rules refs log log' old new asked read l written =
-    before_here s items rules refs log log' old new asked read.config
+    → WritesBeforeReading (behavior_of detail) (initial_world (program_of rules refs.content)) log log' old new → AnswersBeforeReading s log log' old new
+answers_before detail s now limits items text rules refs log log' old new asked read l written =
+    before_here detail s items rules refs log log' old new asked read.config
     (here s now limits items text read (λ (h : Option NamedBytes) (m : Limits) (t : List ℕ). LoadsHeld h s.env m t (Ok (rules, refs))) l) written
 
 before_moved : (s : Setting) (log log' : Option Log) (old mid new : Option (List ℕ)) (more : List ℕ) → AnswersBeforeReading s log log' old mid
@@ -317,10 +318,11 @@ before_moved : (s : Setting) (log log' : Option Log) (old mid new : Option (List
 before_moved s log log' old mid new more so_far appended =
     before_map log log' (Answered s old mid) (Answered s old new) so_far (λ bytes answered. (
       answered.0,
+      answered.1,
       record {
-        program = answered.1.program;
-        accepted = answered.1.accepted;
-        is = begins_more engine_behavior (initial_world answered.1.program) bytes old mid new more answered.1.is appended;
+        program = answered.2.program;
+        accepted = answered.2.accepted;
+        is = begins_more (behavior_of answered.0) (initial_world answered.2.program) bytes old mid new more answered.2.is appended;
       },
     ))
 
@@ -409,7 +411,8 @@ load_large load.NoMemory is = cc
 
 -- it stays so where nothing more is written
 pub source_moved : (s : Setting) (left' old mid new : Option (List ℕ)) → SourceFails s left' old mid → Appends mid new [] → SourceFails s left' old new
-source_moved s left' old mid new (asked, a) nothing = (
+source_moved s left' old mid new (detail, asked, a) nothing = (
+  detail,
   asked,
   record {
     program = a.program;
@@ -418,8 +421,8 @@ source_moved s left' old mid new (asked, a) nothing = (
       took = a.is.took;
       consumed = a.is.consumed;
       going_on = a.is.going_on;
-      written = rw (append-nil (decided_outcome engine_behavior (initial_world a.program) a.is.took).answers) at
-          (Appends-trans old mid new (decided_outcome engine_behavior (initial_world a.program) a.is.took).answers [] a.is.written nothing);
+      written = rw (append-nil (decided_outcome (behavior_of detail) (initial_world a.program) a.is.took).answers) at
+          (Appends-trans old mid new (decided_outcome (behavior_of detail) (initial_world a.program) a.is.took).answers [] a.is.written nothing);
     };
   },
 )

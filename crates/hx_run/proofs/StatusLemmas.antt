@@ -7,7 +7,7 @@ use Rattle.hx_outside.specs.Count.{Rose}
 use Rattle.hx_record.specs.Record.{record_items}
 use Rattle.hx_replay.specs.Behavior.{answers_to}
 use Rattle.hx_replay.specs.Outcome.{Outcome, RecordEnd, RefusedAt, ReplayEnd, ends_with}
-use Rattle.hx_replay.specs.Program.{engine_behavior, initial_world, Program, usual_limits}
+use Rattle.hx_replay.specs.Program.{initial_world, Program, usual_limits}
 use Rattle.hx_replay.specs.Records.{record_limit}
 use Rattle.hx_replay.specs.Replay.{record_outcome}
 use Rattle.hx_replay.proofs.CompletedLemmas.{completes}
@@ -15,7 +15,9 @@ use Rattle.hx_replay.proofs.OutcomeLemmas.{prefix_of}
 use Rattle.hx_run.specs.Outcome.{End, Completed, ConfigRefused, RecordRefused, run_end, status_of, last_line, text_of}
 use Rattle.hx_load.specs.Loads.{Loading, Loads, loaded}
 use Rattle.hx_load.specs.Loads as loading
-use Rattle.hx_run.specs.Run.{Setting, Accepts, Checked, HasOutcome, HasStatus, Ran, Headline, check_line, outcome_under, outcome_of}
+use Rattle.hx_run.specs.Run.{Setting, Accepts, Checked, HasOutcome, HasStatus, Ran, Replayed, behavior_of, check_line, outcome_under, outcome_of}
+use Rattle.hx_run.specs.declared.command.Detail.{Detail}
+use Rattle.hx_run.specs.declared.command.Detail.TheVariants as kind
 use Rattle.hx_run.specs.declared.command.Task.{Task}
 use Rattle.hx_run.specs.declared.command.Task.TheVariants as task
 use Rattle.hx_run.specs.RunFault.{Attempted, Finishes, fault_end, fault_status}
@@ -39,19 +41,19 @@ at_record_end (Some (RecordEnd last)) is = (last, refl)
 at_record_end (Some (RefusedAt offset code)) is = absurd (completed (Some (RecordRefused offset code)) is)
 
 -- a configuration and a record that complete a run
-record CompletesRun (loaded : Loading) (bytes : List ℕ) : Type 0 where
+record CompletesRun (detail : Detail) (loaded : Loading) (bytes : List ℕ) : Type 0 where
   program : Program
   is : loaded ≡ loading.Accepted program.rules program.references
   last : World
-  end : (record_outcome engine_behavior (initial_world program) bytes).end ≡ Some (RecordEnd last)
-  answers : (outcome_under task.Replay loaded bytes).answers ≡ (record_outcome engine_behavior (initial_world program) bytes).answers
+  end : (record_outcome (behavior_of detail) (initial_world program) bytes).end ≡ Some (RecordEnd last)
+  answers : (outcome_under (task.Replay detail) loaded bytes).answers ≡ (record_outcome (behavior_of detail) (initial_world program) bytes).answers
 
-completes_run : (loaded : Loading) (bytes : List ℕ) → (outcome_under task.Replay loaded bytes).end ≡ Some Completed → CompletesRun loaded bytes
-completes_run (loading.Refused refusal) bytes is = absurd (completed (Some (ConfigRefused refusal.line refusal.code)) is)
-completes_run (loading.Missing name) bytes is = absurd (completed None is)
-completes_run (loading.Accepted rules refs) bytes is =
+completes_run : (detail : Detail) (loaded : Loading) (bytes : List ℕ) → (outcome_under (task.Replay detail) loaded bytes).end ≡ Some Completed → CompletesRun detail loaded bytes
+completes_run detail (loading.Refused refusal) bytes is = absurd (completed (Some (ConfigRefused refusal.line refusal.code)) is)
+completes_run detail (loading.Missing name) bytes is = absurd (completed None is)
+completes_run detail (loading.Accepted rules refs) bytes is =
     let program = program_of rules refs in
-    let (last, end) = at_record_end (record_outcome engine_behavior (initial_world program) bytes).end is in
+    let (last, end) = at_record_end (record_outcome (behavior_of detail) (initial_world program) bytes).end is in
     record { program = program; is = refl; last = last; end = end; answers = refl }
 
 -- a configuration that completes a check
@@ -86,16 +88,22 @@ accepts s outcome config program o config_is is = record {
   is = subst (λ (l : Loading). Loads s.env usual_limits o.files config l) is (loads s.env usual_limits o.files config);
 }
 
-headline_of : (s : Setting) (old new : Option (List ℕ)) (wrote : List ℕ) (outcome : Outcome End) (config : Option (List ℕ)) (o : HasOutcome s outcome)
-    → s.task ≡ task.Replay → o.config ≡ config → Appends old new wrote → outcome.end ≡ Some Completed → outcome.answers ≡ wrote → Headline s old new
-headline_of s old new wrote outcome None o asked config appended end answers = absurd (no_config_left s outcome o config end)
-headline_of s old new wrote outcome (Some config) o asked is appended end answers =
-    let here = outcome_by s outcome config task.Replay o asked is in
-    let a = completes_run (loaded s.env usual_limits o.files config) o.bytes (sym (ap (λ (o : Outcome End). o.end) here) ∙ end) in
-    let c = completes engine_behavior (initial_world a.program) (record_items o.bytes record_limit) a.last a.end in
-    let all : wrote ≡ answers_to engine_behavior (initial_world a.program) c.events =
+-- nothing is written at a record's end
+no_ending : (detail : Detail) (world : World) → (behavior_of detail).ending world ≡ []
+no_ending kind.Verdicts world = refl
+no_ending kind.Reasons world = refl
+
+headline_of : (detail : Detail) (s : Setting) (old new : Option (List ℕ)) (wrote : List ℕ) (outcome : Outcome End) (config : Option (List ℕ)) (o : HasOutcome s outcome)
+    → s.task ≡ (task.Replay detail) → o.config ≡ config → Appends old new wrote → outcome.end ≡ Some Completed → outcome.answers ≡ wrote → Replayed detail s old new
+headline_of detail s old new wrote outcome None o asked config appended end answers = absurd (no_config_left s outcome o config end)
+headline_of detail s old new wrote outcome (Some config) o asked is appended end answers =
+    let here = outcome_by s outcome config (task.Replay detail) o asked is in
+    let a = completes_run detail (loaded s.env usual_limits o.files config) o.bytes (sym (ap (λ (o : Outcome End). o.end) here) ∙ end) in
+    let c = completes (behavior_of detail) (initial_world a.program) (record_items o.bytes record_limit) a.last a.end in
+    let all : wrote ≡ answers_to (behavior_of detail) (initial_world a.program) c.events =
     sym answers ∙ ap (λ (o : Outcome End). o.answers) here ∙ a.answers ∙ c.answers
-    ∙ append-nil (answers_to engine_behavior (initial_world a.program) c.events) in
+    ∙ ap (λ (rest : List ℕ). answers_to (behavior_of detail) (initial_world a.program) c.events ++ rest) (no_ending detail _)
+    ∙ append-nil (answers_to (behavior_of detail) (initial_world a.program) c.events) in
     record {
       program = a.program;
       accepted = accepts s outcome config a.program o is a.is;
@@ -108,9 +116,9 @@ headline_of s old new wrote outcome (Some config) o asked is appended end answer
     }
 
 -- a replay that is completed
-pub headline : (s : Setting) (old new : Option (List ℕ)) → s.task ≡ task.Replay → Attempted s old new (Ok tt) → Headline s old new
-headline s old new asked a =
-    headline_of s old new a.wrote a.outcome a.is_such.config a.is_such asked refl a.appended a.answers.0 (a.answers.1 ∙ append-nil a.wrote)
+pub headline : (detail : Detail) (s : Setting) (old new : Option (List ℕ)) → s.task ≡ (task.Replay detail) → Attempted s old new (Ok tt) → Replayed detail s old new
+headline detail s old new asked a =
+    headline_of detail s old new a.wrote a.outcome a.is_such.config a.is_such asked refl a.appended a.answers.0 (a.answers.1 ∙ append-nil a.wrote)
 
 checked_of : (s : Setting) (old new : Option (List ℕ)) (wrote : List ℕ) (outcome : Outcome End) (config : Option (List ℕ)) (o : HasOutcome s outcome)
     → s.task ≡ task.Check → o.config ≡ config → Appends old new wrote → outcome.end ≡ Some Completed → outcome.answers ≡ wrote → Checked s old new
@@ -236,21 +244,37 @@ ran_finished s old mid new run.TooLarge status a f = ran_failed s old mid new ru
 ran_finished s old mid new run.NoMemory status a f = ran_failed s old mid new run.NoMemory status a refl (omega arith) f
 
 -- the statuses of faults
-fault_statuses : (fault : RunFault) → Contains (0 ∷ 2 ∷ 3 ∷ 4 ∷ 5 ∷ 6 ∷ 7 ∷ 8 ∷ []) (fault_status fault)
-fault_statuses (run.ConfigRefused line code) = (2, omega arith, refl)
-fault_statuses (run.RecordRefused offset code) = (3, omega arith, refl)
-fault_statuses run.Files = (4, omega arith, refl)
-fault_statuses run.Source = (4, omega arith, refl)
-fault_statuses run.Sink = (5, omega arith, refl)
-fault_statuses run.TooLarge = (7, omega arith, refl)
-fault_statuses run.NoMemory = (6, omega arith, refl)
+fault_statuses : (fault : RunFault) → Contains (0 ∷ 3 ∷ 4 ∷ 5 ∷ 6 ∷ 7 ∷ 8 ∷ []) (fault_status fault)
+fault_statuses (run.ConfigRefused line code) = (1, omega arith, refl)
+fault_statuses (run.RecordRefused offset code) = (2, omega arith, refl)
+fault_statuses run.Files = (3, omega arith, refl)
+fault_statuses run.Source = (3, omega arith, refl)
+fault_statuses run.Sink = (4, omega arith, refl)
+fault_statuses run.TooLarge = (6, omega arith, refl)
+fault_statuses run.NoMemory = (5, omega arith, refl)
 
 pub finished_status : (fault : RunFault) (old new : Option (List ℕ)) (status : ℕ) → Finishes fault old new status
-    → Contains (0 ∷ 2 ∷ 3 ∷ 4 ∷ 5 ∷ 6 ∷ 7 ∷ 8 ∷ []) status
+    → Contains (0 ∷ 3 ∷ 4 ∷ 5 ∷ 6 ∷ 7 ∷ 8 ∷ []) status
 finished_status fault old new status (inl (same, line)) = rw same (fault_statuses fault)
-finished_status fault old new status (inr ((zero, within, is), part)) = (5, omega arith, is)
-finished_status fault old new status (inr ((suc zero, within, is), part)) = (6, omega arith, is)
+finished_status fault old new status (inr ((zero, within, is), part)) = (4, omega arith, is)
+finished_status fault old new status (inr ((suc zero, within, is), part)) = (5, omega arith, is)
 finished_status fault old new status (inr ((suc (suc k), within, is), part)) = absurd (omega (arith, within))
+
+-- no command over a configuration ends with status 2
+pub known_status : (status : ℕ) → Contains (0 ∷ 3 ∷ 4 ∷ 5 ∷ 6 ∷ 7 ∷ 8 ∷ []) status
+    → Contains (0 ∷ 2 ∷ 3 ∷ 4 ∷ 5 ∷ 6 ∷ 7 ∷ 8 ∷ []) status
+known_status status (zero, within, is) = (0, omega arith, is)
+known_status status (suc k, within, is) = (suc (suc k), omega (arith, within), is)
+
+pub no_usage : (status : ℕ) → Contains (0 ∷ 3 ∷ 4 ∷ 5 ∷ 6 ∷ 7 ∷ 8 ∷ []) status → status ≢ 2
+no_usage status (zero, within, is) two = absurd (omega (arith, is, two))
+no_usage status (suc zero, within, is) two = absurd (omega (arith, is, two))
+no_usage status (suc (suc zero), within, is) two = absurd (omega (arith, is, two))
+no_usage status (suc (suc (suc zero)), within, is) two = absurd (omega (arith, is, two))
+no_usage status (suc (suc (suc (suc zero))), within, is) two = absurd (omega (arith, is, two))
+no_usage status (suc (suc (suc (suc (suc zero)))), within, is) two = absurd (omega (arith, is, two))
+no_usage status (suc (suc (suc (suc (suc (suc zero))))), within, is) two = absurd (omega (arith, is, two))
+no_usage status (suc (suc (suc (suc (suc (suc (suc k)))))), within, is) two = absurd (omega (arith, within))
 
 -- a fault's status is 3 at least
 pub fault_large : (fault : RunFault) → 3 ≤ fault_status fault
@@ -294,17 +318,16 @@ has_status : (s : Setting) (old new : Option (List ℕ)) (status : ℕ) → Ran 
 has_status s old new status r exact = record { outcome = r.outcome; of_setting = r.of_setting; is = (r.whole exact).0 }
 
 -- where the status is none of a failure, it is the outcome's, or memory ran out
-pub complete : (s : Setting) (old new : Option (List ℕ)) (status : ℕ) → Contains (0 ∷ 2 ∷ 3 ∷ 4 ∷ 5 ∷ 6 ∷ 7 ∷ 8 ∷ []) status
-    → status ≢ 2 → status ≢ 5 → status ≢ 6 → status ≢ 8 → Ran s old new status → (status ≡ 7) ⊎ HasStatus s status
-complete s old new status (zero, within, is) no_two no_five no_six no_eight r = inr (has_status s old new status r (0, omega arith, is))
-complete s old new status (suc zero, within, is) no_two no_five no_six no_eight r = absurd (no_two (sym is))
-complete s old new status (suc (suc zero), within, is) no_two no_five no_six no_eight r = inr (has_status s old new status r (1, omega arith, is))
-complete s old new status (suc (suc (suc zero)), within, is) no_two no_five no_six no_eight r = inr (has_status s old new status r (2, omega arith, is))
-complete s old new status (suc (suc (suc (suc zero))), within, is) no_two no_five no_six no_eight r = absurd (no_five (sym is))
-complete s old new status (suc (suc (suc (suc (suc zero)))), within, is) no_two no_five no_six no_eight r = absurd (no_six (sym is))
-complete s old new status (suc (suc (suc (suc (suc (suc zero))))), within, is) no_two no_five no_six no_eight r = inl (sym is)
-complete s old new status (suc (suc (suc (suc (suc (suc (suc zero)))))), within, is) no_two no_five no_six no_eight r = absurd (no_eight (sym is))
-complete s old new status (suc (suc (suc (suc (suc (suc (suc (suc k))))))), within, is) no_two no_five no_six no_eight r = absurd (omega (arith, within))
+pub complete : (s : Setting) (old new : Option (List ℕ)) (status : ℕ) → Contains (0 ∷ 3 ∷ 4 ∷ 5 ∷ 6 ∷ 7 ∷ 8 ∷ []) status
+    → status ≢ 5 → status ≢ 6 → status ≢ 8 → Ran s old new status → (status ≡ 7) ⊎ HasStatus s status
+complete s old new status (zero, within, is) no_five no_six no_eight r = inr (has_status s old new status r (0, omega arith, is))
+complete s old new status (suc zero, within, is) no_five no_six no_eight r = inr (has_status s old new status r (1, omega arith, is))
+complete s old new status (suc (suc zero), within, is) no_five no_six no_eight r = inr (has_status s old new status r (2, omega arith, is))
+complete s old new status (suc (suc (suc zero)), within, is) no_five no_six no_eight r = absurd (no_five (sym is))
+complete s old new status (suc (suc (suc (suc zero))), within, is) no_five no_six no_eight r = absurd (no_six (sym is))
+complete s old new status (suc (suc (suc (suc (suc zero)))), within, is) no_five no_six no_eight r = inl (sym is)
+complete s old new status (suc (suc (suc (suc (suc (suc zero))))), within, is) no_five no_six no_eight r = absurd (no_eight (sym is))
+complete s old new status (suc (suc (suc (suc (suc (suc (suc k)))))), within, is) no_five no_six no_eight r = absurd (omega (arith, within))
 
 only_large : (fault : RunFault) → fault_status fault ≡ 8 → fault ≡ run.TooLarge
 only_large (run.ConfigRefused line code) is = absurd (omega (arith, is))

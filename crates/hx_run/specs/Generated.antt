@@ -11,6 +11,7 @@ use Rattle.hx_replay.specs.Outcome.{Outcome}
 use Rattle.hx_run.specs.Outcome.{End}
 use Rattle.hx_run.specs.Run.{Headline, Setting, command_of, outcome_of}
 use Rattle.hx_run.specs.declared.command.Task.TheVariants.{Replay}
+use Rattle.hx_run.specs.declared.command.Detail.TheVariants.{Verdicts}
 
 -- the size that the words `gen N` ask for
 abbrev pub asked_size : List (List ℕ) → Option ℕ
@@ -27,7 +28,7 @@ abbrev pub generated_setting : ℕ → Setting
 generated_setting size = record {
   env = [];
   held = Some (files_of size);
-  task = Replay;
+  task = Replay Verdicts;
   name = config_name;
   left = Some (record_text size);
 }
@@ -35,7 +36,7 @@ generated_setting size = record {
 -- the outcome of that run
 unfoldable pub generated_outcome : ℕ → Outcome End
 generated_outcome size =
-    outcome_of [] Replay (files_of size) (Some config_text) (record_text size)
+    outcome_of [] (Replay Verdicts) (files_of size) (Some config_text) (record_text size)
 
 -- the text that is written of it: the summary of its answers
 unfoldable pub generated_text : ℕ → List ℕ

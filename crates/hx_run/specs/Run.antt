@@ -1,5 +1,5 @@
 -- What a run writes, and its status.
-use Rattle.std.specs.Prelude.{◌≡◌, ◌⊎◌, ◌++◌, ℕ, List, [], ◌∷◌, length, codes, Contains, IfSome, IsSomeAnd, Option, None, Some, option_map, if◌then◌else◌}
+use Rattle.std.specs.Prelude.{⊤, ◌≡◌, ◌⊎◌, ◌++◌, ℕ, List, [], ◌∷◌, length, codes, Contains, IfSome, IsSomeAnd, Option, None, Some, option_map, if◌then◌else◌}
 use Rattle.std.specs.Fmt.{decimal}
 use Rattle.std.specs.Io.KnownBytes.{Appends}
 use Rattle.std.specs.Str.{bytes_eq}
@@ -18,7 +18,10 @@ use Rattle.hx_record.specs.declared.Event.{Event}
 use Rattle.hx_refs.specs.References.{References}
 use Rattle.hx_rules.specs.Programs.{Rules, rule_count}
 use Rattle.hx_words.specs.Variable.{Env}
-use Rattle.hx_replay.specs.Behavior.{AreAllowed, answers_to}
+use Rattle.hx_replay.specs.Behavior.{AreAllowed, answers_to, Behavior}
+use Rattle.hx_trace.specs.Why.{explained}
+use Rattle.hx_core.specs.Telling.{told_answer}
+use Rattle.hx_core.specs.World.{World}
 use Rattle.hx_replay.specs.Outcome.{Outcome, ends_with, with_end}
 use Rattle.hx_replay.specs.Program.{engine_behavior, initial_world, Program, usual_limits}
 use Rattle.hx_replay.specs.Records.{HoldsBeforeLastRead, IsRecord, record_limit, events_of}
@@ -26,14 +29,21 @@ use Rattle.hx_replay.specs.Replay.{BeginsWithDecided, ReplayAsksLast, WritesDeci
 use Rattle.hx_run.specs.Outcome.{End, Completed, ConfigRefused, run_end, status_of, text_of}
 pub use Rattle.hx_run.specs.Outcome.{config_line}
 use Rattle.hx_run.specs.declared.command.Task.{Task}
+use Rattle.hx_run.specs.declared.command.Detail.{Detail}
+use Rattle.hx_run.specs.declared.command.Detail.TheVariants.{Reasons, Verdicts}
 use Rattle.hx_run.specs.declared.command.Task.TheVariants.{Check, Replay}
 
 -- the task of a first word: that a record is answered, or that a configuration is checked
 abbrev pub task_of : List ℕ → Option Task
 task_of word =
-    if bytes_eq word (codes "run") then Some Replay
+    if bytes_eq word (codes "run") then Some (Replay Verdicts)
     else if bytes_eq word (codes "check") then Some Check
     else None
+
+-- the record is answered
+abbrev pub IsReplay : Task → Type 0
+IsReplay (Replay detail) = ⊤
+IsReplay Check = ⊥
 
 -- a command: its task, and the name of the configuration
 pub record Asked : Type 0 where
@@ -83,10 +93,15 @@ check_line rules refs =
     codes "ok " ++ (decimal (rule_count rules)
     ++ (codes " " ++ (decimal (length refs.references) ++ codes "\n")))
 
+-- what answers the events of a record: an engine, which may tell why requests have their verdicts
+abbrev pub behavior_of : Detail → Behavior World
+behavior_of Verdicts = engine_behavior
+behavior_of Reasons = record engine_behavior { answer = told_answer explained }
+
 -- what comes of a configuration that is accepted: what a record is answered, or that it is accepted
 abbrev pub accepted_outcome : Task → Program → List ℕ → Outcome End
-accepted_outcome Replay program bytes =
-    with_end run_end (record_outcome engine_behavior (initial_world program) bytes)
+accepted_outcome (Replay detail) program bytes =
+    with_end run_end (record_outcome (behavior_of detail) (initial_world program) bytes)
 accepted_outcome Check program bytes = record {
   answers = check_line program.rules program.references;
   end = Some Completed;
@@ -151,17 +166,25 @@ pub record AcceptsSome (s : Setting) (P : Program → Type 0) : Type 0 where
   pub accepted : Accepts s program
   pub is : P program
 
--- The headline. The configuration was accepted, the record was read to its end, each of its events
--- stood where it may, and exactly the answers to its events in order were written.
-pub record Headline (s : Setting) (old new : Option (List ℕ)) : Type 0 where
+-- The configuration was accepted, the record was read to its end, each of its events stood where it
+-- may, and exactly the answers to its events in order were written, by what answers them.
+pub record AnswersAll (b : Behavior World) (s : Setting) (old new : Option (List ℕ)) : Type 0 where
   pub program : Program
   pub accepted : Accepts s program
   pub bytes : List ℕ
   pub of_source : IsRecord s.left bytes
   pub events : List Event
   pub read : events_of (record_items bytes record_limit) ≡ Some events
-  pub allowed : AreAllowed engine_behavior (initial_world program) events
-  pub written : Appends old new (answers_to engine_behavior (initial_world program) events)
+  pub allowed : AreAllowed b (initial_world program) events
+  pub written : Appends old new (answers_to b (initial_world program) events)
+
+-- the headline: an engine answers them
+abbrev pub Headline : Setting → (old new : Option (List ℕ)) → Type 0
+Headline s old new = AnswersAll engine_behavior s old new
+
+-- the same in a detail
+abbrev pub Replayed : Detail → Setting → (old new : Option (List ℕ)) → Type 0
+Replayed detail s old new = AnswersAll (behavior_of detail) s old new
 
 -- A check: the configuration was accepted, and its line was written.
 abbrev pub Checked : Setting → (old new : Option (List ℕ)) → Type 0
@@ -172,8 +195,8 @@ Checked s old new = AcceptsSome s (λ program.
 -- written to the events that the bytes taken from the source decide.
 abbrev pub SourceFails : Setting → (left' old new : Option (List ℕ)) → Type 0
 SourceFails s left' old new =
-    (s.task ≡ Replay) × AcceptsSome s (λ program.
-    WritesDecided engine_behavior (initial_world program) s.left left' old new)
+    (detail : Detail) × (s.task ≡ Replay detail) × AcceptsSome s (λ program.
+    WritesDecided (behavior_of detail) (initial_world program) s.left left' old new)
 
 -- The record is read only where it is to be answered and the configuration was accepted, and what
 -- is decided is written before more is read: what was written begins with all answers to the
@@ -181,8 +204,8 @@ SourceFails s left' old new =
 abbrev pub AnswersBeforeReading : Setting → (log log' : Option Log) → (old new : Option (List ℕ))
     → Type 0
 AnswersBeforeReading s log log' old new = HoldsBeforeLastRead log log' (λ bytes.
-    (s.task ≡ Replay) × AcceptsSome s (λ program.
-    BeginsWithDecided engine_behavior (initial_world program) bytes old new))
+    (detail : Detail) × (s.task ≡ Replay detail) × AcceptsSome s (λ program.
+    BeginsWithDecided (behavior_of detail) (initial_world program) bytes old new))
 
 -- The last text that was too large for the maker is one that is read as a regular expression when
 -- the configuration is loaded.
@@ -194,11 +217,11 @@ RunJudgesLast s large = HoldsConfig s (λ files config.
 -- event of the record.
 abbrev pub RunAsksLast : Setting → Option ExpressionText → Type 0
 RunAsksLast s large =
-    (s.task ≡ Replay) × AcceptsSome s (λ program.
-    ReplayAsksLast engine_behavior EventAsksFor (initial_world program) s.left large)
+    (detail : Detail) × (s.task ≡ Replay detail) × AcceptsSome s (λ program.
+    ReplayAsksLast (behavior_of detail) EventAsksFor (initial_world program) s.left large)
 
--- the files that a run reads: the configuration, and those to which it comes when it is loaded, with
--- no fault before them
+-- the files that a run reads: the configuration, and those to which it comes when it is loaded,
+-- with no fault before them
 abbrev pub RunReads : Setting → List ℕ → Type 0
 RunReads s name = (name ≡ s.name)
     ⊎ HoldsConfig s (λ files config. ReadsFile s.env usual_limits files config name)

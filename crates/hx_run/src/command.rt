@@ -3,11 +3,20 @@ ghost use Rattle.hx_program.specs.Machine.{texts_of};
 ghost use Rattle.hx_run.specs.Command.{asked_of};
 ghost use Rattle.hx_run.specs.Run.{command_of, task_of};
 
+/// What is written of a request.
+#[derive(Clone, Copy, PartialEq, Eq)]
+pub enum Detail {
+    /// the lines that answer it
+    Verdicts,
+    /// and behind them why it has its verdict
+    Reasons,
+}
+
 /// What a command asks for.
 #[derive(Clone, Copy, PartialEq, Eq)]
 pub enum Task {
-    /// `run`: the record is answered under the configuration
-    Replay,
+    /// `run` and `trace`: the record is answered under the configuration
+    Replay(Detail),
     /// `check`: the configuration is judged alone
     Check,
 }
@@ -25,7 +34,7 @@ fn task_of(word: &[u8]) -> Option<Task>
     ensures { result ≡ task_of word.now }
 {
     if word == b"run".as_slice() {
-        Some(Task::Replay)
+        Some(Task::Replay(Detail::Verdicts))
     } else if word == b"check".as_slice() {
         Some(Task::Check)
     } else {

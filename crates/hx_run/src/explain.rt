@@ -7,7 +7,7 @@ ghost use Rattle.hx_replay.specs.Explanation.{told_of};
 ghost use Rattle.hx_run.specs.Explanation.{ending_of, explanation, fault_ending, given_name};
 
 use crate::command::command_of;
-use crate::run::Ended;
+use crate::run_command::Ended;
 use crate::run_fault::RunFault;
 use hx_outside::{Sink, SinkFault};
 use hx_program::text_of_status;
@@ -68,8 +68,8 @@ pub fn explain<K: Sink>(err: &mut K, ended: Ended, told: &Told<'_>) -> Result<()
     hx_replay::explain(err, b"hxeval", ending_of(ended), of_status, told)
 }
 
-/// How a run ended, as it is told.
-pub(crate) fn ending_of(ended: Ended) -> Ending
+/// How a run ended, as it is told: by its fault, where the status is the fault's.
+pub fn ending_of(ended: Ended) -> Ending
     ensures { result ≡ ending_of ended.status ended.fault }
 {
     match ended.fault {

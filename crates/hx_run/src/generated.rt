@@ -10,10 +10,11 @@ ghost use Rattle.hx_program.specs.Machine.{texts_of};
 ghost use Rattle.hx_run.specs.Generated.{Generates, asked_size, generated_outcome, generated_setting, generated_text};
 ghost use Rattle.hx_run.specs.Run.{Headline};
 ghost use Rattle.hx_run.specs.RunFault.{Attempted, fault_status};
+ghost use Rattle.hx_run.specs.declared.command.Detail.{Detail};
 ghost use Rattle.hx_run.specs.declared.command.Task.{Task};
 
-use crate::command::{Command, Task};
-use crate::run::{Ended, attempt};
+use crate::command::{Command, Detail, Task};
+use crate::run_command::{Ended, attempt};
 use crate::run_fault::RunFault;
 use hx_gen::{GeneratedInput, config_name, generated_input, read_size, summary_text};
 use hx_outside::{MemFiles, MemSink, MemSource, PlainMaker, Sink, SinkFault, write_all};
@@ -126,7 +127,7 @@ fn answer_input(alloc: Global, input: GeneratedInput, answers: &mut MemSink) -> 
     ensures { OnOk result (Attempted (record {
       env = [];
       held = Some (pairs_of input.files.items);
-      task = Task.Replay;
+      task = Task.Replay Detail.Verdicts;
       name = config_name;
       left = Some input.record_bytes.items;
     }) (Some answers.old.written) (Some answers.new.written) (Ok tt)) }
@@ -140,7 +141,7 @@ fn answer_input(alloc: Global, input: GeneratedInput, answers: &mut MemSink) -> 
     let mut maker = PlainMaker::new();
     let mut requests = 0;
     let command = Command {
-        task: Task::Replay,
+        task: Task::Replay(Detail::Verdicts),
         name: config_name(),
     };
     match attempt(

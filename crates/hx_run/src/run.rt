@@ -1,38 +1,23 @@
-ghost use Rattle.std.specs.Prelude.{◌≡◌, ◌≢◌, ◌≤◌, ◌↔◌, ◌⊎◌, ℕ, Ok, Err, None, Some, Contains, [], ◌∷◌, OnOk, IfOk, IfSome, IsErrOf, IsSomeAnd};
+ghost use Rattle.std.specs.Prelude.{◌≡◌, ◌↔◌, ◌⊎◌, None, Contains, [], ◌∷◌, IfSome, IsSomeAnd};
 ghost use Rattle.std.specs.Io.KnownBytes.{Appends, IsAtEnd};
 ghost use Rattle.hx_outside.specs.Count.{Rose};
 ghost use Rattle.hx_outside.specs.Log.{HoldsSince};
-ghost use Rattle.hx_outside.specs.Prefixes.{AppendsPrefix};
 ghost use Rattle.hx_program.specs.Machine.{texts_of};
-ghost use Rattle.hx_run.specs.Command.{asked_of};
 ghost use Rattle.hx_run.specs.Generated.{AreNoCommand, Generates, asked_size};
-ghost use Rattle.hx_run.specs.Run.{check_line, command_of, setting, setting_of};
-ghost use Rattle.hx_run.specs.Run.{AnswersBeforeReading, Checked, Ran, HasStatus, Headline};
+ghost use Rattle.hx_run.specs.Run.{command_of, setting_of};
+ghost use Rattle.hx_run.specs.Run.{AnswersBeforeReading, Checked, Ran, HasStatus, Headline, IsReplay};
 ghost use Rattle.hx_run.specs.Run.{RunAsksLast, RunJudgesLast, RunReads, SourceFails};
-ghost use Rattle.hx_run.specs.RunFault.{Attempted, EndsAs, Finishes, fault_end, fault_status};
-ghost use Rattle.hx_run.specs.RunFiles.{ReadsFiles, result_status};
+ghost use Rattle.hx_run.specs.RunFault.{EndsAs, fault_end, fault_status};
+ghost use Rattle.hx_run.specs.RunFiles.{ReadsFiles};
 ghost use Rattle.hx_run.specs.Unseen.{ShowsNoUncommittedVersion};
+ghost use Rattle.hx_run.specs.declared.command.Detail.{Detail};
 ghost use Rattle.hx_run.specs.declared.command.Task.{Task};
 
-use crate::command::{Command, Task, command_of};
+use crate::command::command_of;
 use crate::generated::run_generated;
-use crate::replay_run::replay_rules;
-use crate::run_fault::RunFault;
-use hx_load::load;
-use hx_outside::{Files, ReMaker, Sink, SinkFault, Source, write_all};
-use hx_refs::{Limits, Refs};
-use hx_rules::Program;
-use itoa::Buffer;
-use std::alloc::{AllocError, Global};
-
-/// How a run ended: the exit status, and the fault that ended it, if one did.
-#[derive(Clone, Copy, PartialEq, Eq)]
-pub struct Ended {
-    pub status: u8,
-    pub fault: Option<RunFault>,
-    /// how many requests were answered, as tests show
-    pub requests: u64,
-}
+use crate::run_command::{Ended, run_command};
+use hx_outside::{Files, ReMaker, Sink, Source};
+use std::alloc::Global;
 
 /// Runs the command that `words` are, the words of a command line without the program's name, under
 /// the environment `env`, and answers the exit status.
@@ -52,7 +37,7 @@ pub struct Ended {
 ///
 /// | Status | Comes |
 /// |---|---|
-/// | 0 | the record was answered to its end, the configuration is accepted, or the summary is written |
+/// | 0 | the record was answered to its end, the configuration is accepted, the summary is written |
 /// | 2 | the words are no command; nothing is touched |
 /// | 3 | the configuration is refused: `config LINE CODE` is written, alone |
 /// | 4 | the record is refused: the answers before, and then `record OFFSET CODE` are written |
@@ -87,10 +72,11 @@ pub fn run<F: Files, S: Source, K: Sink, M: ReMaker>(
 
     ensures headline { result ≡ 0 → IfSome
         (setting_of words.now env.now (F.held files.old) (S.left record_in.old)) (λ given.
-        given.task ≡ Task.Replay → Headline given (K.written out.old) (K.written out.new)) }
+        given.task ≡ Task.Replay Detail.Verdicts
+        → Headline given (K.written out.old) (K.written out.new)) }
     ensures unseen { result ≡ 0 → IfSome
         (setting_of words.now env.now (F.held files.old) (S.left record_in.old)) (λ given.
-        given.task ≡ Task.Replay
+        given.task ≡ Task.Replay Detail.Verdicts
         → ShowsNoUncommittedVersion given (K.written out.old) (K.written out.new)) }
     ensures checked { result ≡ 0 → IfSome
         (setting_of words.now env.now (F.held files.old) (S.left record_in.old)) (λ given.
@@ -99,7 +85,7 @@ pub fn run<F: Files, S: Source, K: Sink, M: ReMaker>(
         (setting_of words.now env.now (F.held files.old) (S.left record_in.old)) (λ given.
         Ran given (K.written out.old) (K.written out.new) result) }
     ensures at_end { result ≡ 0 → IfSome (command_of (texts_of words.now))
-        (λ command. command.task ≡ Task.Replay → IsAtEnd (S.left record_in.new)) }
+        (λ command. IsReplay command.task → IsAtEnd (S.left record_in.new)) }
     ensures before_reading { IfSome
         (setting_of words.now env.now (F.held files.old) (S.left record_in.old)) (λ given.
         AnswersBeforeReading given (S.log record_in.old) (S.log record_in.new)
@@ -176,10 +162,11 @@ pub fn run_to_end<F: Files, S: Source, K: Sink, M: ReMaker>(
 
     ensures headline { result.status ≡ 0 → IfSome
         (setting_of words.now env.now (F.held files.old) (S.left record_in.old)) (λ given.
-        given.task ≡ Task.Replay → Headline given (K.written out.old) (K.written out.new)) }
+        given.task ≡ Task.Replay Detail.Verdicts
+        → Headline given (K.written out.old) (K.written out.new)) }
     ensures unseen { result.status ≡ 0 → IfSome
         (setting_of words.now env.now (F.held files.old) (S.left record_in.old)) (λ given.
-        given.task ≡ Task.Replay
+        given.task ≡ Task.Replay Detail.Verdicts
         → ShowsNoUncommittedVersion given (K.written out.old) (K.written out.new)) }
     ensures checked { result.status ≡ 0 → IfSome
         (setting_of words.now env.now (F.held files.old) (S.left record_in.old)) (λ given.
@@ -188,7 +175,7 @@ pub fn run_to_end<F: Files, S: Source, K: Sink, M: ReMaker>(
         (setting_of words.now env.now (F.held files.old) (S.left record_in.old)) (λ given.
         Ran given (K.written out.old) (K.written out.new) result.status) }
     ensures at_end { result.status ≡ 0 → IfSome (command_of (texts_of words.now))
-        (λ command. command.task ≡ Task.Replay → IsAtEnd (S.left record_in.new)) }
+        (λ command. IsReplay command.task → IsAtEnd (S.left record_in.new)) }
     ensures before_reading { IfSome
         (setting_of words.now env.now (F.held files.old) (S.left record_in.old)) (λ given.
         AnswersBeforeReading given (S.log record_in.old) (S.log record_in.new)
@@ -241,138 +228,8 @@ pub fn run_to_end<F: Files, S: Source, K: Sink, M: ReMaker>(
         ⊎ Contains (6 ∷ 7 ∷ []) result.status) }
     ensures no_fault { result.fault ≡ None → Contains (0 ∷ 2 ∷ []) result.status }
 {
-    let Some(command) = command_of(words) else {
-        return run_generated(alloc, words, out);
-    };
-    let mut requests = 0u64;
-    match attempt(
-        alloc,
-        env,
-        files,
-        command,
-        record_in,
-        out,
-        maker,
-        &mut requests,
-    ) {
-        Ok(()) => Ended {
-            status: 0,
-            fault: None,
-            requests,
-        },
-        Err(fault) => Ended {
-            status: finish(alloc, fault, out),
-            fault: Some(fault),
-            requests,
-        },
-    }
-}
-
-/// Loads the configuration of a command, and replays the record up to the first fault, or writes
-/// that the configuration is accepted.
-pub(crate) fn attempt<F: Files, S: Source, K: Sink, M: ReMaker>(
-    alloc: Global,
-    env: &[(Vec<u8>, Vec<u8>)],
-    files: &mut F,
-    command: Command<'_>,
-    record_in: &mut S,
-    out: &mut K,
-    maker: &mut M,
-    requests: &mut u64,
-) -> Result<(), RunFault>
-    ensures attempted { Attempted
-        (setting env.now (F.held files.old) (asked_of command.entry) (S.left record_in.old))
-        (K.written out.old) (K.written out.new) result }
-    ensures before_reading { AnswersBeforeReading
-        (setting env.now (F.held files.old) (asked_of command.entry) (S.left record_in.old))
-        (S.log record_in.old) (S.log record_in.new) (K.written out.old) (K.written out.new) }
-    ensures at_end { command.entry.task ≡ Task.Replay
-        → OnOk result (IsAtEnd (S.left record_in.new)) }
-    ensures config_refused { (line code : ℕ) → result ≡ Err (RunFault.ConfigRefused line code)
-        → record_in.new ≡ record_in.old }
-    ensures unread { command.entry.task ≡ Task.Check → record_in.new ≡ record_in.old }
-    ensures files_failed { IsErrOf result RunFault.Files
-        → Rose (F.faults files.old) (F.faults files.new)
-        × IsSomeAnd (F.last files.new) (RunReads
-        (setting env.now (F.held files.old) (asked_of command.entry) (S.left record_in.old)))
-        × (out.new ≡ out.old) }
-    ensures source_failed { IsErrOf result RunFault.Source
-        → Rose (S.faults record_in.old) (S.faults record_in.new)
-        × SourceFails
-        (setting env.now (F.held files.old) (asked_of command.entry) (S.left record_in.old))
-        (S.left record_in.new) (K.written out.old) (K.written out.new) }
-    ensures sink_failed { IsErrOf result RunFault.Sink
-        → Rose (K.faults out.old) (K.faults out.new) }
-    ensures too_large { let given = setting env.now (F.held files.old) (asked_of command.entry)
-        (S.left record_in.old) in IsErrOf result RunFault.TooLarge
-        → Rose (M.state maker.old).too_large (M.state maker.new).too_large
-        × ((RunJudgesLast given (M.state maker.new).large × (out.new ≡ out.old))
-        ⊎ RunAsksLast given (M.state maker.new).large) }
-    ensures later { K.faults out.old ≤ K.faults out.new }
-    ensures held { F.held files.new ≡ F.held files.old }
-    ensures named { (F.last files.new ≡ F.last files.old)
-        ⊎ IsSomeAnd (F.last files.new) (RunReads
-        (setting env.now (F.held files.old) (asked_of command.entry) (S.left record_in.old))) }
-    ensures files_read { HoldsSince (F.log files.old) (F.log files.new) (ReadsFiles
-        (setting env.now (F.held files.old) (asked_of command.entry) (S.left record_in.old))
-        (F.last files.new) (result_status result)) }
-{
-    let config = files.read(alloc, command.name)?;
-    let (rules, refs) = load(alloc, config.as_slice(), env, files, maker, Limits::usual())?;
-    match command.task {
-        Task::Replay => replay_rules(alloc, rules, refs, record_in, out, maker, requests),
-        Task::Check => Ok(write_check(alloc, &rules, &refs, out)?),
-    }
-}
-
-/// Writes that a configuration is accepted, and how many rules and references it has.
-fn write_check<K: Sink>(
-    alloc: Global,
-    rules: &Program,
-    refs: &Refs,
-    out: &mut K,
-) -> Result<(), SinkFault>
-    ensures ok { OnOk result (Appends (K.written out.old) (K.written out.new)
-        (check_line rules.now refs.now.content)) }
-    ensures prefix { AppendsPrefix (K.written out.old) (K.written out.new)
-        (check_line rules.now refs.now.content) }
-    ensures failed { IsErrOf result SinkFault.Failed → Rose (K.faults out.old) (K.faults out.new) }
-    ensures later { K.faults out.old ≤ K.faults out.new }
-{
-    let Ok(line) = check_line(alloc, rules, refs) else {
-        return Err(SinkFault::NoMemory);
-    };
-    write_all(out, line.as_slice())
-}
-
-/// The line of a configuration that is accepted.
-fn check_line(alloc: Global, rules: &Program, refs: &Refs) -> Result<Vec<u8>, AllocError>
-    ensures { IfOk result (λ line. line.items ≡ check_line rules.now refs.now.content) }
-{
-    let mut digits = Buffer::new();
-    let mut line = Vec::new(alloc);
-    line.extend_from_slice(b"ok ")?;
-    line.extend_from_slice(digits.format(rules.rules()).as_bytes())?;
-    line.extend_from_slice(b" ")?;
-    line.extend_from_slice(digits.format(refs.len()).as_bytes())?;
-    line.extend_from_slice(b"\n")?;
-    Ok(line)
-}
-
-/// Writes the line of a refusal, and answers the status.
-#[tactic(auto, using(crate::proofs::StatusLemmas::fault_large))]
-fn finish<K: Sink>(alloc: Global, fault: RunFault, out: &mut K) -> u8
-    ensures finished { Finishes fault (K.written out.old) (K.written out.new) result }
-    ensures large { 3 ≤ result }
-    ensures sink { result ≡ 6 → fault ≢ RunFault.Sink → Rose (K.faults out.old) (K.faults out.new) }
-    ensures later { K.faults out.old ≤ K.faults out.new }
-{
-    let Ok(line) = fault.last_line(alloc) else {
-        return 7;
-    };
-    match write_all(out, line.as_bytes()) {
-        Ok(()) => fault.status(),
-        Err(SinkFault::Failed) => 6,
-        Err(SinkFault::NoMemory) => 7,
+    match command_of(words) {
+        Some(command) => run_command(alloc, command, env, files, record_in, out, maker),
+        None => run_generated(alloc, words, out),
     }
 }

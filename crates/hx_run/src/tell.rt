@@ -2,7 +2,7 @@ ghost use Rattle.hx_replay.specs.Explanation.{TellsSome};
 ghost use Rattle.hx_run.specs.Explanation.{explanation};
 
 use crate::explain::{ending_of, explain, given_name};
-use crate::run::Ended;
+use crate::run_command::Ended;
 use hx_outside::{Files, Sink};
 use hx_program::KnownFiles;
 use hx_replay::{KnownConfig, Place, RecentRecord, Told, place_of};
@@ -37,8 +37,9 @@ pub fn tell<K: Sink, F: Files + Drop, S>(
     let _ = explain(err, ended, &told);
 }
 
-/// What is known of the configuration, where all of it lives as long.
-fn known_config<'t>(
+/// What is known of the configuration: its name, its text, and the name of the file that was read
+/// last after it. These texts may have lifetimes of their own.
+pub fn known_config<'t>(
     name: &'t [u8],
     text: Option<&'t [u8]>,
     file: Option<&'t [u8]>,
@@ -46,8 +47,8 @@ fn known_config<'t>(
     KnownConfig { name, text, file }
 }
 
-/// What is told beside the fault, where all of it lives as long.
-fn told_of<'t>(
+/// What is told beside the fault, of texts that may have lifetimes of their own.
+pub fn told_of<'t>(
     name: &'t [u8],
     place: &'t [u8],
     reason: &'t [u8],

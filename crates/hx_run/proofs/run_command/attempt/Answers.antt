@@ -7,7 +7,7 @@ use Rattle.hx_run.specs.RunFiles.{result_status}
 use Rattle.hx_run.specs.declared.run_fault.RunFault.TheVariants as run
 use Rattle.hx_run.proofs.RunLemmas.{answers_before, check_failed, checked_run, config_named, config_unread, file_failed, fits, load_failed, load_judges, load_large, load_named, load_reads, no_config, no_config_at_sink, no_files, nothing_read, only_sink, reads_config, replayed_run, run_asks, source_fails, unchecked_run, unloaded, unread}
 use Rattle.hx_run.proofs.FilesLemmas.{files_of_loaded, files_of_unloaded, files_of_unread, no_refusal, no_refusal_at_sink}
-use Rattle.hx_run.proofs.run.attempt.Goals as goal
+use Rattle.hx_run.proofs.run_command.attempt.Goals as goal
 
 pub returns-in_err-config-clause-attempted : goal.returns-in_err-config-clause-attempted
 returns-in_err-config-clause-attempted g c =
@@ -85,7 +85,7 @@ replay_rules-requires g c = fits c.in_ok-rules.refs.content c.in_ok-rules.rules 
 
 pub returns-in-Replay-clause-attempted : goal.returns-in-Replay-clause-attempted
 returns-in-Replay-clause-attempted g c =
-    replayed_run (setting c.args.env.now (g.F.Files.held c.args.files.now) (asked_of c.args.command) (g.S.Source.left c.args.record_in.now))
+    replayed_run c.in-Replay.detail (setting c.args.env.now (g.F.Files.held c.args.files.now) (asked_of c.args.command) (g.S.Source.left c.args.record_in.now))
     (g.F.Files.held c.read.new.self) c.usual.result c.in_ok-config.config.items c.as_slice.result.now c.in_ok-rules.rules c.in_ok-rules.refs
     (g.K.Sink.written c.args.out.now) (g.K.Sink.written c.replay_rules.new.out) c.replay_rules.result c.in-Replay.is
     (reads_config (setting c.args.env.now (g.F.Files.held c.args.files.now) (asked_of c.args.command) (g.S.Source.left c.args.record_in.now)) (g.F.Files.held c.read.new.self) c.usual.result c.in_ok-config.config.items c.as_slice.result.now
@@ -95,7 +95,7 @@ returns-in-Replay-clause-attempted g c =
 pub returns-in-Replay-clause-source_failed : goal.returns-in-Replay-clause-source_failed
 returns-in-Replay-clause-source_failed g c = λ is. (
   c.replay_rules.ensures.source is,
-  source_fails (setting c.args.env.now (g.F.Files.held c.args.files.now) (asked_of c.args.command) (g.S.Source.left c.args.record_in.now))
+  source_fails c.in-Replay.detail (setting c.args.env.now (g.F.Files.held c.args.files.now) (asked_of c.args.command) (g.S.Source.left c.args.record_in.now))
       (g.F.Files.held c.read.new.self) c.usual.result c.in_ok-config.config.items c.as_slice.result.now c.in_ok-rules.rules c.in_ok-rules.refs
       (g.S.Source.left c.replay_rules.new.record_in) (g.K.Sink.written c.args.out.now) (g.K.Sink.written c.replay_rules.new.out) c.in-Replay.is
       (reads_config (setting c.args.env.now (g.F.Files.held c.args.files.now) (asked_of c.args.command) (g.S.Source.left c.args.record_in.now)) (g.F.Files.held c.read.new.self) c.usual.result c.in_ok-config.config.items c.as_slice.result.now
@@ -113,7 +113,7 @@ pub returns-in-Replay-clause-too_large : goal.returns-in-Replay-clause-too_large
 returns-in-Replay-clause-too_large g c = λ is.
     let (rose, asks) = c.replay_rules.ensures.too_large is in (
       rw (c.in_ok-rules.ensures.uncounted (λ is. cc)).0 at rose,
-      inr (run_asks (setting c.args.env.now (g.F.Files.held c.args.files.now) (asked_of c.args.command) (g.S.Source.left c.args.record_in.now))
+      inr (run_asks c.in-Replay.detail (setting c.args.env.now (g.F.Files.held c.args.files.now) (asked_of c.args.command) (g.S.Source.left c.args.record_in.now))
           (g.F.Files.held c.read.new.self) c.usual.result c.in_ok-config.config.items c.as_slice.result.now c.in_ok-rules.rules c.in_ok-rules.refs
           (g.M.ReMaker.state c.replay_rules.new.maker).large c.in-Replay.is
           (reads_config (setting c.args.env.now (g.F.Files.held c.args.files.now) (asked_of c.args.command) (g.S.Source.left c.args.record_in.now)) (g.F.Files.held c.read.new.self) c.usual.result c.in_ok-config.config.items c.as_slice.result.now
@@ -215,7 +215,7 @@ returns-clause-before_reading g c = nothing_read (setting c.args.env.now (g.F.Fi
 
 pub returns-in-Replay-clause-before_reading : goal.returns-in-Replay-clause-before_reading
 returns-in-Replay-clause-before_reading g c =
-    answers_before (setting c.args.env.now (g.F.Files.held c.args.files.now) (asked_of c.args.command) (g.S.Source.left c.args.record_in.now))
+    answers_before c.in-Replay.detail (setting c.args.env.now (g.F.Files.held c.args.files.now) (asked_of c.args.command) (g.S.Source.left c.args.record_in.now))
     (g.F.Files.held c.read.new.self) c.usual.result c.in_ok-config.config.items c.as_slice.result.now c.in_ok-rules.rules c.in_ok-rules.refs
     (g.S.Source.log c.args.record_in.now) (g.S.Source.log c.replay_rules.new.record_in) (g.K.Sink.written c.args.out.now) (g.K.Sink.written c.replay_rules.new.out) c.in-Replay.is
     (reads_config (setting c.args.env.now (g.F.Files.held c.args.files.now) (asked_of c.args.command) (g.S.Source.left c.args.record_in.now)) (g.F.Files.held c.read.new.self) c.usual.result c.in_ok-config.config.items c.as_slice.result.now

@@ -1,11 +1,12 @@
 use Rattle.std.proofs.Common.{sym, ◌∙◌}
 use Rattle.std.specs.Io.KnownBytes.{IsAtEnd}
+use Rattle.hx_run.specs.declared.command.Detail.TheVariants.{Verdicts}
 use Rattle.hx_run.proofs.ReplayFaultLemmas.{at_end_of, replay_kind, run_writes, sink_of, source_of, too_large_of}
-use Rattle.hx_run.proofs.replay_run.replay_rules.Goals as goal
+use Rattle.hx_run.proofs.replay_run.replay_verdicts.Goals as goal
 
 pub returns-clause-replays : goal.returns-clause-replays
 returns-clause-replays g c =
-    rw c.run_result.ensures (run_writes (record { rules = c.args.rules; references = c.args.refs.content }) c.replay-replayed.new.answerer.engine.world
+    rw c.run_result.ensures (run_writes Verdicts (record { rules = c.args.rules; references = c.args.refs.content }) c.replay-replayed.new.answerer.engine.world
     (g.S.Source.left c.args.record_in.now) (g.K.Sink.written c.args.out.now) (g.K.Sink.written c.replay-replayed.new.out) c.replay-replayed.result
     (rw c.new-engine.ensures.world at c.replay-replayed.ensures.replays))
 
