@@ -2,6 +2,8 @@ pub mod ComparisonLemmas
 pub mod DifferenceLemmas
 pub mod EndLemmas
 pub mod FilesLemmas
+pub mod LineLemmas
+pub mod ReasonLemmas
 pub mod ReplayFaultLemmas
 pub mod RunLemmas
 pub mod StatusLemmas

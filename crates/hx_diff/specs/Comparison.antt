@@ -7,6 +7,7 @@ use Rattle.hx_outside.specs.Makers.{ExpressionText}
 use Rattle.hx_record.specs.declared.Event.{Event}
 use Rattle.hx_replay.specs.Behavior.{Behavior, answers_to, state_after}
 use Rattle.hx_replay.specs.Program.{Program, initial_world}
+use Rattle.hx_diff.specs.AnswerParts.{answer_parts}
 use Rattle.hx_diff.specs.Report.{ReportParts, empty_report, ending_of, report_after, told_of}
 use Rattle.hx_diff.specs.declared.command.Task.{Task}
 
@@ -38,7 +39,8 @@ refusal_in c event = refusal_of c.old_world event
 -- what is written at once of an event, by the answers that both worlds give
 abbrev pub difference_of : Comparison → Event → List ℕ
 difference_of c event =
-    told_of c.report event (answer_of c.old_world event) (answer_of c.new_world event)
+    told_of c.report event (answer_parts c.report.task c.old_world event)
+    (answer_parts c.report.task c.new_world event)
 
 -- both worlds go on, and the event is counted
 abbrev pub comparison_after : Comparison → Event → Comparison

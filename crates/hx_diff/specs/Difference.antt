@@ -8,6 +8,7 @@ use Rattle.hx_http.specs.Head.{Head, head_of, many, message, none}
 use Rattle.hx_http.specs.Parts.{Parts}
 use Rattle.hx_record.specs.declared.Event.{Event}
 use Rattle.hx_record.specs.declared.Event.TheVariants.{Conn, Req, Close, Cli}
+use Rattle.hx_diff.specs.AnswerParts.{AnswerParts}
 
 -- ---- lines
 
@@ -64,7 +65,9 @@ told_difference number (Req id bytes) old new = request_difference number bytes 
 told_difference number (Close id) old new = []
 told_difference number (Cli session text) old new = command_difference session text old new
 
--- what is written of an event with these two answers
-abbrev pub event_difference : ℕ → Event → (old new : List ℕ) → List ℕ
+-- what is written of an event with these two answers: nothing where they are the same, whatever is
+-- shown of them
+abbrev pub event_difference : ℕ → Event → (old new : AnswerParts) → List ℕ
 event_difference number event old new =
-    if bytes_eq old new then [] else told_difference number event old new
+    if bytes_eq old.answer new.answer then []
+    else told_difference number event old.shown new.shown

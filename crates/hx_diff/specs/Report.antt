@@ -4,11 +4,12 @@ use Rattle.std.specs.Str.{bytes_eq}
 use Rattle.hx_core.specs.Steps.{next_number}
 use Rattle.hx_record.specs.declared.Event.{Event}
 use Rattle.hx_record.specs.declared.Event.TheVariants.{Conn, Req, Close, Cli}
+use Rattle.hx_diff.specs.AnswerParts.{AnswerParts}
 use Rattle.hx_diff.specs.Difference.{event_difference}
 use Rattle.hx_diff.specs.Tally.{no_tally, tally_after, totals}
 use Rattle.hx_diff.specs.Verdicts.{Row, rows_text, verdict_in, with_request}
 use Rattle.hx_diff.specs.declared.command.Task.{Task}
-use Rattle.hx_diff.specs.declared.command.Task.TheVariants.{Lines, Counts}
+use Rattle.hx_diff.specs.declared.command.Task.TheVariants.{Lines, Reasons, Counts}
 use Rattle.hx_diff.specs.declared.tally.Tally.{Tally}
 
 -- what was asked for, how many answers there were and how many differ, and the rows of the verdicts
@@ -24,14 +25,16 @@ empty_report task = record { task = task; tally = no_tally; rows = [] }
 
 -- what is written at once of an event with these two answers, where it is the request with this
 -- number or none: its difference, but where counts are asked for
-abbrev pub written_at_once : Task → (number : ℕ) → Event → (old new : List ℕ) → List ℕ
+abbrev pub written_at_once : Task → (number : ℕ) → Event → (old new : AnswerParts) → List ℕ
 written_at_once Lines number event old new = event_difference number event old new
+written_at_once Reasons number event old new = event_difference number event old new
 written_at_once Counts number event old new = []
 
 -- the rows after the same: where counts are asked for, a request whose answers differ is counted by
 -- their verdicts
 abbrev pub rows_after : Task → (number : ℕ) → Event → (old new : List ℕ) → List Row → List Row
 rows_after Lines number event old new rows = rows
+rows_after Reasons number event old new rows = rows
 rows_after Counts number (Conn id src src_port dst dst_port) old new rows = rows
 rows_after Counts number (Req id bytes) old new rows =
     if bytes_eq old new then rows
@@ -40,7 +43,7 @@ rows_after Counts number (Close id) old new rows = rows
 rows_after Counts number (Cli session text) old new rows = rows
 
 -- what a report writes at once of an event with these two answers
-abbrev pub told_of : ReportParts → Event → (old new : List ℕ) → List ℕ
+abbrev pub told_of : ReportParts → Event → (old new : AnswerParts) → List ℕ
 told_of report event old new =
     written_at_once report.task (next_number report.tally.requests) event old new
 

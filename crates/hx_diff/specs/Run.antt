@@ -1,5 +1,5 @@
 -- What a run writes, and its status.
-use Rattle.std.specs.Prelude.{◌≡◌, ◌⊎◌, ℕ, List, [], ◌∷◌, codes, Contains, IfSome, IsSomeAnd, Option, None, Some, option_map, if◌then◌else◌}
+use Rattle.std.specs.Prelude.{◌≡◌, ◌⊎◌, ℕ, Bool, List, [], ◌∷◌, codes, Contains, IfSome, IsSomeAnd, Option, None, Some, option_map, if◌then◌else◌}
 use Rattle.std.specs.Io.KnownBytes.{Appends}
 use Rattle.std.specs.Str.{bytes_eq}
 use Rattle.std.specs.declared.alloc.Global.{Global}
@@ -22,7 +22,7 @@ use Rattle.hx_replay.specs.Replay.{BeginsWithDecided, ReplayAsksLast, WritesDeci
 use Rattle.hx_diff.specs.Comparison.{Programs, AreAnsweredAlike, ComparisonAsksFor, comparison_behavior, comparison_text, initial_comparison}
 use Rattle.hx_diff.specs.Outcome.{End, ConfigRefused, run_end, status_of, text_of}
 use Rattle.hx_diff.specs.declared.command.Task.{Task}
-use Rattle.hx_diff.specs.declared.command.Task.TheVariants.{Lines, Counts}
+use Rattle.hx_diff.specs.declared.command.Task.TheVariants.{Lines, Reasons, Counts}
 use Rattle.hx_diff.specs.declared.run_fault.Side.TheVariants.{Old, New}
 
 -- the task of a first word: that each difference is told, or that requests are counted by verdicts
@@ -38,10 +38,30 @@ pub record Asked : Type 0 where
   pub old_name : List ℕ
   pub new_name : List ℕ
 
--- the command of these words, which are `lines OLD NEW` or `counts OLD NEW`
+-- the word that asks for reasons
+abbrev pub is_why : List ℕ → Bool
+is_why word = bytes_eq word (codes "--why")
+
+-- the command of a first word with that one: reasons are told beside each difference
+abbrev pub with_reasons : (word old new : List ℕ) → Option Asked
+with_reasons word old new =
+    if bytes_eq word (codes "lines")
+    then Some (record { task = Reasons; old_name = old; new_name = new })
+    else None
+
+-- the command of four words: `--why` stands before the names or after them
+abbrev pub command_of_four : (word second third fourth : List ℕ) → Option Asked
+command_of_four word second third fourth =
+    if is_why second then with_reasons word third fourth
+    else if is_why fourth then with_reasons word second third
+    else None
+
+-- the command of these words, which are `lines OLD NEW` or `counts OLD NEW`, or the former with
+-- `--why`
 abbrev pub command_of : List (List ℕ) → Option Asked
 command_of (word ∷ old ∷ new ∷ []) =
     option_map (λ task. record { task = task; old_name = old; new_name = new }) (task_of word)
+command_of (word ∷ second ∷ third ∷ fourth ∷ []) = command_of_four word second third fourth
 command_of _ = None
 
 -- What a run is given of one configuration: the environment, what the files hold, as far as that is

@@ -2,9 +2,11 @@ ghost use Rattle.std.specs.Prelude.{◌≡◌, ◌==◌, ◌++◌, ◌∷◌, []
 ghost use Rattle.std.specs.Option.{option_copied, option_map_or};
 ghost use Rattle.hx_base.specs.Bytes.{ascii};
 ghost use Rattle.hx_http.specs.Head.{head_of};
+ghost use Rattle.hx_diff.specs.AnswerView.{parts_of};
 ghost use Rattle.hx_diff.specs.Difference.{both_answers, command_difference, event_difference, host_in, host_of_line};
 ghost use Rattle.hx_diff.specs.Difference.{marked, request_difference, request_words, told_difference};
 
+use crate::detailed_answer::DetailedAnswer;
 use hx_http::{HeadFault, Message, read_head};
 use hx_record::Event;
 use hx_text::{NoMemory, cut_at};
@@ -12,25 +14,25 @@ use itoa::Buffer;
 use std::alloc::Global;
 
 /// Appends what is written of an event with these two answers, where it is the request with this
-/// number or none: nothing where they are the same.
+/// number or none: nothing where the answers are the same, whatever is shown of them.
 pub fn append_difference(
     alloc: Global,
     text: &mut Vec<u8>,
     number: u64,
     event: &Event,
-    old: &[u8],
-    new: &[u8],
+    old: DetailedAnswer<'_>,
+    new: DetailedAnswer<'_>,
 ) -> Result<(), NoMemory>
-    ensures { OnOk result (text.new.items
-        ≡ text.old.items ++ event_difference number event.now old.now new.now) }
+    ensures { OnOk result (text.new.items ≡ text.old.items
+        ++ event_difference number event.now (parts_of old.entry) (parts_of new.entry)) }
 {
-    if old == new {
+    if old.answer == new.answer {
         return Ok(());
     }
-    append_told(alloc, text, number, event, old, new)
+    append_told(alloc, text, number, event, old.shown, new.shown)
 }
 
-/// The same where they aren't.
+/// Appends the same where they differ, by what is shown of both.
 fn append_told(
     alloc: Global,
     text: &mut Vec<u8>,

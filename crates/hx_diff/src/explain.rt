@@ -15,16 +15,17 @@ use hx_program::text_of_status;
 use hx_replay::{Ending, Told};
 
 /// What the program takes, and how it ends.
-pub const USAGE: &[u8] = b"usage: hxdiff lines OLD NEW\n\
+pub const USAGE: &[u8] = b"usage: hxdiff lines [--why] OLD NEW\n\
     \x20      hxdiff counts OLD NEW\n\
     \x20      hxdiff --help\n\
     \x20      hxdiff --version\n\
     \n\
     Both replay the record on standard input through the rules of the files OLD and NEW. lines\n\
     writes where their answers differ: for each such request its number, method, target and host,\n\
-    for each such management command the command, and then both answers. counts writes how many\n\
-    requests have which two verdicts. At the end both write how many requests and commands there\n\
-    were, and how many of them differ.\n\
+    for each such management command the command, and then both answers; with --why, after each\n\
+    answer to a request, the line of the rule that decided it, and why its condition held. counts\n\
+    writes how many requests have which two verdicts. At the end both write how many requests and\n\
+    commands there were, and how many of them differ.\n\
     \n\
     Exit status: 0 nothing differs, 1 something differs, 2 wrong words, 3 a configuration\n\
     refused, 4 record refused, 5 a file or the record can't be read, 6 a difference can't be\n\

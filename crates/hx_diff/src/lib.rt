@@ -11,6 +11,7 @@
 
 mod command;
 mod compare;
+mod detailed_answer;
 mod difference;
 mod engines;
 pub mod explain;

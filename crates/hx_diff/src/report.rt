@@ -1,9 +1,11 @@
 ghost use Rattle.std.specs.Prelude.{◌≡◌, ◌++◌, OnOk, OnErr};
+ghost use Rattle.hx_diff.specs.AnswerView.{parts_of};
 ghost use Rattle.hx_diff.specs.Difference.{event_difference};
 ghost use Rattle.hx_diff.specs.Report.{empty_report, ending_of, report_after, rows_after, told_of};
 ghost use Rattle.hx_diff.specs.Tally.{some_differ};
 
 use crate::command::Task;
+use crate::detailed_answer::DetailedAnswer;
 use crate::difference::append_difference;
 use crate::rows::Rows;
 use crate::tally::Tally;
@@ -49,6 +51,13 @@ impl Report {
         }
     }
 
+    /// What was asked for.
+    pub fn task(&self) -> Task
+        ensures { result ≡ self.now.task }
+    {
+        self.task
+    }
+
     /// How many requests there were so far.
     pub fn requests(&self) -> u64
         ensures { result ≡ self.now.tally.requests }
@@ -69,23 +78,28 @@ impl Report {
         &mut self,
         alloc: Global,
         event: &Event,
-        old: &[u8],
-        new: &[u8],
+        old: DetailedAnswer<'_>,
+        new: DetailedAnswer<'_>,
         answers: &mut Answers,
     ) -> Result<(), NoMemory>
-        ensures ok { OnOk result
-            (answers.new ≡ answers.old ++ told_of self.old event.now old.now new.now) }
-        ensures counts { OnOk result
-            (self.new ≡ report_after self.old event.now old.now new.now) }
+        ensures ok { OnOk result (answers.new ≡ answers.old
+            ++ told_of self.old event.now (parts_of old.entry) (parts_of new.entry)) }
+        ensures counts { OnOk result (self.new
+            ≡ report_after self.old event.now old.entry.answer.now new.entry.answer.now) }
         ensures err { OnErr result (answers.new ≡ answers.old) }
     {
         let number = self.tally.requests.saturating_add(1);
-        self.tally = self.tally.after(event, old, new);
+        self.tally = self.tally.after(event, old.answer, new.answer);
         match self.task {
             Task::Lines => {
                 push_difference(alloc, &mut self.text, number, event, old, new, answers)
             }
-            Task::Counts => count_verdicts(alloc, &mut self.rows, number, event, old, new),
+            Task::Reasons => {
+                push_difference(alloc, &mut self.text, number, event, old, new, answers)
+            }
+            Task::Counts => {
+                count_verdicts(alloc, &mut self.rows, number, event, old.answer, new.answer)
+            }
         }
     }
 
@@ -110,12 +124,12 @@ fn push_difference(
     text: &mut Vec<u8>,
     number: u64,
     event: &Event,
-    old: &[u8],
-    new: &[u8],
+    old: DetailedAnswer<'_>,
+    new: DetailedAnswer<'_>,
     answers: &mut Answers,
 ) -> Result<(), NoMemory>
-    ensures ok { OnOk result (answers.new
-        ≡ answers.old ++ event_difference number event.now old.now new.now) }
+    ensures ok { OnOk result (answers.new ≡ answers.old
+        ++ event_difference number event.now (parts_of old.entry) (parts_of new.entry)) }
     ensures err { OnErr result (answers.new ≡ answers.old) }
 {
     text.clear();

@@ -48,12 +48,14 @@ pub struct Reached {
 /// the events of the record in order by both, OLD first: requests, and lines of the management
 /// socket. `lines` writes for each event with two answers that differ `@@ N METHOD TARGET HOST` or
 /// `@@ cli SESSION TEXT`, the lines of the old answer, each after `- `, and those of the new one,
-/// each after `+ `. `counts` writes nothing before the record's end, and then how many requests
-/// with answers that differ have which two verdicts: `COUNT OLD -> NEW, first N`, or
-/// `COUNT VERDICT, other lines, first N` of two that are the same, in the order of their first
-/// requests. At the end both write how many requests and commands there were, and how many differ.
-/// Differences are written before more of the record is read, at any status (`before_reading`).
-/// Regular expressions are made by `maker`.
+/// each after `+ `. With `--why`, before the names or after them, the lines of an answer to a
+/// request are followed by the one that tells why it has its verdict, `> LINE CONJUNCTION` and the
+/// reasons; where only the reasons of two answers are different, these don't differ. `counts`
+/// writes nothing before the record's end, and then how many requests with answers that differ have
+/// which two verdicts: `COUNT OLD -> NEW, first N`, or `COUNT VERDICT, other lines, first N` of two
+/// that are the same, in the order of their first requests. At the end both write how many requests
+/// and commands there were, and how many differ. Differences are written before more of the record
+/// is read, at any status (`before_reading`). Regular expressions are made by `maker`.
 ///
 /// OLD is read first, and once all its lines are judged the files that it names, each once, in the
 /// order in which they first appear; and only where it is accepted NEW and the files that this one
