@@ -4,6 +4,7 @@ use crate::answer::Answer;
 use crate::case::Case;
 use crate::hxdiff_runs::{ended_by_hxdiff, explained_by_hxdiff, run_hxdiff, told_by_hxdiff};
 use crate::hxeval_runs::{explained_by_hxeval, run_hxeval, told_by_hxeval};
+use crate::hxtrace_runs::{explained_by_hxtrace, run_hxtrace, told_by_hxtrace};
 use crate::machine::Machine;
 use crate::text::word_and_text;
 use hx_cases_base::CaseFault;
@@ -34,7 +35,10 @@ fn status_of(alloc: Global, command: &[u8], machine: &mut Machine) -> Result<u8,
         b"run" => Ok(run_hxeval(alloc, machine).status),
         b"check" => Ok(run_hxeval(alloc, machine).status),
         b"lines" => Ok(run_hxdiff(alloc, machine).status),
+        b"lines --why" => Ok(run_hxdiff(alloc, machine).status),
         b"counts" => Ok(run_hxdiff(alloc, machine).status),
+        b"trace" => Ok(run_hxtrace(alloc, machine).status),
+        b"check t" => Ok(run_hxtrace(alloc, machine).status),
         _ => Err(CaseFault::UnknownCall),
     }
 }
@@ -52,6 +56,8 @@ fn told(alloc: Global, case: &Case, command: &[u8]) -> Result<Answer, CaseFault>
     match command {
         b"run" => told_by_hxeval(alloc, machine_of(alloc, case, command)?),
         b"lines" => told_by_hxdiff(alloc, machine_of(alloc, case, command)?),
+        b"trace" => told_by_hxtrace(alloc, machine_of(alloc, case, command)?),
+        b"check t" => told_by_hxtrace(alloc, machine_of(alloc, case, command)?),
         _ => Err(CaseFault::UnknownCall),
     }
 }
@@ -109,6 +115,7 @@ fn explained(alloc: Global, text: &[u8]) -> Result<Answer, CaseFault> {
     match program {
         b"hxeval" => explained_by_hxeval(alloc, text),
         b"hxdiff" => explained_by_hxdiff(alloc, text),
+        b"hxtrace" => explained_by_hxtrace(alloc, text),
         _ => Err(CaseFault::BadArguments),
     }
 }

@@ -145,11 +145,16 @@ impl Case {
         Ok(())
     }
 
-    /// The words of this command over the configurations.
+    /// The words of this command over the configurations: what follows its first word follows their
+    /// names.
     pub fn words(&self, alloc: Global, command: &[u8]) -> Result<Vec<Vec<u8>>, CaseFault> {
-        let mut words = vec![in alloc; command.to_vec(alloc)?]?;
+        let (word, last) = word_and_text(command);
+        let mut words = vec![in alloc; word.to_vec(alloc)?]?;
         for name in self.names.as_slice() {
             words.push(name.as_slice().to_vec(alloc)?)?;
+        }
+        if !last.is_empty() {
+            words.push(last.to_vec(alloc)?)?;
         }
         Ok(words)
     }

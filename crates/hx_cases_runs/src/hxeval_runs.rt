@@ -4,10 +4,10 @@ use crate::machine::Machine;
 use hx_cases_base::CaseFault;
 use hx_outside::MemSink;
 use hx_replay::Told;
-use hx_run::RunFault;
 use hx_run::explain::explain;
-use hx_run::run::{Ended, run_to_end};
+use hx_run::run::run_to_end;
 use hx_run::tell::tell;
+use hx_run::{Ended, RunFault};
 use std::alloc::Global;
 
 /// How hxeval ends on a machine.
@@ -45,11 +45,7 @@ pub fn told_by_hxeval(alloc: Global, mut machine: Machine) -> Result<Answer, Cas
 /// file `names.map`, and the last expression that was too large `(a|b)`.
 pub fn explained_by_hxeval(alloc: Global, text: &[u8]) -> Result<Answer, CaseFault> {
     let given = read_given(text)?;
-    let ended = Ended {
-        status: given.status,
-        fault: fault_of(given)?,
-        requests: 0,
-    };
+    let ended = given_end(given)?;
     let told = Told {
         name: b"deny.cfg",
         place: b"",
@@ -65,6 +61,15 @@ pub fn explained_by_hxeval(alloc: Global, text: &[u8]) -> Result<Answer, CaseFau
         }),
         Err(_) => Err(CaseFault::NoMemory),
     }
+}
+
+/// A run with this status and this fault.
+pub fn given_end(given: Given<'_>) -> Result<Ended, CaseFault> {
+    Ok(Ended {
+        status: given.status,
+        fault: fault_of(given)?,
+        requests: 0,
+    })
 }
 
 /// The fault of this name with these numbers.

@@ -1,13 +1,13 @@
-//! Cases of whole runs of hxeval and hxdiff: reads lines from standard input, of which each says a
-//! part of a run or makes a call, and writes a line for each. A part, a comment (`#`) and an empty
-//! line have an empty one, a call has what it answers, and a line that is neither has the reason.
-//! Between two words stands one blank. In a text `~` stands for a line feed, `^` for CR and a line
-//! feed, and a grave accent for `^` itself; in an answer `~` stands for a line feed.
+//! Cases of whole runs of hxeval, hxdiff and hxtrace: reads lines from standard input, of which
+//! each says a part of a run or makes a call, and writes a line for each. A part, a comment (`#`)
+//! and an empty line have an empty one, a call has what it answers, and a line that is neither has
+//! the reason. Between two words stands one blank. In a text `~` stands for a line feed, `^` for CR
+//! and a line feed, and a grave accent for `^` itself; in an answer `~` stands for a line feed.
 //!
 //! The parts:
 //!
-//! - `config TEXT` begins a run of hxeval over a configuration named `c`; its record is the line
-//!   that opens connection 1.
+//! - `config TEXT` begins a run of hxeval or hxtrace over a configuration named `c`; its record is
+//!   the line that opens connection 1.
 //! - `old TEXT` begins a run of hxdiff over configurations named `o` and `n`, of which `new TEXT`
 //!   has the second; its record is the same.
 //! - `name NAME` asks for another configuration in place of the last one.
@@ -24,9 +24,9 @@
 //!
 //! The calls, of which each answers a status and, after a blank, a text, where there is one:
 //!
-//! - `run`, `check`, `lines` and `counts` are these commands over the configurations: what they
-//!   write.
-//! - `told COMMAND`, of `run` or `lines`: what standard error is told.
+//! - `run`, `check`, `lines`, `lines --why`, `counts` and `trace` are these commands over the
+//!   configurations: what they write. `check t` is that of hxtrace, with the file `t` as its trace.
+//! - `told COMMAND`, of `run`, `lines`, `trace` or `check t`: what standard error is told.
 //! - `names COMMAND`: the names of the files that were read, in their order, a line each.
 //! - `left COMMAND`: how many bytes of the record weren't read.
 //! - `command WORD ..` is hxdiff with these words: the fault that ended it, the configuration that
@@ -48,6 +48,7 @@ mod faults;
 mod given;
 mod hxdiff_runs;
 mod hxeval_runs;
+mod hxtrace_runs;
 mod lines;
 mod machine;
 mod text;
