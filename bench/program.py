@@ -1,7 +1,53 @@
-"""Builds and runs a measuring program over the crates of this repository, for the scripts beside this file."""
+"""Builds and runs programs of this repository, and measuring programs over its crates, for the scripts beside this file."""
 import contextlib, os, shutil, subprocess, sys, tempfile
 
 TOP = os.path.dirname(os.path.dirname(os.path.abspath(__file__)))
+FRONTEND = os.path.join('examples', 'frontend', 'frontend.cfg')
+HEAD = (b'GET /a/b?c=1 HTTP/1.1\r\nHost: books.example\r\nUser-Agent: Mozilla/5.0 (X11; Linux x86_64)\r\n'
+        b'Accept: text/html\r\nX-Forwarded-Proto: https\r\nCookie: a=1; preview=on\r\nX-Trace: 1\r\n\r\n')
+
+
+def built(name):
+    """The path of a program, which is built first where its sources are newer."""
+    made = subprocess.run([os.path.join(TOP, name), '--help'], stdout=subprocess.DEVNULL, check=False)
+    if made.returncode != 0:
+        sys.exit(f'{name} can\'t be built')
+    return os.path.join(TOP, 'crates', name, 'out', name)
+
+
+def once(words, record):
+    """The processor seconds of one run; the script ends where it fails."""
+    with open(record, 'rb') as source:
+        child = subprocess.Popen(words, stdin=source, stdout=subprocess.DEVNULL, cwd=TOP)
+        _, status, usage = os.wait4(child.pid, 0)
+    if status != 0:
+        sys.exit(f'{words}: status {os.waitstatus_to_exitcode(status)}')
+    return usage.ru_utime + usage.ru_stime
+
+
+def beside_run(record, commands):
+    """Prints the least processor time of five runs of `hxeval run` over a record under FRONTEND, and of each command, words
+    that begin with a program's name, and what that is of hxeval's."""
+    hxeval = built('hxeval')
+    least = min(once([hxeval, 'run', FRONTEND], record) for _ in range(5))
+    print(f'hxeval run: {least:.2f} s')
+    for name, *words in commands:
+        own = min(once([built(name), *words], record) for _ in range(5))
+        print(f'{name} {words[0]}: {own:.2f} s, {own / least:.2f} times that')
+
+
+@contextlib.contextmanager
+def frontend_record(words, usage):
+    """The name of a record of equal requests, as many as the one word of a command line says, or 100,000 without one."""
+    if len(words) > 1 or not all(word.isdecimal() for word in words):
+        sys.exit(usage)
+    count = int(words[0]) if words else 100_000
+    with tempfile.NamedTemporaryFile() as record:
+        record.write(b'conn 1 192.0.2.33 40000 198.51.100.1 80\n')
+        record.write(b'req 1 %d\n%s\n' % (len(HEAD), HEAD) * count)
+        record.write(b'close 1\n')
+        record.flush()
+        yield record.name
 
 
 @contextlib.contextmanager
