@@ -10,7 +10,6 @@ use Rattle.hx_fetch.specs.declared.world.Conn.{Conn}
 use Rattle.hx_http.specs.Parts.{Parts}
 use Rattle.hx_sample.specs.Find.{first_item}
 use Rattle.hx_rules.specs.declared.actions.Continuation.{Continuation}
-use Rattle.hx_rules.specs.declared.deciding.Deciding.TheVariants as by
 use Rattle.hx_rules.specs.declared.verdict.Verdict.{Verdict}
 use Rattle.hx_rules.specs.Deciding.{deciding_in, deciding_of, ending_after, ending_rule, first_from}
 use Rattle.hx_rules.specs.EffectView.{effect_of, evaluation_of, rule_effect}
