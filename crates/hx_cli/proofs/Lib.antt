@@ -13,3 +13,4 @@ pub mod CountLemmas
 pub mod UnseenReferenceLemmas
 pub mod UnseenCommandLemmas
 pub mod UnseenLineLemmas
+pub mod RefusalLemmas

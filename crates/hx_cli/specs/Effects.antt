@@ -1,6 +1,6 @@
 -- What a command makes of the references, and what it is answered (HAProxy management guide 2.4,
 -- section 9.3).
-use Rattle.std.specs.Prelude.{ℕ, Bool, List, [], ◌∷◌, drop, length, map, sum, codes, take, Option, None, option_and_then, option_map, Result, Ok, Err, if◌then◌else◌}
+use Rattle.std.specs.Prelude.{ℕ, ◌<◌, Bool, List, [], ◌∷◌, drop, length, map, sum, codes, take, Option, None, option_and_then, option_map, Result, Ok, Err, if◌then◌else◌}
 use Rattle.std.specs.FinMap as finite
 use Rattle.std.specs.Int.{from_be_bytes, w64}
 use Rattle.std.specs.List.{filter}
@@ -38,7 +38,8 @@ pub record Effect : Type 0 where
 
 -- ---- refusals
 
--- the code of a refusal; two faults say nothing of the command, and have none
+-- the code of a refusal; two faults say nothing of the command, have none, and refuse no command
+-- (the law `refusals_have_codes`)
 abbrev pub code_of : RefFault → ℕ
 code_of fault.UnknownRef = 1
 code_of fault.BadVersion = 2
@@ -51,6 +52,10 @@ code_of fault.VersionFull = 8
 code_of fault.VersionWorn = 9
 code_of fault.NoMoreVersions = 10
 code_of _ = 0
+
+-- a fault has a code
+abbrev pub HasCode : RefFault → Type 0
+HasCode fault = 0 < code_of fault
 
 -- a command that is refused with this code changes nothing
 abbrev pub refused : ℕ → References → Effect

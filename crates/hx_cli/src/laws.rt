@@ -1,7 +1,14 @@
 //! Laws of the definitions.
-ghost use Rattle.std.specs.Prelude.{◌≡◌, ◌↔◌, true, false, Some, List, ℕ, option_map};
+ghost use Rattle.std.specs.Prelude.{◌≡◌, ◌↔◌, Bool, true, false, Some, IfErr, IfSome, List, Option, ℕ, option_map};
+ghost use Rattle.hx_sample.specs.Find.{Entry};
+ghost use Rattle.hx_refs.specs.Additions.{addition_fault, Pair};
+ghost use Rattle.hx_refs.specs.Changes.{commit_fault, deletion_fault, fault_at, preparation_fault, value_fault};
+ghost use Rattle.hx_refs.specs.Naming.{resolution};
 ghost use Rattle.hx_refs.specs.References.{References};
+ghost use Rattle.hx_refs.specs.declared.limits.Limits.{Limits};
+ghost use Rattle.hx_refs.specs.declared.side.Side.{Side};
 ghost use Rattle.hx_cli.specs.Commands.{command_of, Spells};
+ghost use Rattle.hx_cli.specs.Effects.{HasCode};
 ghost use Rattle.hx_cli.specs.Payloads.{line_effect, OpenPayloads};
 ghost use Rattle.hx_cli.specs.Unseen.{is_commit_line, is_line_on_version, line_command, line_reply_without_count, AreAlike};
 ghost use Rattle.hx_cli.specs.declared.command.Command.{Command};
@@ -41,4 +48,22 @@ pub fn other_lines_are_answered_alike()
         (line_effect session text others second).refs
         (line_effect session text payloads first).payloads
         (line_effect session text others second).payloads }
+{}
+
+/// Whatever a command is refused with has a code, so code 0 says that it was done: a word that
+/// names no reference for it, and the fault of an addition, of a removal, of a change of a value,
+/// of a preparation and of a commit.
+pub fn refusals_have_codes()
+    ensures named { (refs : References) (word : List ℕ) (side : Side)
+        → IfErr (resolution refs word side) HasCode }
+    ensures added { (refs : References) (r : ℕ) (ver : Option ℕ) (pairs : List Pair)
+        → IfSome (addition_fault refs r ver pairs) HasCode }
+    ensures deleted { (refs : References) (r : ℕ) (ver : Option ℕ) (test : Entry → Bool)
+        → IfSome (fault_at refs r (deletion_fault ver test)) HasCode }
+    ensures changed { (refs : References) (r : ℕ) (ver : Option ℕ) (test : Entry → Bool)
+        (value : List ℕ) → IfSome (fault_at refs r (value_fault ver test value)) HasCode }
+    ensures prepared { (refs : References) (r : ℕ) (limits : Limits)
+        → IfSome (fault_at refs r (preparation_fault limits)) HasCode }
+    ensures committed { (refs : References) (r ver : ℕ)
+        → IfSome (fault_at refs r (commit_fault ver)) HasCode }
 {}
