@@ -13,6 +13,10 @@ const KEPT: usize = 65_536;
 /// processor compares at once.
 const BLOCK: usize = 224;
 
+/// So many bytes are copied at once: the library copies longer texts by an instruction that is
+/// counted once for each byte.
+const PART: usize = 2048;
+
 /// How many bytes a request may have.
 const LONGEST: u64 = 1_048_576;
 
@@ -78,7 +82,10 @@ impl RecentBytes {
             mem::swap(&mut self.earlier, &mut self.last);
             self.last.clear();
         }
-        self.last.extend_from_slice(bytes)
+        for part in bytes.chunks(PART) {
+            self.last.extend_from_slice(part)?;
+        }
+        Ok(())
     }
 
     fn line_at(&self, alloc: Global, offset: u64) -> Option<RecordLine> {

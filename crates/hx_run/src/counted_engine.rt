@@ -68,6 +68,7 @@ impl Answerer for CountedEngine {
 }
 
 /// Counts an event that is a request.
+#[inline(always)]
 pub(crate) fn count_request(event: &Event, requests: &mut u64) {
     if let Event::Req { .. } = event {
         *requests = requests.saturating_add(1);
