@@ -4,8 +4,7 @@ use Rattle.std.specs.Prelude.{drop, option_map, slice_get}
 use Rattle.std.proofs.lemmas.Option.{none-some, same_Some}
 use Rattle.hx_refs.specs.References.{References}
 use Rattle.hx_sample.specs.Tables.{TableHead}
-use Rattle.hx_trace.specs.Statements.{number_at}
-use Rattle.hx_trace.specs.Why.{head_numbers}
+use Rattle.hx_trace.specs.Why.{head_numbers, reference_number}
 
 -- the position of the reference that a head searches, if there is such a head
 abbrev pub list_at : List TableHead → ℕ → Option ℕ
@@ -13,20 +12,20 @@ list_at heads h = option_map (λ known. known.list) (slice_get heads h)
 
 -- the numbers of the heads from one on
 abbrev pub numbers_left : References → List TableHead → List ℕ
-numbers_left refs heads = map (λ known. number_at refs known.list) heads
+numbers_left refs heads = map (λ known. reference_number refs known.list) heads
 
-record StandsAt (heads : List TableHead) (h r : ℕ) : Type 0 where
+record HasHead (heads : List TableHead) (h r : ℕ) : Type 0 where
   known : TableHead
   list_is : known.list ≡ r
   left : drop h heads ≡ known ∷ drop (suc h) heads
   below : h < length heads
 
-stands_at : (heads : List TableHead) (h r : ℕ) → list_at heads h ≡ Some r → StandsAt heads h r
-stands_at [] h r is = absurd (none-some r is)
-stands_at (known ∷ heads) zero r is =
+has_head : (heads : List TableHead) (h r : ℕ) → list_at heads h ≡ Some r → HasHead heads h r
+has_head [] h r is = absurd (none-some r is)
+has_head (known ∷ heads) zero r is =
     record { known = known; list_is = same_Some known.list r is; left = refl; below = omega arith }
-stands_at (known ∷ heads) (suc h) r is =
-    let s = stands_at heads h r is in
+has_head (known ∷ heads) (suc h) r is =
+    let s = has_head heads h r is in
     record { known = s.known; list_is = s.list_is; left = s.left; below = let b = s.below in omega (arith, b) }
 
 none_left : (heads : List TableHead) (h : ℕ) → list_at heads h ≡ None → drop h heads ≡ []
@@ -37,7 +36,7 @@ none_left (known ∷ heads) (suc h) is = none_left heads h is
 
 -- there is a head of this number
 pub is_below : (heads : List TableHead) (h r : ℕ) → list_at heads h ≡ Some r → h < length heads
-is_below heads h r is = (stands_at heads h r is).below
+is_below heads h r is = (has_head heads h r is).below
 
 one_more : (done more : List ℕ) (n : ℕ) → (done ++ n ∷ []) ++ more ≡ done ++ n ∷ more
 one_more [] more n = refl
@@ -46,13 +45,13 @@ one_more (d ∷ done) more n = ap (λ (ns : List ℕ). d ∷ ns) (one_more done 
 -- its number comes next
 pub number_next : (refs : References) (done : List ℕ) (h r : ℕ) → list_at refs.heads h ≡ Some r
     → done ++ numbers_left refs (drop h refs.heads) ≡ head_numbers refs
-    → (done ++ number_at refs r ∷ []) ++ numbers_left refs (drop (h + 1) refs.heads) ≡ head_numbers refs
+    → (done ++ reference_number refs r ∷ []) ++ numbers_left refs (drop (h + 1) refs.heads) ≡ head_numbers refs
 number_next refs done h r is so_far =
-    let s = stands_at refs.heads h r is in
+    let s = has_head refs.heads h r is in
     let next : h + 1 ≡ suc h = omega arith in
-    one_more done (numbers_left refs (drop (h + 1) refs.heads)) (number_at refs r)
-    ∙ ap (λ (n : ℕ). done ++ number_at refs r ∷ numbers_left refs (drop n refs.heads)) next
-    ∙ ap (λ (n : ℕ). done ++ number_at refs n ∷ numbers_left refs (drop (suc h) refs.heads)) (sym s.list_is)
+    one_more done (numbers_left refs (drop (h + 1) refs.heads)) (reference_number refs r)
+    ∙ ap (λ (n : ℕ). done ++ reference_number refs r ∷ numbers_left refs (drop n refs.heads)) next
+    ∙ ap (λ (n : ℕ). done ++ reference_number refs n ∷ numbers_left refs (drop (suc h) refs.heads)) (sym s.list_is)
     ∙ ap (λ (heads : List TableHead). done ++ numbers_left refs heads) (sym s.left)
     ∙ so_far
 

@@ -2,6 +2,7 @@ mod HeadWalkLemmas
 mod NumberLemmas
 mod RankLemmas
 mod ScanLemmas
+mod SoundLineLemmas
 mod StandingLemmas
 mod StayingNumberLemmas
 mod WayLemmas

@@ -23,8 +23,8 @@ use Rattle.hx_refs.specs.declared.Limits.{Limits}
 use Rattle.hx_rules.specs.Programs.{Rules, no_rules}
 use Rattle.hx_sample.specs.Tables.{TableHead}
 use Rattle.hx_words.specs.Variable.{Env}
-use Rattle.hx_trace.specs.Statements.{LinesNumber, NumberedRules, number_at}
-use Rattle.hx_trace.specs.Why.{head_numbers}
+use Rattle.hx_trace.specs.Statements.{LinesNumber, NumberedRules}
+use Rattle.hx_trace.specs.Why.{head_numbers, reference_number}
 
 -- ---- numbers, by the heads and the numbers of all references
 
@@ -42,16 +42,16 @@ id_or_none : (found : Option Reference) → option_map_or id_of found 0 ≡ unwr
 id_or_none None = refl
 id_or_none (Some reference) = refl
 
-number_among : (refs : References) (r : ℕ) → number_at refs r ≡ unwrap_or (slice_get (ids_of refs) r) 0
+number_among : (refs : References) (r : ℕ) → reference_number refs r ≡ unwrap_or (slice_get (ids_of refs) r) 0
 number_among refs r =
     id_or_none (slice_get refs.references r)
     ∙ ap (λ (o : Option ℕ). unwrap_or o 0) (sym (slice_get-map id_of refs.references r))
 
 these_among : (refs : References) (heads : List TableHead)
-    → map (λ known. number_at refs known.list) heads ≡ numbers_among (ids_of refs) heads
+    → map (λ known. reference_number refs known.list) heads ≡ numbers_among (ids_of refs) heads
 these_among refs [] = refl
 these_among refs (known ∷ heads) =
-    ap (λ (n : ℕ). n ∷ map (λ known. number_at refs known.list) heads) (number_among refs known.list)
+    ap (λ (n : ℕ). n ∷ map (λ known. reference_number refs known.list) heads) (number_among refs known.list)
     ∙ ap (λ (ns : List ℕ). unwrap_or (slice_get (ids_of refs) known.list) 0 ∷ ns) (these_among refs heads)
 
 -- references with the same heads and numbers have the same numbers of heads

@@ -1,7 +1,6 @@
 -- The statements of a configuration once more, beside what is loaded of it, and the numbers by
 -- which reasons name its references (HAProxy management guide 2.4, section 9.3, `show acl`).
-use Rattle.std.specs.Prelude.{◌≡◌, ℕ, List, slice_get}
-use Rattle.std.specs.Option.{option_map_or}
+use Rattle.std.specs.Prelude.{◌≡◌, ℕ, List}
 use Rattle.hx_refs.specs.References.{References}
 use Rattle.hx_refs.specs.declared.Limits.{Limits}
 use Rattle.hx_rules.specs.Programs.{Rules}
@@ -16,10 +15,6 @@ pub record NumberedRules : Type 0 where
   pub program : Rules
   pub numbers : List ℕ
 
--- the number of the reference at a position
-abbrev pub number_at : References → ℕ → ℕ
-number_at refs r = option_map_or (λ reference. reference.id) (slice_get refs.references r) 0
-
 -- the lines of a configuration bring this program, and references that have these numbers
 pub record LinesNumber (env : Env) (config : List ℕ) (given : NumberedRules) : Type 0 where
   pub limits : Limits
@@ -27,8 +22,8 @@ pub record LinesNumber (env : Env) (config : List ℕ) (given : NumberedRules) :
   pub brought : LinesBring env limits config given.program references
   pub numbers_are : given.numbers ≡ head_numbers references
 
--- the lines of a configuration have no fault, unless it is a regular expression or a pattern that
--- is none
+-- the first fault of the lines of a configuration, if they have one, is a text that is no regular
+-- expression or no pattern
 abbrev pub HasPatternFaultsAlone : Env → List ℕ → Type 0
 HasPatternFaultsAlone env config =
     (refusal : Refusal) → IsRefusedByLines env config refusal → refusal.code ≡ bad_pattern

@@ -1,4 +1,6 @@
--- Which statement decided a request, why its condition held, and how that is written.
+-- Which statement decided a request, why its condition held, and how that is written (HAProxy
+-- configuration manual 2.4, sections 4.2, 7.1 and 7.2; the numbers of references and of entries as
+-- in the management guide 2.4, section 9.3, `show acl`).
 use Rattle.std.specs.Prelude.{ℕ, Bool, false, List, [], ◌++◌, codes, map, slice_get, Option, None, Some}
 use Rattle.std.specs.Fmt.{decimal}
 use Rattle.std.specs.List.{flat_map}
@@ -51,12 +53,13 @@ cause_of view conn rules state =
 
 -- ---- reasons
 
+-- the number of the reference at a position
+abbrev pub reference_number : References → ℕ → ℕ
+reference_number refs r = option_map_or (λ reference. reference.id) (slice_get refs.references r) 0
+
 -- for each head, in their order, the number of the reference that it searches
 abbrev pub head_numbers : References → List ℕ
-head_numbers refs =
-    map
-    (λ known. option_map_or (λ reference. reference.id) (slice_get refs.references known.list) 0)
-    refs.heads
+head_numbers refs = map (λ known. reference_number refs known.list) refs.heads
 
 -- what a term holds by, where heads search references of these numbers
 abbrev pub reason_of : List ℕ → Ground → Reason

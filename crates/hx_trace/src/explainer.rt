@@ -65,7 +65,7 @@ impl Judge for Explainer {
         refs: &mut Refs,
         maker: &mut M,
     ) -> Result<Verdict, StepFault> {
-        let (verdict, cause) = explained::<M, Brand>(
+        let (verdict, cause) = explained_by_searches::<M, Brand>(
             alloc,
             rules,
             message,
@@ -91,7 +91,7 @@ impl Judge for Explainer {
 
 /// The verdict of the rules on a request, and what decided it, with the steps of their searches in
 /// the ledger of `blank`.
-fn explained<M: ReMaker, L: Ledger>(
+fn explained_by_searches<M: ReMaker, L: Ledger>(
     alloc: Global,
     rules: &Program,
     message: &mut Message,

@@ -36,7 +36,8 @@ impl KeptLine {
         }
     }
 
-    /// Keeps the line of a request that this decided, where the references are these.
+    /// Keeps the line of a request that this decided, where the references are these. `NoMemory`
+    /// where memory runs out; no line is kept then.
     pub(crate) fn keep(&mut self, refs: &Refs, cause: &Cause) -> Result<(), NoMemory>
         ensures { OnOk result (self.new ≡ cause_text refs.now.content cause.now) }
     {

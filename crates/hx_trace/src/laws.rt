@@ -1,10 +1,11 @@
-//! What ties the numbers of explained statements to what is loaded of the same configuration: laws
-//! of the definitions, the contracts of functions that do nothing.
+//! What ties explained statements, and their numbers, to what is loaded of the same configuration:
+//! laws of the definitions, the contracts of functions that do nothing.
 ghost use Rattle.std.specs.Prelude.{◌≡◌, ℕ, List};
 ghost use Rattle.hx_base.specs.Pairs.{NamedBytes};
 ghost use Rattle.hx_core.specs.World.{refs_view};
 ghost use Rattle.hx_fetch.specs.declared.Conn.{Conn};
-ghost use Rattle.hx_load.specs.Loads.{GivesProgram};
+ghost use Rattle.hx_filling.specs.Refusals.{Refusal};
+ghost use Rattle.hx_load.specs.Loads.{GivesProgram, IsRefusedByLines, LinesBring};
 ghost use Rattle.hx_refs.specs.References.{References};
 ghost use Rattle.hx_refs.specs.declared.Limits.{Limits};
 ghost use Rattle.hx_rules.specs.Programs.{Rules};
@@ -13,6 +14,20 @@ ghost use Rattle.hx_rules.specs.Verdicts.{evaluation};
 ghost use Rattle.hx_trace.specs.Statements.{LinesNumber, NumberedRules};
 ghost use Rattle.hx_trace.specs.Why.{cause_of, explained, head_numbers, told_why, why_text};
 ghost use Rattle.hx_words.specs.Variable.{Env};
+
+/// The lines of a configuration of which a program is loaded have no fault, nor have those that
+/// bring one. So they are as `Explained::new` asks: it follows that their first fault, if they had
+/// one, would be a pattern's.
+pub fn what_loads_has_no_fault_in_its_lines()
+    ensures brought { (env : Env) (limits : Limits) (config : List ℕ)
+        (program : Rules) (references : References)
+        → LinesBring env limits config program references
+        → (refusal : Refusal) → ¬ (IsRefusedByLines env config refusal) }
+    ensures loaded { (env : Env) (limits : Limits) (files : NamedBytes) (config : List ℕ)
+        (program : Rules) (references : References)
+        → GivesProgram env limits files config program references
+        → (refusal : Refusal) → ¬ (IsRefusedByLines env config refusal) }
+{}
 
 /// The statements that a configuration's lines give are its program as it is loaded, and their
 /// numbers those of the references that are loaded, whatever its files hold and under any limits.

@@ -1,14 +1,13 @@
 ghost use Rattle.std.specs.Prelude.{◌≡◌, IfOk};
-ghost use Rattle.hx_trace.specs.Statements.{number_at};
-ghost use Rattle.hx_trace.specs.Why.{head_numbers};
+ghost use Rattle.hx_trace.specs.Why.{head_numbers, reference_number};
 
 use hx_refs::Refs;
 use hx_text::NoMemory;
 use std::alloc::Global;
 
 /// The number of the reference at the position `r`, or 0 where there are no more than `r`.
-fn number_at(refs: &Refs, r: u32) -> u32
-    ensures { result ≡ number_at refs.now.content r }
+fn reference_number(refs: &Refs, r: u32) -> u32
+    ensures { result ≡ reference_number refs.now.content r }
 {
     if r < refs.len() { refs.info(r).id } else { 0 }
 }
@@ -22,7 +21,7 @@ pub(crate) fn head_numbers(alloc: Global, refs: &Refs) -> Result<Vec<u32>, NoMem
     let mut numbers = Vec::new(alloc);
     let mut head = 0u32;
     'heads: while let Some(r) = refs.reference_of(head) {
-        numbers.push(number_at(refs, r))?;
+        numbers.push(reference_number(refs, r))?;
         let Some(next) = head.checked_add(1) else {
             return Err(NoMemory);
         };

@@ -25,8 +25,9 @@ use std::mem;
 use std::sync::ledger::{Blank, Ledger};
 
 /// Judges the requests of an engine, and tells of each what an [`Explainer`](crate::Explainer)
-/// tells, but over [`PlainTables`]: no verdict and no reason comes from an index. Contracts see the
-/// line that there is to tell of the request that was judged last.
+/// tells, but over [`PlainTables`]. That no verdict and no reason comes from an index, but those of
+/// regular expressions, can be seen by reading it; no clause says so. Contracts see the line that
+/// there is to tell of the request that was judged last.
 #[derive(Drop)]
 pub struct PlainExplainer {
     line: KeptLine,

@@ -58,8 +58,10 @@ pub(crate) fn new_mark(alloc: Global) -> Result<Box<Cell<bool>>, NoMemory> {
 /// one, and asks no index. Contracts see the references.
 ///
 /// A search by regular expressions, for which there is no index, is that of the references. Any
-/// other takes no step in an index (`unasked`). Where memory runs out while it looks at the entries
-/// it mustn't fail: the references are asked then, in steps of their own, and that is noted.
+/// other counts no step in the ledger that it is lent (`unless_reg`). Where memory runs out while
+/// it looks at the entries it mustn't fail: the references are asked then, in steps of their own,
+/// and that is noted. That it asks them nowhere else can be seen by reading it. What stands in the
+/// references once the tables are gone no clause says.
 #[derive(Drop)]
 pub struct PlainTables<'a> {
     refs: &'a mut Refs,
@@ -160,7 +162,7 @@ impl<'a> Tables for PlainTables<'a> {
         ensures found { IfOk result (λ hit. option_map entry_of hit
             ≡ found_at self.now.heads (searched_lists self.now) head (value_of sample.now)) }
         ensures free { IfSome (slice_get self.now.heads head) (λ h. h.by ≢ By.Reg → IsOk result) }
-        ensures unasked { IfSome (slice_get self.now.heads head) (λ h. h.by ≢ By.Reg
+        ensures unless_reg { IfSome (slice_get self.now.heads head) (λ h. h.by ≢ By.Reg
             → steps.new ≡ steps.old) }
     {
         let Some(way) = way_of(self.refs, head) else {

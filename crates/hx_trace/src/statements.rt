@@ -51,10 +51,13 @@ impl Explained {
     /// environment, of which the first pair of a name counts. Regular expressions are made by
     /// `maker`. No file is read.
     ///
-    /// The lines have no fault, unless it is one of regular expressions and patterns (code 16).
-    /// `BadPattern` only where they have such a fault. `BadType` never. `TooLarge` only where the
-    /// maker's count of texts that were too large rose, and the last of them is one that a line has
-    /// read as an expression. `NoMemory` where memory runs out.
+    /// The first fault of the lines, if they have one, is a text that is no regular expression or
+    /// no pattern (code 16). `BadPattern` only where they have such a fault. `BadType` never.
+    /// `TooLarge` only where the maker's count of texts that were too large rose, and the last of
+    /// them is one that a line has read as an expression. `NoMemory` where memory runs out, and
+    /// where the number of a head has no room in 32 bits.
+    ///
+    /// HAProxy configuration manual 2.4, sections 2.1, 2.2, 4, 7.1, 7.2 and 7.3.
     pub fn new<M: ReMaker>(
         alloc: Global,
         config: &[u8],
@@ -97,9 +100,10 @@ fn numbered(alloc: Global, program: Program, refs: &Refs) -> Result<Explained, N
 /// and what each of its terms held by, in the state in which the condition was judged. The searches
 /// in `tables` are counted in `steps`.
 ///
-/// `TooLarge` only where the maker's count of texts that were too large rose. `NoMemory` where
-/// memory runs out. After a fault the message, the variables and the tables stand as the first of
-/// the rules left them, some number of them.
+/// `TooLarge` only where the maker's count of texts that were too large rose, and the last of them
+/// is the key of a change for which a rule asks. `NoMemory` where memory runs out, and where the
+/// number of the conjunction has no room in 32 bits. After a fault the message, the variables and
+/// the tables stand as the first of the rules left them, some number of them.
 ///
 /// The heads and lists that the statements name are some of the tables'.
 ///

@@ -8,7 +8,8 @@ use hx_text::NoMemory;
 use std::alloc::Global;
 use std::marker::Model;
 
-/// What a term of a condition holds by.
+/// What a term of a condition holds by (HAProxy configuration manual 2.4, sections 7.1 and 7.2; the
+/// numbers as in the management guide 2.4, section 9.3, `show acl`).
 #[derive(Clone, Copy, Debug, PartialEq, Eq)]
 pub enum Reason {
     /// the term is negated, and its ACL doesn't hold
@@ -34,7 +35,7 @@ impl Model for Reasons {
     ghost view = { λ reasons. reasons.reasons.items };
 }
 
-/// Why a request has its verdict.
+/// Why a request has its verdict (HAProxy configuration manual 2.4, sections 4.2 and 7.2).
 #[derive(Drop)]
 pub struct Why {
     /// the number of the line of the statement that decided, counted from 1, or 0 where none did

@@ -15,7 +15,7 @@ heads-smaller c =
 
 pub heads-preserved : goal.heads-preserved
 heads-preserved c = record {
-  so_far = rw (c.in_ok-push.ensures.items, c.number_at.ensures, c.in-Some-checked_add.ensures.1)
+  so_far = rw (c.in_ok-push.ensures.items, c.reference_number.ensures, c.in-Some-checked_add.ensures.1)
       (number_next c.args.refs.now.content c.heads.numbers.items c.heads.head c.in-Some.r
       (sym c.reference_of.ensures ∙ c.in-Some.is) c.heads.invariant.so_far);
 }
