@@ -31,7 +31,7 @@ use Rattle.hx_run.specs.declared.run_fault.RunFault.TheVariants as run
 use Rattle.hx_run.proofs.RunLemmas.{IsConfig, ReadsConfig, files_in, files_in_are, fits, here, holds}
 use Rattle.hx_trace_run.specs.CheckView.{FindsBeside, FindsCheck, FindsNamed, IsFound, LoadsConfig, LoadsTo, program_of}
 use Rattle.hx_trace_run.specs.Checking.{CheckReads, CheckSetting, CheckSourceFails, IsFile, TakesUnrefused, trace_setting}
-use Rattle.hx_trace_run.specs.declared.comparison.Finding.{Finding}
+use Rattle.hx_trace_run.specs.declared.agreement.Finding.{Finding}
 
 -- ---- the configuration
 

@@ -8,12 +8,12 @@ use Rattle.hx_record.specs.declared.Placed.{Placed}
 use Rattle.hx_replay.specs.Behavior.{Behavior}
 use Rattle.hx_replay.specs.Outcome.{Outcome, ReplayEnd, RecordEnd, RefusedAt}
 use Rattle.hx_replay.specs.Replay.{ItemsAskFor, replay_outcome}
-use Rattle.hx_trace_run.specs.ComparisonView.{CheckAsksFor, CheckState, check_behavior, comparison_of}
-use Rattle.hx_trace_run.proofs.ComparisonLemmas.{goes_on}
+use Rattle.hx_trace_run.specs.AgreementView.{CheckAsksFor, CheckState, check_behavior, agreement_of}
+use Rattle.hx_trace_run.proofs.AgreementLemmas.{goes_on}
 
 -- a state beside a trace and a text
 abbrev pub beside : {S : Type 0} → (trace text : List ℕ) → S → CheckState S
-beside trace text state = record { state = state; comparison = comparison_of trace text }
+beside trace text state = record { state = state; agreement = agreement_of trace text }
 
 -- the end of a replay that ends so with this text
 abbrev pub check_end : {S : Type 0} → (trace text : List ℕ) → ReplayEnd S → ReplayEnd (CheckState S)

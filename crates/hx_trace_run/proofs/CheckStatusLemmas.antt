@@ -16,10 +16,10 @@ use Rattle.hx_run.specs.declared.run_fault.RunFault.{RunFault}
 use Rattle.hx_run.specs.declared.run_fault.RunFault.TheVariants as run
 use Rattle.hx_run.proofs.StatusLemmas.{headline}
 use Rattle.hx_trace_run.specs.CheckView.{FindsCheck, FinishesCheck, IsFound, result_status, result_text}
-use Rattle.hx_trace_run.specs.Checking.{CheckSetting, Checks, ComparesTrace, HasCheckStatus, IsTrace, check_outcome, compared_outcome, outcome_by, trace_setting}
+use Rattle.hx_trace_run.specs.Checking.{CheckSetting, Checks, ComparesTrace, HasCheckStatus, IsTrace, check_outcome, finding_outcome, outcome_by, trace_setting}
 use Rattle.hx_trace_run.specs.Comparing.{finding_of, finding_status, finding_text, line_of_difference}
-use Rattle.hx_trace_run.specs.declared.comparison.Finding.{Finding}
-use Rattle.hx_trace_run.specs.declared.comparison.Finding.TheVariants.{Same, Differs}
+use Rattle.hx_trace_run.specs.declared.agreement.Finding.{Finding}
+use Rattle.hx_trace_run.specs.declared.agreement.Finding.TheVariants.{Same, Differs}
 
 -- ---- statuses
 
@@ -48,7 +48,7 @@ abbrev IsKnown : Outcome ℕ → Result Finding RunFault → Type 0
 IsKnown outcome result = HasResult outcome result ⊎ ((result_text result ≡ []) × (5 ≤ result_status result) × (result_status result < 9))
 
 compared_is : (trace : Option (List ℕ)) (text : List ℕ) (finding : Finding) → IsSomeAnd trace (λ bytes. finding ≡ finding_of bytes text)
-    → compared_outcome trace text ≡ record { answers = finding_text finding; end = Some (finding_status finding) }
+    → finding_outcome trace text ≡ record { answers = finding_text finding; end = Some (finding_status finding) }
 compared_is None text finding is = absurd is
 compared_is (Some bytes) text finding is = rw is refl
 

@@ -1,6 +1,7 @@
+pub mod AgreementLemmas
+pub mod DifferenceLemmas
 pub mod CheckLemmas
 pub mod CheckReplayLemmas
 pub mod CheckStatusLemmas
-pub mod ComparisonLemmas
 pub mod RecordLemmas
 pub mod WordsLemmas

@@ -21,10 +21,10 @@ use Rattle.hx_run.specs.declared.command.Detail.TheVariants.{Reasons}
 use Rattle.hx_run.specs.declared.run_fault.RunFault.TheVariants as run
 use Rattle.hx_trace_run.specs.Checking.{TakesUnrefused}
 use Rattle.hx_trace_run.specs.CheckView.{FindsBeside, found_result}
-use Rattle.hx_trace_run.specs.ComparisonView.{CheckAsksFor, CheckState, check_behavior, finding_at, initial_check}
-use Rattle.hx_trace_run.specs.declared.comparison.Finding.{Finding}
+use Rattle.hx_trace_run.specs.AgreementView.{CheckAsksFor, CheckState, check_behavior, finding_at, initial_check}
+use Rattle.hx_trace_run.specs.declared.agreement.Finding.{Finding}
 use Rattle.hx_trace_run.proofs.CheckReplayLemmas.{beside, check_end, checked_asks, checked_replay}
-use Rattle.hx_trace_run.proofs.ComparisonLemmas.{finding_is}
+use Rattle.hx_trace_run.proofs.AgreementLemmas.{finding_is}
 
 -- what answers the events of a traced run
 abbrev tracing : Behavior World
@@ -104,7 +104,7 @@ undecided trace text (Some end) is = cc
 -- what is found of a record that is replayed to this
 pub found : (program : Program) (trace : List ℕ) (last : CheckState World) (left old new : Option (List ℕ)) (replayed : Result (Unit {0}) ReplayFault)
     → Replays (check_behavior tracing) (initial_check trace (initial_world program)) last left old new [] replayed
-    → FindsBeside program trace left (found_result (finding_at last.comparison) replayed)
+    → FindsBeside program trace left (found_result (finding_at last.agreement) replayed)
 found program trace last left old new (Ok done) r =
     let here = beside_record program trace r.is_such.bytes r.outcome r.is_such.is in
     let text = (record_outcome tracing (initial_world program) r.is_such.bytes).answers in
@@ -115,7 +115,7 @@ found program trace last left old new (Ok done) r =
       of_source = r.is_such.of_source;
       found = (
         ap (λ end. option_map run_end end) c.is,
-        ap (λ (check : CheckState World). finding_at check.comparison) (sym c.last_is) ∙ finding_is trace text,
+        ap (λ (check : CheckState World). finding_at check.agreement) (sym c.last_is) ∙ finding_is trace text,
       );
     }
 found program trace last left old new (Err (replay.RecordRefused offset code)) r =

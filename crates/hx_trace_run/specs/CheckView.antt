@@ -25,7 +25,7 @@ use Rattle.hx_run.specs.declared.run_fault.RunFault.{RunFault}
 use Rattle.hx_run.specs.declared.run_fault.RunFault.TheVariants.{ConfigRefused, RecordRefused}
 use Rattle.hx_trace_run.specs.Checking.{CheckSetting, IsFile, IsTrace, trace_setting}
 use Rattle.hx_trace_run.specs.Comparing.{finding_of, finding_status, finding_text}
-use Rattle.hx_trace_run.specs.declared.comparison.Finding.{Finding}
+use Rattle.hx_trace_run.specs.declared.agreement.Finding.{Finding}
 
 -- ---- the configuration
 
@@ -34,7 +34,8 @@ abbrev pub program_of : Rules × RefsState → Program
 program_of loaded = record { rules = loaded.0; references = loaded.1.content }
 
 -- what is given of a configuration, without a record
-abbrev pub config_setting : List (Vec ℕ Global × Vec ℕ Global) → Option NamedBytes → List ℕ → Setting
+abbrev pub config_setting : List (Vec ℕ Global × Vec ℕ Global) → Option NamedBytes → List ℕ
+    → Setting
 config_setting env held name = record {
   env = pairs_of env;
   held = held;
@@ -74,8 +75,8 @@ abbrev pub result_status : Result Finding RunFault → ℕ
 result_status (Ok finding) = finding_status finding
 result_status (Err fault) = fault_status fault
 
--- This is what comes of a trace where `trace` comes to this outcome: it ends with the refusal, or at
--- the record's end, with this finding. Of what failed outside, and of memory, nothing is said.
+-- This is what comes of a trace where `trace` comes to this outcome: it ends with the refusal, or
+-- at the record's end, with this finding. Of what failed outside, and of memory, nothing is said.
 abbrev pub IsFound : (trace : Option (List ℕ)) → Outcome End → Result Finding RunFault → Type 0
 IsFound trace outcome (Ok finding) =
     (outcome.end ≡ Some Completed)
@@ -110,8 +111,8 @@ pub record FindsCheck (s : CheckSetting) (result : Result Finding RunFault) : Ty
   pub of_run : HasOutcome (trace_setting s) traced
   pub found : IsFound trace traced result
 
--- the end of a check: its line was written, and the status is that of the result, or the sink failed
--- or memory ran out before
+-- the end of a check: its line was written, and the status is that of the result, or the sink
+-- failed or memory ran out before
 abbrev pub FinishesCheck : Result Finding RunFault → (old new : Option (List ℕ)) → ℕ → Type 0
 FinishesCheck result old new status =
     ((status ≡ result_status result) × Appends old new (result_text result))

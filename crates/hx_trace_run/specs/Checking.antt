@@ -56,16 +56,16 @@ IsTrace s trace = IsFile s.held s.trace_name trace
 -- ---- outcomes
 
 -- what is written of a trace beside the text that it should be, and the status; of no trace nothing
-abbrev pub compared_outcome : (trace : Option (List ℕ)) → (text : List ℕ) → Outcome ℕ
-compared_outcome None text = ends_with None
-compared_outcome (Some trace) text = record {
+abbrev pub finding_outcome : (trace : Option (List ℕ)) → (text : List ℕ) → Outcome ℕ
+finding_outcome None text = ends_with None
+finding_outcome (Some trace) text = record {
   answers = finding_text (finding_of trace text);
   end = Some (finding_status (finding_of trace text));
 }
 
 -- the same where `trace` would write this text and end so: a refusal is told alone
 abbrev pub outcome_by : (trace : Option (List ℕ)) → (text : List ℕ) → Option End → Outcome ℕ
-outcome_by trace text (Some Completed) = compared_outcome trace text
+outcome_by trace text (Some Completed) = finding_outcome trace text
 outcome_by trace text (Some (ConfigRefused line code)) =
     record { answers = config_line line code; end = Some 3 }
 outcome_by trace text (Some (RecordRefused offset code)) =
@@ -83,8 +83,8 @@ pub record HasCheck (s : CheckSetting) (outcome : Outcome ℕ) : Type 0 where
   pub of_run : HasOutcome (trace_setting s) traced
   pub is : outcome ≡ check_outcome trace traced
 
--- What a check does: it writes a prefix of what its outcome has. Where its status is 0, 3, 4 or 9 it
--- writes the whole, and the status is the outcome's.
+-- What a check does: it writes a prefix of what its outcome has. Where its status is 0, 3, 4 or 9
+-- it writes the whole, and the status is the outcome's.
 pub record Checks (s : CheckSetting) (old new : Option (List ℕ)) (status : ℕ) : Type 0 where
   pub outcome : Outcome ℕ
   pub of_setting : HasCheck s outcome

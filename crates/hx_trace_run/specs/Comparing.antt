@@ -3,8 +3,8 @@ use Rattle.std.specs.Prelude.{ℕ, ◌+◌, ◌==◌, List, ◌∷◌, ◌++◌,
 use Rattle.std.specs.Fmt.{decimal}
 use Rattle.std.specs.Str.{bytes_eq}
 use Rattle.hx_base.specs.Bytes.{ascii}
-use Rattle.hx_trace_run.specs.declared.comparison.Finding.{Finding}
-use Rattle.hx_trace_run.specs.declared.comparison.Finding.TheVariants.{Same, Differs}
+use Rattle.hx_trace_run.specs.declared.agreement.Finding.{Finding}
+use Rattle.hx_trace_run.specs.declared.agreement.Finding.TheVariants.{Same, Differs}
 
 -- how many bytes two texts have in common at their beginning
 abbrev pub common_length : List ℕ → List ℕ → ℕ

@@ -7,6 +7,6 @@ pub mod Checking
 pub mod Explanation
 -- Views of the code, for private contracts.
 pub mod Command
-pub mod ComparisonView
+pub mod AgreementView
 pub mod EngineView
 pub mod CheckView

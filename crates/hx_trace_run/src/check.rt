@@ -14,7 +14,7 @@ ghost use Rattle.hx_trace_run.specs.CheckView.{config_setting, program_of, resul
 ghost use Rattle.hx_trace_run.specs.Checking.{CheckReads, CheckSourceFails, Checks, ComparesTrace};
 ghost use Rattle.hx_trace_run.specs.Checking.{HasCheckStatus, TakesUnrefused, check_setting, trace_setting};
 
-use crate::comparison::Finding;
+use crate::agreement::Finding;
 use crate::record_check::{Loaded, check_record};
 use hx_load::{LoadFault, load};
 use hx_outside::{FileFault, Files, ReMaker, Sink, SinkFault, Source, write_all};
@@ -22,10 +22,11 @@ use hx_refs::Limits;
 use hx_run::{Ended, RunFault};
 use std::alloc::{AllocError, Global};
 
-/// Checks a trace: reads the file `config_name` as a configuration, answers the events of the record
-/// as `trace` does, and compares the text with the file `trace_name`. `ok` is written where they are
-/// the same, and else `differs LINE` with the first line of the trace that isn't the text's, where a
-/// line has its line feed and one that is missing counts.
+/// Checks a trace: reads the file `config_name` as a configuration, answers the events of the
+/// record as `trace` does, and compares the text with the file `trace_name`. `ok` is written where
+/// they are the same, and else `differs LINE` with the first line of the trace that isn't the
+/// text's, where a line has its line feed and one that is missing counts. Statuses, and when each
+/// comes, are those of `run_trace`; 2 never comes.
 pub fn check_trace<F: Files, S: Source, K: Sink, M: ReMaker>(
     alloc: Global,
     env: &[(Vec<u8>, Vec<u8>)],
@@ -61,8 +62,8 @@ pub fn check_trace<F: Files, S: Source, K: Sink, M: ReMaker>(
         × (RunJudgesLast given (M.state maker.new).large
         ⊎ RunAsksLast given (M.state maker.new).large)
         × Appends (K.written out.old) (K.written out.new) [] }
-    // Where nothing outside failed, the status is the one that the configuration, the record and the
-    // trace have, unless memory ran out.
+    // Where nothing outside failed, the status is the one that the configuration, the record and
+    // the trace have, unless memory ran out.
     ensures complete { ¬ (Rose (F.faults files.old) (F.faults files.new))
         → ¬ (Rose (S.faults record_in.old) (S.faults record_in.new))
         → ¬ (Rose (K.faults out.old) (K.faults out.new))
@@ -79,6 +80,10 @@ pub fn check_trace<F: Files, S: Source, K: Sink, M: ReMaker>(
     ensures fault_status { IfSome result.fault (λ fault. (result.status ≡ fault_status fault)
         ⊎ Contains (6 ∷ 7 ∷ []) result.status) }
     ensures no_fault { result.fault ≡ None → Contains (0 ∷ 6 ∷ 7 ∷ 9 ∷ []) result.status }
+    ensures file_fault { result.fault ≡ Some RunFault.Files
+        → Rose (F.faults files.old) (F.faults files.new) }
+    ensures record_fault { result.fault ≡ Some RunFault.Source
+        → Rose (S.faults record_in.old) (S.faults record_in.new) }
 {
     let mut requests = 0u64;
     let found = find(
@@ -111,8 +116,8 @@ fn fault_of(found: Result<Finding, RunFault>) -> Option<RunFault>
     }
 }
 
-/// Loads the configuration, reads the trace, and compares it with the text of the record. Nothing is
-/// written.
+/// Loads the configuration, reads the trace, and compares it with the text of the record. Nothing
+/// is written.
 fn find<F: Files, S: Source, K: Sink, M: ReMaker>(
     alloc: Global,
     env: &[(Vec<u8>, Vec<u8>)],

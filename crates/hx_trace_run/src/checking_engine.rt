@@ -1,9 +1,9 @@
 ghost use Rattle.std.specs.Prelude.{◌≡◌, None};
 ghost use Rattle.hx_core.specs.World.{first_world, FitRules};
-ghost use Rattle.hx_trace_run.specs.ComparisonView.{initial_check};
+ghost use Rattle.hx_trace_run.specs.AgreementView.{initial_check};
 ghost use Rattle.hx_trace_run.specs.EngineView.{check_state};
 
-use crate::comparison::Comparison;
+use crate::agreement::Agreement;
 use hx_core::{Engine, StepFault};
 use hx_outside::ReMaker;
 use hx_record::Event;
@@ -20,7 +20,7 @@ use std::alloc::Global;
 pub(crate) struct CheckingEngine {
     pub(crate) engine: Engine,
     explainer: PlainExplainer,
-    pub(crate) comparison: Comparison,
+    pub(crate) agreement: Agreement,
     pub(crate) requests: u64,
 }
 
@@ -36,7 +36,7 @@ impl CheckingEngine {
         CheckingEngine {
             engine: Engine::new(alloc, rules, refs),
             explainer: PlainExplainer::new(alloc),
-            comparison: Comparison::new(trace),
+            agreement: Agreement::new(trace),
             requests: 0,
         }
     }
@@ -49,7 +49,7 @@ impl Answerer for CheckingEngine {
     ghost use Rattle.hx_core.specs.World.{World};
     ghost use Rattle.hx_run.specs.Run.{behavior_of};
     ghost use Rattle.hx_run.specs.declared.command.Detail.{Detail};
-    ghost use Rattle.hx_trace_run.specs.ComparisonView.{CheckAsksFor, CheckState, check_behavior};
+    ghost use Rattle.hx_trace_run.specs.AgreementView.{CheckAsksFor, CheckState, check_behavior};
     ghost use Rattle.hx_trace_run.specs.EngineView.{check_state};
 
     ghost State = { CheckState World };
@@ -69,7 +69,7 @@ impl Answerer for CheckingEngine {
         maker: &mut M,
     ) -> Result<(), StepFault> {
         let answer = self.engine.step_by(event, &mut self.explainer, maker)?;
-        self.comparison.go_on(answer.bytes());
+        self.agreement.go_on(answer.bytes());
         self.engine.reuse(answer);
         count_request(event, &mut self.requests);
         Ok(())

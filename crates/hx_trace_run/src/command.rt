@@ -10,7 +10,7 @@ use hx_run::{Command, Detail, Task};
 pub enum TraceCommand<'a> {
     /// `trace CONFIG`: a record is answered under the configuration, and why is told
     Trace(Command<'a>),
-    /// `check CONFIG TRACE`: the trace is compared with what `trace CONFIG` writes
+    /// `check CONFIG TRACE`: the trace of that name is compared with what `trace CONFIG` writes
     Check { config: &'a [u8], trace: &'a [u8] },
 }
 

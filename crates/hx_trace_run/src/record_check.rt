@@ -11,8 +11,8 @@ ghost use Rattle.hx_run.specs.declared.command.Detail.{Detail};
 ghost use Rattle.hx_trace_run.specs.CheckView.{FindsBeside, found_result, program_of};
 ghost use Rattle.hx_trace_run.specs.Checking.{TakesUnrefused};
 
+use crate::agreement::Finding;
 use crate::checking_engine::CheckingEngine;
-use crate::comparison::Finding;
 use hx_outside::{ReMaker, Sink, Source};
 use hx_refs::Refs;
 use hx_replay::{ReplayFault, replay};
@@ -57,7 +57,7 @@ pub(crate) fn check_record<S: Source, K: Sink, M: ReMaker>(
     let mut checking = CheckingEngine::new(alloc, rules, refs, trace);
     let replayed = replay(alloc, &mut checking, record_in, out, maker);
     *requests = checking.requests;
-    found_result(replayed, checking.comparison.finding())
+    found_result(replayed, checking.agreement.finding())
 }
 
 /// What comes of a record whose replay comes to this, where this is found at its end.

@@ -1,4 +1,4 @@
-ghost use Rattle.std.specs.Prelude.{◌≡◌, ◌≢◌, ◌↔◌, ◌⊎◌, None, Contains, [], ◌∷◌, IfSome, IsSomeAnd};
+ghost use Rattle.std.specs.Prelude.{◌≡◌, ◌≢◌, ◌↔◌, ◌⊎◌, None, Some, Contains, [], ◌∷◌, IfSome, IsSomeAnd};
 ghost use Rattle.std.specs.Io.KnownBytes.{Appends, IsAtEnd};
 ghost use Rattle.hx_outside.specs.Count.{Rose};
 ghost use Rattle.hx_outside.specs.Log.{HoldsSince};
@@ -6,6 +6,7 @@ ghost use Rattle.hx_program.specs.Machine.{texts_of};
 ghost use Rattle.hx_run.specs.Run.{AnswersBeforeReading, Ran, HasStatus, Replayed};
 ghost use Rattle.hx_run.specs.Run.{RunAsksLast, RunJudgesLast, RunReads, SourceFails};
 ghost use Rattle.hx_run.specs.RunFault.{EndsAs, fault_end, fault_status};
+ghost use Rattle.hx_run.specs.declared.run_fault.RunFault.{RunFault};
 ghost use Rattle.hx_run.specs.RunFiles.{ReadsFiles};
 ghost use Rattle.hx_run.specs.declared.command.Detail.{Detail};
 ghost use Rattle.hx_trace_run.specs.Checking.{CheckReads, CheckSourceFails, Checks, ComparesTrace};
@@ -32,12 +33,13 @@ use std::alloc::Global;
 /// `check CONFIG TRACE` reads the files CONFIG and TRACE, and compares the text that `trace CONFIG`
 /// writes of the record with the trace (`compared`). It writes `ok`, or `differs LINE` with the
 /// first line of the trace that isn't the text's, counted from 1: a line is its bytes with its line
-/// feed, and one that is missing counts. What its verdicts and reasons rest on are scans of lists.
+/// feed, and one that is missing counts. Its verdicts and reasons rest on scans of
+/// lists, as can be seen by reading `PlainTables` of `hx_trace`; no clause says so.
 ///
 /// CONFIG is read first. Once all its lines are judged, the files that it names are read through
 /// `files` too, each once, in the order in which they first appear, up to the first that can't be
-/// read or has an entry that is refused. `check` then reads TRACE. No other file is read (of `trace`
-/// `files_read` says so).
+/// read or has an entry that is refused. `check` then reads TRACE. No other file is read: of
+/// `trace` a clause says so (`files_read`), of `check` none does.
 ///
 /// | Status | Comes |
 /// |---|---|
@@ -49,7 +51,7 @@ use std::alloc::Global;
 /// | 6 | the sink failed |
 /// | 7 | memory ran out |
 /// | 8 | a regular expression is too large |
-/// | 9 | of `check` alone: the trace differs |
+/// | 9 | of `check` only: the trace differs |
 ///
 /// Where contracts don't know what the files hold, what the source has left, what was read of
 /// either, or what was written to the sink (`held`, `left`, `log`, `written`), as of the machine's
@@ -165,7 +167,8 @@ pub fn run_trace<F: Files, S: Source, K: Sink, M: ReMaker>(
 /// The status is that of the fault, but where the line that tells a refusal couldn't be written:
 /// then it is 6 or 7 (`fault_status`). Without a fault it is 0, 2 or 9, or where what `check` found
 /// couldn't be written 6 or 7 (`no_fault`). A refusal is the one with which the outcome of the
-/// configuration and the record ends (`told`, `check_told`).
+/// configuration and the record ends (`told`, `check_told`). `Files` and `Source` are told only
+/// where these failed (`file_fault`, `record_fault`).
 pub fn run_trace_to_end<F: Files, S: Source, K: Sink, M: ReMaker>(
     alloc: Global,
     words: &[Vec<u8>],
@@ -276,6 +279,10 @@ pub fn run_trace_to_end<F: Files, S: Source, K: Sink, M: ReMaker>(
     ensures fault_status { IfSome result.fault (λ fault. (result.status ≡ fault_status fault)
         ⊎ Contains (6 ∷ 7 ∷ []) result.status) }
     ensures no_fault { result.fault ≡ None → Contains (0 ∷ 2 ∷ 6 ∷ 7 ∷ 9 ∷ []) result.status }
+    ensures file_fault { result.fault ≡ Some RunFault.Files
+        → Rose (F.faults files.old) (F.faults files.new) }
+    ensures record_fault { result.fault ≡ Some RunFault.Source
+        → Rose (S.faults record_in.old) (S.faults record_in.new) }
 {
     let Some(command) = command_of(words) else {
         return Ended {

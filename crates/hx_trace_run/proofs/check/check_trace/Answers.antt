@@ -82,3 +82,9 @@ pub returns-clause-told : goal.returns-clause-told
 returns-clause-told g c =
     told_ends (check_setting c.args.env.now (g.F.Files.held c.args.files.now) c.args.config_name.now c.args.trace_name.now (g.S.Source.left c.args.record_in.now))
     c.find-found.result c.fault_of.result c.fault_of.ensures.fault c.find-found.ensures.finds
+
+pub returns-clause-file_fault : goal.returns-clause-file_fault
+returns-clause-file_fault g c = λ is. (c.find-found.ensures.files_failed (rw is at c.fault_of.ensures.fault)).0
+
+pub returns-clause-record_fault : goal.returns-clause-record_fault
+returns-clause-record_fault g c = λ is. (c.find-found.ensures.source_failed (rw is at c.fault_of.ensures.fault)).0

@@ -1,6 +1,6 @@
 ghost use Rattle.std.specs.Prelude.{◌≡◌, ◌≤◌, [], length};
 ghost use Rattle.hx_trace_run.specs.Comparing.{common_length, line_feeds};
-ghost use Rattle.hx_trace_run.specs.ComparisonView.{comparison_after, comparison_of, finding_at};
+ghost use Rattle.hx_trace_run.specs.AgreementView.{agreement_after, agreement_of, finding_at};
 
 use std::marker::Model;
 
@@ -14,36 +14,36 @@ pub enum Finding {
 }
 
 /// A trace beside the text that it should be, of which the answers come one after the other.
-/// Contracts see the trace, how many of its bytes the text so far has in common with it, and whether
-/// there are more in the text.
+/// Contracts see the trace, how many of its bytes the text so far has in common with it, and
+/// whether there are more in the text.
 #[derive(Drop)]
-pub(crate) struct Comparison {
+pub(crate) struct Agreement {
     trace: Vec<u8>,
     agreed: usize,
     differs: bool,
 }
 
-impl Model for Comparison {
+impl Model for Agreement {
     ghost use Rattle.std.specs.Prelude.{◌≤◌, length};
-    ghost use Rattle.hx_trace_run.specs.ComparisonView.{Comparison};
+    ghost use Rattle.hx_trace_run.specs.AgreementView.{Agreement};
 
-    ghost Value = { Comparison };
+    ghost Value = { Agreement };
 
-    ghost view = { λ comparison. record {
-      trace = comparison.trace.items;
-      agreed = comparison.agreed;
-      differs = comparison.differs;
+    ghost view = { λ agreement. record {
+      trace = agreement.trace.items;
+      agreed = agreement.agreed;
+      differs = agreement.differs;
     } };
 
-    ghost invariant = { λ comparison. comparison.agreed ≤ length comparison.trace.items };
+    ghost invariant = { λ agreement. agreement.agreed ≤ length agreement.trace.items };
 }
 
-impl Comparison {
+impl Agreement {
     /// A trace beside the empty text.
-    pub(crate) fn new(trace: Vec<u8>) -> Comparison
-        ensures { result ≡ comparison_of trace.items [] }
+    pub(crate) fn new(trace: Vec<u8>) -> Agreement
+        ensures { result ≡ agreement_of trace.items [] }
     {
-        Comparison {
+        Agreement {
             trace,
             agreed: 0,
             differs: false,
@@ -52,7 +52,7 @@ impl Comparison {
 
     /// The text goes on with this answer.
     pub(crate) fn go_on(&mut self, answer: &[u8])
-        ensures { self.new ≡ comparison_after self.old answer.now }
+        ensures { self.new ≡ agreement_after self.old answer.now }
     {
         if self.differs {
             return;

@@ -1,6 +1,6 @@
 use Rattle.std.proofs.Common.{◌≡◌, ◌+◌, length}
 use Rattle.hx_trace_run.specs.Comparing.{common_length}
-use Rattle.hx_trace_run.proofs.comparison.common_length.Given as goal
+use Rattle.hx_trace_run.proofs.agreement.common_length.Given as goal
 
 abbrev pub invariant-loop-rest : goal.invariant-loop-rest
 invariant-loop-rest l = record {
