@@ -1,4 +1,4 @@
-ghost use Rattle.std.specs.Prelude.{◌≡◌, ◌≢◌, ◌≤◌, ◌↔◌, ◌⊎◌, ℕ, Err, None, Contains, [], ◌∷◌, OnOk, IfOk, IfSome, IsErrOf, IsSomeAnd};
+ghost use Rattle.std.specs.Prelude.{◌≡◌, ◌≢◌, ◌≤◌, ◌↔◌, ◌⊎◌, ℕ, Err, None, Some, Contains, [], ◌∷◌, OnOk, IfOk, IfSome, IsErrOf, IsSomeAnd};
 ghost use Rattle.std.specs.Io.KnownBytes.{Appends, IsAtEnd};
 ghost use Rattle.hx_core.specs.World.{FitRules};
 ghost use Rattle.hx_outside.specs.Count.{Rose};
@@ -50,12 +50,12 @@ pub struct Reached {
 /// `@@ cli SESSION TEXT`, the lines of the old answer, each after `- `, and those of the new one,
 /// each after `+ `. With `--why`, before the names or after them, the lines of an answer to a
 /// request are followed by the one that tells why it has its verdict, `> LINE CONJUNCTION` and the
-/// reasons; where only the reasons of two answers are different, these don't differ. `counts`
-/// writes nothing before the record's end, and then how many requests with answers that differ have
-/// which two verdicts: `COUNT OLD -> NEW, first N`, or `COUNT VERDICT, other lines, first N` of two
-/// that are the same, in the order of their first requests. At the end both write how many requests
-/// and commands there were, and how many differ. Differences are written before more of the record
-/// is read, at any status (`before_reading`). Regular expressions are made by `maker`.
+/// reasons; two answers that have other reasons alone don't differ. `counts` writes nothing before
+/// the record's end, and then how many requests with answers that differ have which two verdicts:
+/// `COUNT OLD -> NEW, first N`, or `COUNT VERDICT, other lines, first N` of two that are the same,
+/// in the order of their first requests. At the end both write how many requests and commands there
+/// were, and how many differ. Differences are written before more of the record is read, at any
+/// status (`before_reading`). Regular expressions are made by `maker`.
 ///
 /// OLD is read first, and once all its lines are judged the files that it names, each once, in the
 /// order in which they first appear; and only where it is accepted NEW and the files that this one
@@ -77,6 +77,7 @@ pub struct Reached {
 /// then it is 6 or 7 (`fault_status`). Without a fault it is 0, 1 or 2 (`no_fault`). A refusal is
 /// the one with which the outcome of the configurations and the record ends, so its line and its
 /// code are those that `Loads` has, and its offset and its code those of the record (`told`).
+/// `Files` and `Source` are told only where these failed (`file_fault`, `record_fault`).
 ///
 /// Where contracts don't know what the files hold, what the source has left, what was read of
 /// either, or what was written to the sink (`held`, `left`, `log`, `written`), as of the machine's
@@ -154,6 +155,10 @@ pub fn run_diff<F: Files, S: Source, K: Sink, M: ReMaker>(
     ensures fault_status { IfSome result.fault (λ fault. (result.status ≡ fault_status fault)
         ⊎ Contains (6 ∷ 7 ∷ []) result.status) }
     ensures no_fault { result.fault ≡ None → Contains (0 ∷ 1 ∷ 2 ∷ []) result.status }
+    ensures file_fault { result.fault ≡ Some RunFault.Files
+        → Rose (F.faults files.old) (F.faults files.new) }
+    ensures record_fault { result.fault ≡ Some RunFault.Source
+        → Rose (S.faults record_in.old) (S.faults record_in.new) }
 {
     let mut reached = Reached {
         side: Side::Old,

@@ -8,7 +8,7 @@ ghost use Rattle.hx_run.specs.Run.{command_of, task_of};
 pub enum Detail {
     /// the lines that answer it
     Verdicts,
-    /// and behind them why it has its verdict
+    /// and after them the line that tells why it has its verdict
     Reasons,
 }
 
@@ -17,7 +17,7 @@ pub enum Detail {
 pub enum Task {
     /// `run` and `trace`: the record is answered under the configuration
     Replay(Detail),
-    /// `check`: the configuration is judged alone
+    /// `check` of hxeval: the configuration is judged alone
     Check,
 }
 

@@ -1,4 +1,4 @@
-ghost use Rattle.std.specs.Prelude.{◌≡◌, ◌↔◌, ◌⊎◌, [], ◌∷◌, Some, None, Ok, Contains, IfOk, IfSome, OnOk, IsErrOf};
+ghost use Rattle.std.specs.Prelude.{◌≡◌, ◌≢◌, ◌↔◌, ◌⊎◌, [], ◌∷◌, Some, None, Ok, Contains, IfOk, IfSome, OnOk, IsErrOf};
 ghost use Rattle.std.specs.Io.KnownBytes.{Appends};
 ghost use Rattle.std.specs.String.{string_bytes};
 ghost use Rattle.hx_base.specs.Pairs.{pairs_of};
@@ -49,6 +49,8 @@ pub(crate) fn run_generated<K: Sink>(alloc: Global, words: &[Vec<u8>], out: &mut
     ensures fault_status { IfSome result.fault (λ fault. (result.status ≡ fault_status fault)
         ⊎ Contains (6 ∷ 7 ∷ []) result.status) }
     ensures no_fault { result.fault ≡ None → Contains (0 ∷ 2 ∷ []) result.status }
+    ensures file_fault { result.fault ≢ Some RunFault.Files }
+    ensures record_fault { result.fault ≢ Some RunFault.Source }
 {
     let Some(size) = asked_size(words) else {
         return ended(2, None);

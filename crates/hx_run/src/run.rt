@@ -1,4 +1,4 @@
-ghost use Rattle.std.specs.Prelude.{◌≡◌, ◌↔◌, ◌⊎◌, None, Contains, [], ◌∷◌, IfSome, IsSomeAnd};
+ghost use Rattle.std.specs.Prelude.{◌≡◌, ◌↔◌, ◌⊎◌, None, Some, Contains, [], ◌∷◌, IfSome, IsSomeAnd};
 ghost use Rattle.std.specs.Io.KnownBytes.{Appends, IsAtEnd};
 ghost use Rattle.hx_outside.specs.Count.{Rose};
 ghost use Rattle.hx_outside.specs.Log.{HoldsSince};
@@ -8,6 +8,7 @@ ghost use Rattle.hx_run.specs.Run.{command_of, setting_of};
 ghost use Rattle.hx_run.specs.Run.{AnswersBeforeReading, Checked, Ran, HasStatus, Headline, IsReplay};
 ghost use Rattle.hx_run.specs.Run.{RunAsksLast, RunJudgesLast, RunReads, SourceFails};
 ghost use Rattle.hx_run.specs.RunFault.{EndsAs, fault_end, fault_status};
+ghost use Rattle.hx_run.specs.declared.run_fault.RunFault.{RunFault};
 ghost use Rattle.hx_run.specs.RunFiles.{ReadsFiles};
 ghost use Rattle.hx_run.specs.Unseen.{ShowsNoUncommittedVersion};
 ghost use Rattle.hx_run.specs.declared.command.Detail.{Detail};
@@ -37,7 +38,7 @@ use std::alloc::Global;
 ///
 /// | Status | Comes |
 /// |---|---|
-/// | 0 | the record was answered to its end, the configuration is accepted, the summary is written |
+/// | 0 | the record was answered to its end, the configuration accepted, or the summary written |
 /// | 2 | the words are no command; nothing is touched |
 /// | 3 | the configuration is refused: `config LINE CODE` is written, alone |
 /// | 4 | the record is refused: the answers before, and then `record OFFSET CODE` are written |
@@ -140,7 +141,8 @@ pub fn run<F: Files, S: Source, K: Sink, M: ReMaker>(
 /// The status is that of the fault, but where the line that tells a refusal couldn't be written:
 /// then it is 6 or 7 (`fault_status`). Without a fault it is 0 or 2 (`no_fault`). A refusal is the
 /// one with which the outcome of the configuration and the record ends, so its line and its code
-/// are those that `Loads` has, and its offset and its code those of the record (`told`).
+/// are those that `Loads` has, and its offset and its code those of the record (`told`). `Files`
+/// and `Source` are told only where these failed (`file_fault`, `record_fault`).
 pub fn run_to_end<F: Files, S: Source, K: Sink, M: ReMaker>(
     alloc: Global,
     words: &[Vec<u8>],
@@ -227,6 +229,10 @@ pub fn run_to_end<F: Files, S: Source, K: Sink, M: ReMaker>(
     ensures fault_status { IfSome result.fault (λ fault. (result.status ≡ fault_status fault)
         ⊎ Contains (6 ∷ 7 ∷ []) result.status) }
     ensures no_fault { result.fault ≡ None → Contains (0 ∷ 2 ∷ []) result.status }
+    ensures file_fault { result.fault ≡ Some RunFault.Files
+        → Rose (F.faults files.old) (F.faults files.new) }
+    ensures record_fault { result.fault ≡ Some RunFault.Source
+        → Rose (S.faults record_in.old) (S.faults record_in.new) }
 {
     match command_of(words) {
         Some(command) => run_command(alloc, command, env, files, record_in, out, maker),

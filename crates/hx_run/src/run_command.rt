@@ -36,9 +36,11 @@ pub struct Ended {
 /// answers its status together with the fault that ended it, for whoever tells why.
 ///
 /// The record is answered in the detail for which the command asks (`headline`), and each clause
-/// holds in either. Statuses, what is read and what is written are those that `run` names; status 2
-/// never comes. The status is that of the fault, but where the line that tells a refusal couldn't
-/// be written: then it is 6 or 7 (`fault_status`). Without a fault it is 0 (`no_fault`).
+/// but `unseen`, which speaks of verdicts alone, holds in either. Statuses, what is read and what
+/// is written are those that `run` names; status 2 never comes. The status is that of the fault,
+/// but where the line that tells a refusal couldn't be written: then it is 6 or 7 (`fault_status`).
+/// Without a fault it is 0 (`no_fault`). `Files` and `Source` are told only where these failed
+/// (`file_fault`, `record_fault`).
 pub fn run_command<F: Files, S: Source, K: Sink, M: ReMaker>(
     alloc: Global,
     command: Command<'_>,
@@ -110,6 +112,10 @@ pub fn run_command<F: Files, S: Source, K: Sink, M: ReMaker>(
     ensures fault_status { IfSome result.fault (λ fault. (result.status ≡ fault_status fault)
         ⊎ Contains (6 ∷ 7 ∷ []) result.status) }
     ensures no_fault { result.fault ≡ None → result.status ≡ 0 }
+    ensures file_fault { result.fault ≡ Some RunFault.Files
+        → Rose (F.faults files.old) (F.faults files.new) }
+    ensures record_fault { result.fault ≡ Some RunFault.Source
+        → Rose (S.faults record_in.old) (S.faults record_in.new) }
 {
     let mut requests = 0u64;
     match attempt(

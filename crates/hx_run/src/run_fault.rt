@@ -15,11 +15,11 @@ pub enum RunFault {
     ConfigRefused { line: u64, code: u32 },
     /// The record is refused, at this offset and with this code.
     RecordRefused { offset: u64, code: u32 },
-    /// The configuration, or a file that it names, could not be read.
+    /// The configuration, a file that it names, or the trace that is checked could not be read.
     Files,
     /// The record could not be read.
     Source,
-    /// An answer could not be written.
+    /// An answer, or what a check found, could not be written.
     Sink,
     /// A regular expression is too large.
     TooLarge,

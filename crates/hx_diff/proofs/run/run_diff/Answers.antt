@@ -150,3 +150,9 @@ returns-in_default-clause-no_fault g c = λ none. (2, omega arith, refl)
 
 pub returns-in-Ok-clause-no_fault : goal.returns-in-Ok-clause-no_fault
 returns-in-Ok-clause-no_fault g c = λ none. rw c.completed_status.ensures (completed_without c.in-Ok.differs)
+
+pub returns-in-Err-clause-file_fault : goal.returns-in-Err-clause-file_fault
+returns-in-Err-clause-file_fault g c = λ is. (c.in-Err.ensures.files_failed (cc is)).0
+
+pub returns-in-Err-clause-record_fault : goal.returns-in-Err-clause-record_fault
+returns-in-Err-clause-record_fault g c = λ is. (c.in-Err.ensures.source_failed (cc is)).0

@@ -123,3 +123,9 @@ returns-in-Err-clause-told g c = ends_as _ (g.K.Sink.written c.args.out.now) (g.
 pub returns-in-Err-clause-fault_status : goal.returns-in-Err-clause-fault_status
 returns-in-Err-clause-fault_status g c =
     of_fault c.in-Err.fault (g.K.Sink.written c.attempt.new.out) (g.K.Sink.written c.finish.new.out) c.finish.result c.finish.ensures.finished
+
+pub returns-in-Err-clause-file_fault : goal.returns-in-Err-clause-file_fault
+returns-in-Err-clause-file_fault g c = λ is. (c.in-Err.ensures.files_failed (cc is)).0
+
+pub returns-in-Err-clause-record_fault : goal.returns-in-Err-clause-record_fault
+returns-in-Err-clause-record_fault g c = λ is. (c.in-Err.ensures.source_failed (cc is)).0
