@@ -120,7 +120,7 @@ impl Engine {
         self.step_by(event, &mut Silence, maker)
     }
 
-    /// The same where `judge` judges requests: what it tells of one stands behind the lines that
+    /// The same where `judge` judges requests: what it tells of one stands after the lines that
     /// answer it, in the answer to the same event.
     pub fn step_by<J: Judge, M: ReMaker>(
         &mut self,

@@ -8,14 +8,14 @@ use Rattle.hx_trace.specs.Why.{explained}
 use Rattle.hx_diff.specs.declared.command.Task.{Task}
 use Rattle.hx_diff.specs.declared.command.Task.TheVariants.{Lines, Reasons, Counts}
 
--- an answer, which is compared with that of the other side, and the lines that are shown of it where
--- the two differ
+-- an answer, which is compared with that of the other side, and the lines that are shown of it
+-- where the two differ
 pub record AnswerParts : Type 0 where
   pub answer : List ℕ
   pub shown : List ℕ
 
--- the lines that are shown of an answer: itself, and where reasons are asked for, after the lines of
--- a request the one that tells why it has its verdict
+-- the lines that are shown of an answer: itself, and where reasons are asked for, after the lines
+-- of a request the one that tells why it has its verdict
 abbrev pub shown_answer : Task → World → Event → List ℕ
 shown_answer Lines world event = answer_of world event
 shown_answer Reasons world event = told_answer explained world event

@@ -23,8 +23,8 @@ abbrev pub has_verdicts : (old_verdict new_verdict : List ℕ) → Row → Bool
 has_verdicts old_verdict new_verdict row =
     bytes_eq row.old_verdict old_verdict && bytes_eq row.new_verdict new_verdict
 
--- the rows with one request more, which has this number: it counts in the row of its verdicts, or is
--- the first of a new row below the others
+-- the rows with one request more, which has this number: it counts in the row of its verdicts, or
+-- is the first of a new row below the others
 abbrev pub with_request : (number : ℕ) → (old_verdict new_verdict : List ℕ) → List Row → List Row
 with_request number old_verdict new_verdict [] =
     record { old_verdict = old_verdict; new_verdict = new_verdict; count = 1; first = number } ∷ []

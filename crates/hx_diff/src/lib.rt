@@ -1,6 +1,6 @@
 //! What `hxdiff` does: it replays recorded traffic, requests and management commands, through the
-//! rules of two configurations, and writes where their answers differ; and what it tells on standard
-//! error of a run that ended.
+//! rules of two configurations, and writes where their answers differ; and what it tells on
+//! standard error of a run that ended.
 //!
 //! ```
 //! let mut out = MemSink::new(alloc, 4096, Vec::new(alloc));

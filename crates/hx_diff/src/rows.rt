@@ -19,8 +19,8 @@ pub struct Count {
     pub first: u64,
 }
 
-/// The pairs of verdicts of the requests whose answers differ, in the order of their first requests.
-/// Contracts see a list of rows.
+/// The pairs of verdicts of the requests whose answers differ, in the order of their first
+/// requests. Contracts see a list of rows.
 #[derive(Drop)]
 pub struct Rows {
     // both verdicts of a row, each a line, and what is counted of it

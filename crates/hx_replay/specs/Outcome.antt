@@ -1,8 +1,8 @@
 -- What a replay of a record, or a run with one, writes, and how it ends.
 use Rattle.std.specs.Prelude.{ℕ, List, [], ◌++◌, Option, option_map}
 
--- The answers, one after the other, and how the run ends after them. Where that isn't decided, since
--- more of a configuration or of the record isn't known, there is no end.
+-- The answers, one after the other, and how the run ends after them. Where that isn't decided,
+-- since more of a configuration or of the record isn't known, there is no end.
 pub record Outcome (E : Type 0) : Type 0 where
   pub answers : List ℕ
   pub end : Option E

@@ -23,8 +23,8 @@ pub(crate) fn right_words(
     Some(0)
 }
 
-/// Whether the fault with this code isn't in these words, since one of the probes after them changes
-/// it.
+/// Whether the fault with this code isn't in these words, since one of the probes after them
+/// changes it.
 fn goes_on(
     alloc: Global,
     number: u64,

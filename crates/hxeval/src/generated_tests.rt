@@ -5,8 +5,8 @@ use hx_run::run::run;
 use std::alloc::Global;
 use std::test::Fail;
 
-/// The status of `gen WORD` and what it writes, eight bytes at a time, to a sink of which the writes
-/// with these numbers fail.
+/// The status of `gen WORD` and what it writes, eight bytes at a time, to a sink of which the
+/// writes with these numbers fail.
 fn generated(alloc: Global, word: &[u8], fails: Vec<u64>) -> Result<(u8, Vec<u8>), Fail> {
     let words = vec![in alloc; b"gen".to_vec(alloc)?, word.to_vec(alloc)?]?;
     let mut files = MemFiles::new(Vec::new(alloc), Vec::new(alloc));

@@ -9,7 +9,8 @@ use std::test::Fail;
 const MANY: u32 = 200_000;
 
 /// A path that is a key finds its value by the first backend, and one that begins with a key by the
-/// last. Some of either are chosen by a regular expression before, and some are written anew by one.
+/// last. Some of either are chosen by a regular expression before, and some are written anew by
+/// one.
 const CONFIG: &[u8] = b"http-request deny if { path_reg ^/k[0-9]*77$ }\n\
     use_backend %[path,map_str(m)] if { path,map_str(m) -m found }\n\
     use_backend %[path,regsub(^/k,r)] if { path_reg 3/a$ }\n\
