@@ -12,6 +12,7 @@ ghost use Rattle.hx_rules.specs.Tables.{ChangesOneOf, HasActionHeads};
 ghost use Rattle.hx_rules.specs.Verdicts.{action_effect};
 
 use crate::action::{BuiltAction, Rewrite};
+use crate::owning::owned_value;
 use crate::request::Request;
 use crate::verdict::Verdict;
 use hx_expr::{Plan, eval};
@@ -19,7 +20,7 @@ use hx_fetch::Conn;
 use hx_http::EditFault;
 use hx_outside::ReMaker;
 use hx_pool::Steps;
-use hx_sample::{TableFault, Tables, Value, Vars, own};
+use hx_sample::{TableFault, Tables, Value, Vars};
 use hx_text::{NoMemory, VarName};
 use std::sync::ledger::Ledger;
 
@@ -98,7 +99,7 @@ impl<T: Tables> Request<'_, T> {
     {
         let world = self.world();
         match eval(self.alloc, plan, &world, self.tables, steps)? {
-            Some(sample) => Ok(Some(own(self.alloc, &sample)?)),
+            Some(sample) => Ok(Some(owned_value(self.alloc, sample)?)),
             None => Ok(None),
         }
     }

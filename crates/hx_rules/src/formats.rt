@@ -1,5 +1,4 @@
-ghost use Rattle.std.specs.Prelude.{◌≡◌, ◌++◌, ◌∷◌, [], IfOk, IfSome, OnOk, OnErr};
-ghost use Rattle.hx_ast.specs.declared.action.Part.TheVariants as part;
+ghost use Rattle.std.specs.Prelude.{◌≡◌, ◌++◌, IfOk, OnOk, OnErr};
 ghost use Rattle.hx_sample.specs.Seen.{bytes_of, occurrence_value};
 ghost use Rattle.hx_rules.specs.Formats.{part_text, string_of, text_in};
 ghost use Rattle.hx_rules.specs.RequestView.{state_of};
@@ -7,6 +6,7 @@ ghost use Rattle.hx_rules.specs.State.{in_state, table_view};
 ghost use Rattle.hx_rules.specs.Tables.{HasFormatHeads, HasPartHeads};
 
 use crate::format::{BuiltFormat, BuiltPart, PartPlan};
+use crate::owning::owned_bytes;
 use crate::request::Request;
 use hx_expr::eval;
 use hx_pool::Steps;
@@ -15,29 +15,16 @@ use hx_text::{Kind, NoMemory, Octets};
 use std::alloc::Global;
 use std::sync::ledger::Ledger;
 
-/// Appends the value as a string, and nothing where there is none.
-fn push_value(alloc: Global, text: &mut Octets, value: Option<Sample<'_>>) -> Result<(), NoMemory>
-    ensures { OnOk result (text.new ≡ text.old ++ string_of (occurrence_value value.entry)) }
+/// The bytes of the value as a string, which are none where there is no value.
+fn string_bytes<'a>(alloc: Global, value: Option<Sample<'a>>) -> Result<Bytes<'a>, NoMemory>
+    ensures { IfOk result (λ bytes. bytes_of bytes ≡ string_of (occurrence_value value.entry)) }
 {
     let Some(sample) = value else {
-        return Ok(());
+        return Ok(Bytes::Lent(b""));
     };
     match cast(alloc, sample, Kind::Str)? {
-        Some(Sample::Str(bytes)) => text.push_all(bytes.as_slice()),
-        _ => Ok(()),
-    }
-}
-
-/// The bytes of a format that has no other part. None for any other format.
-fn static_text(format: &BuiltFormat) -> Option<&[u8]>
-    ensures { IfSome result (λ bytes. format.now ≡ part.Text bytes.now ∷ []) }
-{
-    match format.as_slice() {
-        [only] => match &only.plan {
-            PartPlan::Text(bytes) => Some(bytes.as_slice()),
-            PartPlan::Value(_) => None,
-        },
-        _ => None,
+        Some(Sample::Str(bytes)) => Ok(bytes),
+        _ => Ok(Bytes::Lent(b"")),
     }
 }
 
@@ -59,7 +46,30 @@ impl<T: Tables> Request<'_, T> {
             PartPlan::Value(plan) => {
                 let world = self.world();
                 let value = eval(self.alloc, plan, &world, self.tables, steps)?;
-                push_value(self.alloc, text, value)
+                text.push_all(string_bytes(self.alloc, value)?.as_slice())
+            }
+        }
+    }
+
+    /// The text of a part, lent where it is bytes that stand for themselves. What a converter or a
+    /// cast has made is taken as it is.
+    fn part_text<'f, L: Ledger>(
+        &self,
+        part: &'f BuiltPart,
+        steps: &mut Steps<L>,
+    ) -> Result<Bytes<'f>, NoMemory>
+        requires { HasPartHeads (T.heads (T.state self.now.tables.now)) part.now }
+        ensures { IfOk result (λ text. bytes_of text
+            ≡ in_state part_text (table_view T.heads T.lists T.after_change)
+            self.now.conn.now (state_of T.state self.now) part.now) }
+    {
+        match &part.plan {
+            PartPlan::Text(bytes) => Ok(Bytes::Lent(bytes.as_slice())),
+            PartPlan::Value(plan) => {
+                let world = self.world();
+                let value = eval(self.alloc, plan, &world, self.tables, steps)?;
+                let bytes = string_bytes(self.alloc, value)?;
+                Ok(Bytes::Own(owned_bytes(self.alloc, bytes)?))
             }
         }
     }
@@ -81,7 +91,9 @@ impl<T: Tables> Request<'_, T> {
         }
         Ok(text)
     }
-    /// The same, and lent where the format is bytes that stand for themselves.
+
+    /// The same, and lent where the format is bytes that stand for themselves. One part alone is
+    /// the text, which no other is put together with.
     pub(crate) fn lent_text<'f, L: Ledger>(
         &self,
         format: &'f BuiltFormat,
@@ -92,9 +104,9 @@ impl<T: Tables> Request<'_, T> {
             ≡ text_in (table_view T.heads T.lists T.after_change) self.now.conn.now
             (state_of T.state self.now) format.now) }
     {
-        match static_text(format) {
-            Some(bytes) => Ok(Bytes::Lent(bytes)),
-            None => Ok(Bytes::Own(self.text(format, steps)?)),
+        match format.as_slice() {
+            [only] => self.part_text(only, steps),
+            _ => Ok(Bytes::Own(self.text(format, steps)?)),
         }
     }
 }

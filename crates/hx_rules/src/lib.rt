@@ -26,6 +26,7 @@ mod format;
 mod formats;
 pub mod laws;
 mod locations;
+mod owning;
 mod pattern;
 mod program;
 mod replacing;
