@@ -6,6 +6,7 @@ use Rattle.std.proofs.lemmas.Option.{none-some, same_Some}
 use Rattle.hx_calls.specs.declared.fault.SpellFault.{SpellFault}
 use Rattle.hx_calls.specs.declared.fault.SpellFault.TheVariants as spell
 use Rattle.hx_base.specs.Results.{◌>>=◌}
+use Rattle.hx_calls.specs.Codes.{HasLineCode, is_line_code}
 
 -- both steps of two have a value
 pub and_then_ok : {A B : Type 0} (r : Result A SpellFault) (f : A → Result B SpellFault) (y : B)
@@ -38,22 +39,30 @@ some_map f (Some x) y is = (x, refl, same_Some (f x) y is)
 
 -- ---- values of which something is known, and codes
 
--- it has a value that is such, or a code
+abbrev Holds : Bool → Type 0
+Holds true = Unit {0}
+Holds false = ⊥
+
+-- it is one of the codes of a line
+abbrev pub IsLineCode : ℕ → Type 0
+IsLineCode n = Holds (is_line_code n)
+
+-- it has a value that is such, or a code of a line
 abbrev pub Gives : {A : Type 0} → (A → Type 0) → Result A SpellFault → Type 0
 Gives P (Ok x) = P x
-Gives P (Err (spell.Code n)) = Unit {0}
+Gives P (Err (spell.Code n)) = IsLineCode n
 Gives P (Err spell.NoMemory) = ⊥
 
 pub then_gives : {A B : Type 0} (Q : A → Type 0) (P : B → Type 0) (r : Result A SpellFault)
     (f : A → Result B SpellFault) → Gives Q r → ((x : A) → Q x → Gives P (f x)) → Gives P (r >>= f)
 then_gives Q P (Ok x) f such after = after x such
-then_gives Q P (Err (spell.Code n)) f such after = tt
+then_gives Q P (Err (spell.Code n)) f such after = such
 then_gives Q P (Err spell.NoMemory) f such after = such
 
 pub gives_also : {A : Type 0} (Q P : A → Type 0) (r : Result A SpellFault) → Gives Q r
     → ((x : A) → Q x → P x) → Gives P r
 gives_also Q P (Ok x) such also = also x such
-gives_also Q P (Err (spell.Code n)) such also = tt
+gives_also Q P (Err (spell.Code n)) such also = such
 gives_also Q P (Err spell.NoMemory) such also = such
 
 pub given_value : {A : Type 0} (P : A → Type 0) (r : Result A SpellFault) (x : A)
@@ -67,9 +76,20 @@ never_without_memory P (Ok x) such is = cc
 never_without_memory P (Err (spell.Code n)) such is = cc
 never_without_memory P (Err spell.NoMemory) such is = such
 
+holds_true : (b : Bool) → Holds b → b ≡ true
+holds_true true holds = refl
+holds_true false holds = absurd holds
+
+pub has_line_code : {A : Type 0} (P : A → Type 0) (r : Result A SpellFault) (fault : SpellFault)
+    → Gives P r → r ≡ Err fault → HasLineCode fault
+has_line_code P (Ok x) fault such is = absurd (let no : ⊥ = cc in no)
+has_line_code P (Err (spell.Code n)) fault such is =
+    let same : spell.Code n ≡ fault = cc in subst HasLineCode same (holds_true (is_line_code n) such)
+has_line_code P (Err spell.NoMemory) fault such is = absurd such
+
 -- ---- codes alone
 
--- it has a value, or a code
+-- it has a value, or a code of a line
 abbrev pub IsCoded : {A : Type 0} → Result A SpellFault → Type 0
 IsCoded r = Gives (λ x. Unit {0}) r
 
@@ -81,9 +101,10 @@ then_coded r f first later =
 pub gives_coded : {A : Type 0} (P : A → Type 0) (r : Result A SpellFault) → Gives P r → IsCoded r
 gives_coded P r such = gives_also P (λ x. Unit {0}) r such (λ x is. tt)
 
-pub found_coded : {A : Type 0} (found : Option A) (n : ℕ) → IsCoded (ok_or found (spell.Code n))
-found_coded None n = tt
-found_coded (Some x) n = tt
+pub found_coded : {A : Type 0} (found : Option A) (n : ℕ) → IsLineCode n
+    → IsCoded (ok_or found (spell.Code n))
+found_coded None n is = is
+found_coded (Some x) n is = tt
 
 pub tested_coded : {A : Type 0} (b : Bool) (r s : Result A SpellFault) → IsCoded r → IsCoded s
     → IsCoded (cond b r s)

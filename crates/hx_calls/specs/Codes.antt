@@ -1,5 +1,6 @@
 -- The codes of what words are refused for, as a refused configuration is reported by them.
-use Rattle.std.specs.Prelude.{◌≡◌, ◌≢◌, Result, Ok, Err}
+use Rattle.std.specs.Prelude.{◌≡◌, ◌≢◌, ℕ, ◌==◌, Bool, List, [], ◌∷◌, IsTrue, Result, Ok, Err}
+use Rattle.std.specs.List.{list_any}
 use Rattle.hx_words.specs.declared.ArgFault.{ArgFault}
 use Rattle.hx_words.specs.declared.ArgFault.TheVariants.{Unclosed, AfterClose, BadEscape, OpenQuote, NoMemory}
 use Rattle.hx_calls.specs.declared.fault.SpellFault.{SpellFault}
@@ -40,6 +41,18 @@ misplaced = spell.Code 19
 -- one reference more than a configuration may have
 abbrev pub too_many_references : SpellFault
 too_many_references = spell.Code 23
+
+-- the codes of what words on a line are refused for
+abbrev pub line_codes : List ℕ
+line_codes = 5 ∷ 6 ∷ 7 ∷ 8 ∷ 9 ∷ 10 ∷ 12 ∷ 13 ∷ 14 ∷ 15 ∷ 17 ∷ 19 ∷ 23 ∷ []
+
+abbrev pub is_line_code : ℕ → Bool
+is_line_code code = list_any (λ other. other == code) line_codes
+
+-- a fault of words is one of these, and never a lack of memory
+abbrev pub HasLineCode : SpellFault → Type 0
+HasLineCode (spell.Code code) = IsTrue (is_line_code code)
+HasLineCode spell.NoMemory = ⊥
 
 -- what is wrong with the form of a call
 abbrev pub form_fault : ArgFault → SpellFault

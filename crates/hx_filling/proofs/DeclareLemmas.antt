@@ -132,7 +132,7 @@ versions_of reference = reference.versions
 abbrev IsFreeOfOutputs : {B : Type 0} → (Reference → B) → Type 0
 IsFreeOfOutputs g = (o : Outputs) (x : Reference) → g (record x { outputs = o }) ≡ g x
 
-map_changed : {B : Type 0} (g : Reference → B) (change : Reference → Reference)
+pub map_changed : {B : Type 0} (g : Reference → B) (change : Reference → Reference)
     → ((x : Reference) → g (change x) ≡ g x) → (i : ℕ) (xs : List Reference)
     → map g (changed_at i change xs) ≡ map g xs
 map_changed g change same zero [] = refl
@@ -181,7 +181,7 @@ one_count : {A : Type 0} (xs : List A) (y : A) → length (xs ++ y ∷ []) ≡ l
 one_count [] y = refl
 one_count (x ∷ xs) y = let more = one_count xs y in omega (arith, more)
 
-table_shown : {B : Type 0} (g : Reference → B) → IsFreeOfOutputs g → (n : ℕ) (spec : TableSpec) (refs : References)
+pub table_shown : {B : Type 0} (g : Reference → B) → IsFreeOfOutputs g → (n : ℕ) (spec : TableSpec) (refs : References)
     → map g (with_table n spec refs).references
     ≡ map g refs.references ++ g (new_reference refs.first n spec.file spec.two_column spec.acl) ∷ []
 table_shown g free n spec refs =

@@ -2,6 +2,7 @@ pub mod AddingLemmas
 pub mod AdditionLemmas
 pub mod UseLemmas
 pub mod DeclareLemmas
+pub mod EntryLemmas
 pub mod FillLemmas
 pub mod FilledLemmas
 pub mod FirstLemmas

@@ -1,4 +1,6 @@
 pub mod BuiltHeadLemmas
+pub mod CodeLemmas
+pub mod FirstRefusalLemmas
 pub mod JudgedLemmas
 pub mod LaterHeadLemmas
 pub mod LineHeadLemmas

@@ -30,7 +30,7 @@ use Rattle.hx_spell.proofs.ActionSteps.{drop_query}
 use Rattle.hx_calls.proofs.ArgumentLemmas.{counted_coded}
 use Rattle.hx_calls.proofs.CriterionFormLemmas.{EachEntry, entry_such, fault_gives, file_coded}
 use Rattle.hx_calls.proofs.ExpressionCodeLemmas.{expr_coded, format_coded}
-use Rattle.hx_calls.proofs.ResultLemmas.{IsCoded, found_coded, tested_coded, then_coded}
+use Rattle.hx_calls.proofs.ResultLemmas.{IsCoded, IsLineCode, found_coded, tested_coded, then_coded}
 
 -- ---- the word of an action
 
@@ -43,7 +43,7 @@ bare_makes name line args known =
 
 variable_coded : (given : Option (List ℕ)) → IsCoded (required (read_form Variable) given)
 variable_coded None = tt
-variable_coded (Some text) = found_coded (variable_name_of text) 12
+variable_coded (Some text) = found_coded (variable_name_of text) 12 tt
 
 variable_makes : (name : VariableAction) → MakesCoded (variable_head name)
 variable_makes name line args known =
@@ -106,11 +106,12 @@ first_coded read coded [] known = tt
 first_coded read coded (word ∷ words) known =
     then_coded (read word known) _ (coded word known) (λ found. tt)
 
-plain_coded : {A : Type 0} (read : List ℕ → Option A) (n : ℕ) (words : List (List ℕ))
-    (known : Known) → IsCoded (plain_word read (spell.Code n) words known)
-plain_coded read n words known =
+plain_coded : {A : Type 0} (read : List ℕ → Option A) (n : ℕ) → IsLineCode n
+    → (words : List (List ℕ)) (known : Known)
+    → IsCoded (plain_word read (spell.Code n) words known)
+plain_coded read n is words known =
     first_coded _
-    (λ word known. then_coded (ok_or (read word) (spell.Code n)) _ (found_coded (read word) n)
+    (λ word known. then_coded (ok_or (read word) (spell.Code n)) _ (found_coded (read word) n is)
     (λ x. tt)) words known
 
 pub format_word_coded : (line : ℕ) (words : List (List ℕ)) (known : Known)
@@ -127,15 +128,15 @@ with_format_coded line make words known =
 header_format_coded : (line : ℕ) (make : List ℕ → List Part → Action) (words : List (List ℕ))
     (known : Known) → IsCoded (with_header_format line make words known)
 header_format_coded line make words known =
-    then_coded (header_word words known) _ (plain_coded header_of 12 words known)
+    then_coded (header_word words known) _ (plain_coded header_of 12 tt words known)
     (λ name. with_format_coded line (make name.value.item) name.value.words name.known)
 
 replacement_coded : (line : ℕ) (make : List ℕ → List ℕ → List Part → Action)
     (words : List (List ℕ)) (known : Known) → IsCoded (with_replacement line make words known)
 replacement_coded line make words known =
-    then_coded (header_word words known) _ (plain_coded header_of 12 words known)
+    then_coded (header_word words known) _ (plain_coded header_of 12 tt words known)
     (λ name. then_coded (text_word name.value.words name.known) _
-    (plain_coded Some 10 name.value.words name.known)
+    (plain_coded Some 10 tt name.value.words name.known)
     (λ found. with_format_coded line (make name.value.item found.value.item) found.value.words
     found.known))
 
@@ -147,7 +148,7 @@ two_formats_coded line make words known =
 
 name_coded : (words : List (List ℕ)) (known : Known) → IsCoded (with_name_of_header words known)
 name_coded words known =
-    then_coded (header_word words known) _ (plain_coded header_of 12 words known) (λ name. tt)
+    then_coded (header_word words known) _ (plain_coded header_of 12 tt words known) (λ name. tt)
 
 set_var_coded : (line : ℕ) (name : VarName) (words : List (List ℕ)) (known : Known)
     → IsCoded (with_expr line name words known)
@@ -160,7 +161,7 @@ number_coded : (is : List ℕ → Bool) (read : List ℕ → Option ℕ) (words 
     (known : Known) → IsCoded (word_and_value is read words known)
 number_coded is read [] known = tt
 number_coded is read (word ∷ words) known =
-    tested_coded (is word) _ _ (plain_coded (λ text. option_map Some (read text)) 10 words known) tt
+    tested_coded (is word) _ _ (plain_coded (λ text. option_map Some (read text)) 10 tt words known) tt
 
 deny_coded : (words : List (List ℕ)) (known : Known) → IsCoded (with_status words known)
 deny_coded words known =
@@ -170,7 +171,7 @@ deny_coded words known =
 switch_coded : (words : List (List ℕ)) (known : Known) → IsCoded (with_switch words known)
 switch_coded words known =
     then_coded (plain_word (entry_at switch_table) bad_argument words known) _
-    (plain_coded (entry_at switch_table) 10 words known) (λ on. tt)
+    (plain_coded (entry_at switch_table) 10 tt words known) (λ on. tt)
 
 drops_coded : (wanted : List ℕ) (words : List (List ℕ)) (known : Known)
     → IsCoded (optional_word wanted words known)
@@ -180,7 +181,7 @@ drops_coded wanted (word ∷ words) known = tested_coded (bytes_eq word wanted) 
 pub redirect_coded : (line : ℕ) (words : List (List ℕ)) (known : Known)
     → IsCoded (with_redirect line words known)
 redirect_coded line words known =
-    then_coded (kind_word words known) _ (plain_coded (entry_at kind_table) 10 words known)
+    then_coded (kind_word words known) _ (plain_coded (entry_at kind_table) 10 tt words known)
     (λ kind. then_coded (format_word line kind.value.words kind.known) _
     (format_word_coded line kind.value.words kind.known)
     (λ format. then_coded

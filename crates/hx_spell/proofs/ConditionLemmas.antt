@@ -1,6 +1,6 @@
 -- A condition is read as it is spelled, and what is read is one.
 use Rattle.std.proofs.Common.{◌≡◌, ℕ, Bool, true, false, List, [], ◌∷◌, ◌++◌, None, Some, Ok, Err, inl, inr, refl}
-use Rattle.std.specs.Prelude.{◌↔◌, ◌≢◌, ◌&&◌, Option, Result, codes, if◌then◌else◌, nat_lt, not}
+use Rattle.std.specs.Prelude.{◌↔◌, ◌&&◌, Option, Result, codes, if◌then◌else◌, nat_lt, not}
 use Rattle.std.specs.List.{All}
 use Rattle.std.specs.Str.{bytes_eq}
 use Rattle.std.proofs.lemmas.Bool.{cases_Bool}
@@ -21,7 +21,7 @@ use Rattle.hx_spell.proofs.ConditionReadLemmas.{cond_read}
 use Rattle.hx_spell.proofs.ConditionSpellLemmas.{cond_spells}
 use Rattle.hx_spell.proofs.ConditionWordLemmas.{name_is}
 use Rattle.hx_spell.proofs.DeclarationLemmas.{decl_coded, decl_is_decl}
-use Rattle.hx_calls.proofs.ResultLemmas.{Gives, then_gives}
+use Rattle.hx_calls.proofs.ResultLemmas.{Gives, IsCoded, then_gives}
 use Rattle.hx_calls.specs.declared.fault.SpellFault.TheVariants as spell
 
 pub cond_law : (line : ℕ) (words : List (List ℕ)) (before : Known)
@@ -67,11 +67,11 @@ with_such acl terms such use' = record {
       (All-nil (λ (term : Term). IsAclUse term.acl)));
 }
 
-gives_by : {A : Type 0} (P : A → Type 0) (r : Result A SpellFault) → r ≢ Err spell.NoMemory
+gives_by : {A : Type 0} (P : A → Type 0) (r : Result A SpellFault) → IsCoded r
     → ((x : A) → r ≡ Ok x → P x) → Gives P r
-gives_by P (Ok x) never such = such x refl
-gives_by P (Err (spell.Code n)) never such = tt
-gives_by P (Err spell.NoMemory) never such = never refl
+gives_by P (Ok x) coded such = such x refl
+gives_by P (Err (spell.Code n)) coded such = coded
+gives_by P (Err spell.NoMemory) coded such = coded
 
 pub decl_gives : (line : ℕ) (text : List ℕ) (words : List (List ℕ)) (known : Known)
     → Gives (λ (read : Reading Decl). IsDecl read.value) (decl_of line text words known)

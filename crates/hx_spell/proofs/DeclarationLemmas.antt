@@ -1,6 +1,6 @@
 -- A text and words are read as the ACL that they spell, so they spell one at most; others are
 -- refused by a code.
-use Rattle.std.proofs.Common.{◌≡◌, ◌≢◌, ◌↔◌, ℕ, ◌||◌, Bool, true, false, cond, List, [], ◌∷◌, Option, None, Some, Ok, Err, refl, sym, ◌∙◌, subst}
+use Rattle.std.proofs.Common.{◌≡◌, ◌↔◌, ℕ, ◌||◌, Bool, true, false, cond, List, [], ◌∷◌, Option, None, Some, Ok, Err, refl, sym, ◌∙◌, subst}
 use Rattle.std.specs.Prelude.{Result, ◌++◌, if◌then◌else◌, is_some}
 use Rattle.std.specs.Option.{ok_or, option_map_or}
 use Rattle.hx_text.specs.declared.By.{By}
@@ -28,7 +28,7 @@ use Rattle.hx_spell.proofs.AclSpellLemmas.{patterns_law, way_law}
 use Rattle.hx_calls.proofs.CriterionFormLemmas.{criterion_is_expr, named_file_coded, reference_coded}
 use Rattle.hx_calls.proofs.CriterionLemmas.{criterion_coded, criterion_law}
 use Rattle.hx_spell.proofs.FlagLemmas.{after_flags, flags_law}
-use Rattle.hx_calls.proofs.ResultLemmas.{Gives, IsCoded, and_then_ok, both, found_coded, given_value, never_without_memory, tested_coded, then_coded, then_gives, then_ok}
+use Rattle.hx_calls.proofs.ResultLemmas.{Gives, IsCoded, IsLineCode, and_then_ok, both, found_coded, given_value, gives_coded, tested_coded, then_coded, then_gives, then_ok}
 
 -- ---- the steps of reading an ACL
 
@@ -144,10 +144,10 @@ argument_coded line File text flags known =
     (named_file_coded line text flags.two known) (λ file. tt)
 argument_coded line Method text flags known =
     then_coded (ok_or (entry_at method_table text) unsupported) _
-    (found_coded (entry_at method_table text) 9) (λ by. tt)
+    (found_coded (entry_at method_table text) 9 tt) (λ by. tt)
 argument_coded line Number text flags known =
     then_coded (ok_or (width_of 4294967295 text) bad_argument) _
-    (found_coded (width_of 4294967295 text) 10) (λ n. tt)
+    (found_coded (width_of 4294967295 text) 10 tt) (λ n. tt)
 argument_coded line End text flags known = tt
 
 word_coded : (further : Option Flag → Flags → Result (Reading AfterFlags) SpellFault)
@@ -200,10 +200,10 @@ way_coded expr None = kind_coded (expr_kind expr)
 
 -- ---- patterns
 
--- the fault is a code
+-- the fault is a code of a line
 abbrev IsCode : Option SpellFault → Type 0
 IsCode None = Unit {0}
-IsCode (Some (spell.Code n)) = Unit {0}
+IsCode (Some (spell.Code n)) = IsLineCode n
 IsCode (Some spell.NoMemory) = ⊥
 
 key_coded : (key : Option (List ℕ)) (more : Keys) → IsCode more.fault
@@ -239,7 +239,7 @@ keys_coded by words =
 fault_coded : {A : Type 0} (fault : Option SpellFault) (r : Result A SpellFault) → IsCode fault
     → IsCoded r → IsCoded (option_map_or Err fault r)
 fault_coded None r coded other = other
-fault_coded (Some (spell.Code n)) r coded other = tt
+fault_coded (Some (spell.Code n)) r coded other = coded
 fault_coded (Some spell.NoMemory) r coded other = coded
 
 heads_coded : (line : ℕ) (way : Way) (flags : Flags) (keys : List (List ℕ))
@@ -318,7 +318,7 @@ HasExpr criterion = IsExpr criterion.value.expr
 criterion_by : (r : Result (Reading Criterion) SpellFault) → IsCoded r
     → ((c : Reading Criterion) → r ≡ Ok c → HasExpr c) → Gives HasExpr r
 criterion_by (Ok criterion) coded such = such criterion refl
-criterion_by (Err (spell.Code n)) coded such = tt
+criterion_by (Err (spell.Code n)) coded such = coded
 criterion_by (Err spell.NoMemory) coded such = coded
 
 criterion_gives : (line : ℕ) (text : List ℕ) (before : Known)
@@ -343,12 +343,11 @@ decl_gives line text words before =
     (way_coded criterion.value.expr after.value.flags.by)
     (λ way any. by_gives line criterion.value.expr after.value after.known way such)))
 
--- Words that are refused are refused by a code.
+-- Words that are refused are refused by a code of a line.
 pub decl_coded : (line : ℕ) (text : List ℕ) (words : List (List ℕ)) (before : Known)
-    → decl_of line text words before ≢ Err spell.NoMemory
+    → IsCoded (decl_of line text words before)
 decl_coded line text words before =
-    never_without_memory ReadsDecl (decl_of line text words before)
-    (decl_gives line text words before)
+    gives_coded ReadsDecl (decl_of line text words before) (decl_gives line text words before)
 
 -- What is read is an ACL.
 pub decl_is_decl : (line : ℕ) (text : List ℕ) (words : List (List ℕ)) (before : Known)

@@ -15,7 +15,7 @@ use Rattle.hx_ast.specs.declared.Term.{Term}
 use Rattle.hx_calls.specs.declared.fault.SpellFault.{SpellFault}
 use Rattle.hx_calls.specs.declared.fault.SpellFault.TheVariants as spell
 use Rattle.hx_spell.specs.Actions.{Taken, action_words, format_word, head_of_step, with_redirect}
-use Rattle.hx_calls.specs.Codes.{bad_argument, bad_name, unsupported}
+use Rattle.hx_calls.specs.Codes.{HasLineCode, bad_argument, bad_name, unsupported}
 use Rattle.hx_spell.specs.Conditions.{cond_of, is_acl_name, is_name}
 use Rattle.hx_spell.specs.Declarations.{decl_of}
 use Rattle.hx_calls.specs.Known.{Known, Reading, ReadsAs}
@@ -27,7 +27,7 @@ use Rattle.hx_spell.proofs.ActionCodeLemmas.{format_word_coded, head_coded, redi
 use Rattle.hx_spell.proofs.ConditionLemmas.{cond_gives, decl_gives}
 use Rattle.hx_spell.proofs.LineReadLemmas.{line_reads}
 use Rattle.hx_spell.proofs.LineSpellLemmas.{line_spells}
-use Rattle.hx_calls.proofs.ResultLemmas.{IsCoded, found_coded, gives_coded, never_without_memory, tested_coded, then_coded}
+use Rattle.hx_calls.proofs.ResultLemmas.{IsCoded, IsLineCode, found_coded, gives_coded, has_line_code, never_without_memory, tested_coded, then_coded}
 
 -- words are read as the statement that they spell, and as no other
 pub line_law : (line : ℕ) (words : List (List ℕ)) (before : Known) (read : Reading Statement)
@@ -37,10 +37,10 @@ line_law line words before read =
 
 -- ---- what is no statement is refused by a code
 
--- a fault, if there is one, is a code
+-- a fault, if there is one, is a code of a line
 abbrev IsCode : Option SpellFault → Type 0
 IsCode None = Unit {0}
-IsCode (Some (spell.Code n)) = Unit {0}
+IsCode (Some (spell.Code n)) = IsLineCode n
 IsCode (Some spell.NoMemory) = ⊥
 
 code_if : (b : Bool) (fault other : Option SpellFault) → IsCode fault → IsCode other
@@ -51,7 +51,7 @@ code_if false fault other is also = also
 plain_coded : (fault : Option SpellFault) (known : Known) → IsCode fault
     → IsCoded (plain_unless fault known)
 plain_coded None known is = tt
-plain_coded (Some (spell.Code n)) known is = tt
+plain_coded (Some (spell.Code n)) known is = is
 plain_coded (Some spell.NoMemory) known is = absurd is
 
 frontend_code : (words : List (List ℕ)) → IsCode (frontend_fault words)
@@ -91,7 +91,7 @@ when_coded : (line : ℕ) (words : List (List ℕ)) (known : Known) → IsCoded 
 when_coded line [] known = tt
 when_coded line (word ∷ words) known =
     then_coded (ok_or (entry_at polarity_table word) bad_argument) _
-    (found_coded (entry_at polarity_table word) 10)
+    (found_coded (entry_at polarity_table word) 10 tt)
     (λ unless. then_coded (cond_of line words known) _
     (gives_coded (λ (read : Reading (List (List Term))). IsCond read.value)
     (cond_of line words known) (cond_gives line words known)) (λ cond. tt))
@@ -161,6 +161,12 @@ line_never_lacks line words known =
     never_without_memory (λ (read : Reading Statement). Unit {0}) (line_of line words known)
     (line_coded line words known)
 
+pub line_has_code : (line : ℕ) (words : List (List ℕ)) (known : Known) (fault : SpellFault)
+    → line_of line words known ≡ Err fault → HasLineCode fault
+line_has_code line words known fault is =
+    has_line_code (λ (read : Reading Statement). Unit {0}) (line_of line words known) fault
+    (line_coded line words known) is
+
 -- ---- what a call answers where it reads words
 
 pub answer_spelled : (line : ℕ) (words : List (List ℕ)) (before after : Known)
@@ -186,3 +192,10 @@ pub answer_nothing : (line : ℕ) (words : List (List ℕ)) (before after : Know
 answer_nothing line words before after (Ok statement) is = tt
 answer_nothing line words before after (Err fault) is =
     λ coded. spells_nothing line words before fault (is coded)
+
+pub answer_code : (line : ℕ) (words : List (List ℕ)) (before after : Known)
+    (answer : Result Statement SpellFault) → ReadsAs answer after (line_of line words before)
+    → IfErr answer (λ fault. fault ≢ spell.NoMemory → HasLineCode fault)
+answer_code line words before after (Ok statement) is = tt
+answer_code line words before after (Err fault) is =
+    λ coded. line_has_code line words before fault (is coded)

@@ -2,6 +2,7 @@ ghost use Rattle.std.specs.Prelude.{◌≡◌, ◌≢◌, ◌≤◌, length, IfE
 ghost use Rattle.hx_ast.specs.Statements.{IsStatement};
 ghost use Rattle.hx_ast.specs.declared.Statement.{Statement};
 ghost use Rattle.hx_spell.specs.Heads.{StatementNames};
+ghost use Rattle.hx_calls.specs.Codes.{HasLineCode};
 ghost use Rattle.hx_calls.specs.Known.{BeginsWith, ReadsAs, Reading, nothing_known};
 ghost use Rattle.hx_spell.specs.Lines.{line_of};
 ghost use Rattle.hx_spell.specs.Relation.{SpellLine};
@@ -101,6 +102,7 @@ impl Speller {
             (record { value = statement; known = self.new })) }
         ensures nothing { IfErr result (λ fault. fault ≢ SpellFault.NoMemory
             → (read : Reading Statement) → ¬ SpellLine number self.old words.now read) }
+        ensures code { IfErr result (λ fault. fault ≢ SpellFault.NoMemory → HasLineCode fault) }
         ensures allowed { IfOk result IsStatement }
         ensures heads { IfOk result
             (StatementNames self.new.heads (length self.new.references)) }

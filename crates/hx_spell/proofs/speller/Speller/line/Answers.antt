@@ -1,7 +1,7 @@
 use Rattle.std.proofs.Common.{List, ℕ, subst}
 use Rattle.hx_calls.specs.Known.{ReadsAs}
 use Rattle.hx_spell.specs.Lines.{line_of}
-use Rattle.hx_spell.proofs.LineLemmas.{answer_nothing, answer_spelled}
+use Rattle.hx_spell.proofs.LineLemmas.{answer_code, answer_nothing, answer_spelled}
 use Rattle.hx_spell.proofs.SoundLineLemmas.{answer_allowed, answer_grown, answer_heads}
 use Rattle.hx_spell.proofs.speller.Speller.line.Goals as goal
 
@@ -21,6 +21,7 @@ returns c =
       kept = c.read.ensures.kept;
       spelled = answer_spelled line words before after answer read;
       nothing = answer_nothing line words before after answer read;
+      code = answer_code line words before after answer read;
       allowed = answer_allowed line words before after answer read;
       heads = answer_heads line words before after answer read;
       extends = grown.heads;
