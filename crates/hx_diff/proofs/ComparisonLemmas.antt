@@ -1,5 +1,5 @@
 -- Laws of two worlds that go through the same events, and of what is counted of their answers.
-use Rattle.std.proofs.Common.{◌≡◌, ℕ, zero, suc, ◌≤◌, Bool, true, false, not, ◌||◌, nat_lt, ◌⊎◌, List, [], ◌∷◌, ◌++◌, Option, None, Some, Result, Err, refl, sym, ◌∙◌, ap, subst, inl, inr, arith, if◌then◌else◌}
+use Rattle.std.proofs.Common.{◌≡◌, ℕ, Bool, true, false, not, ◌||◌, nat_lt, ◌⊎◌, List, [], ◌∷◌, Option, None, Some, Err, refl, sym, ◌∙◌, ap, subst, inl, inr, arith, if◌then◌else◌}
 use mathlib.Core.Bool.{true≢false}
 use Rattle.std.specs.FinMap as map
 use Rattle.std.specs.Option.{option_map_or}
@@ -14,7 +14,7 @@ use Rattle.hx_core.specs.declared.fault.StepFault.TheVariants as step
 use Rattle.hx_fetch.specs.declared.Conn.{Conn as Connection}
 use Rattle.hx_http.specs.Head.{Head, head_of, many, message, none}
 use Rattle.hx_outside.specs.Count.{Rose}
-use Rattle.hx_outside.specs.Makers.{CountsLarge, ExpressionText, MakerState}
+use Rattle.hx_outside.specs.Makers.{ExpressionText, MakerState}
 use Rattle.hx_record.specs.declared.Event.{Event}
 use Rattle.hx_record.specs.declared.Event.TheVariants.{Conn, Req, Close, Cli}
 use Rattle.hx_replay.specs.Behavior.{AreAllowed, state_after}

@@ -26,7 +26,7 @@ use Rattle.hx_diff.specs.declared.run_fault.RunFault.TheVariants as run
 use Rattle.hx_diff.specs.declared.run_fault.Side.{Side}
 use Rattle.hx_diff.specs.declared.run_fault.Side.TheVariants as sides
 use Rattle.hx_diff.proofs.ComparisonLemmas.{allowed_alike, allowed_by_both, alike_of_none, none_of_alike}
-use Rattle.hx_diff.proofs.RunLemmas.{accepts}
+use Rattle.hx_replay.proofs.ConfigLemmas.{accepts}
 
 -- an end is completed like this, or not
 abbrev IsCompleted : Bool → Option End → Type 0

@@ -5,7 +5,6 @@ use Rattle.std.specs.Str.{bytes_eq}
 use Rattle.hx_base.specs.Bytes.{ascii}
 use Rattle.hx_http.specs.Edits.{has_name}
 use Rattle.hx_http.specs.Head.{Head, head_of, many, message, none}
-use Rattle.hx_http.specs.Parts.{Parts}
 use Rattle.hx_record.specs.declared.Event.{Event}
 use Rattle.hx_record.specs.declared.Event.TheVariants.{Conn, Req, Close, Cli}
 use Rattle.hx_diff.specs.AnswerParts.{AnswerParts}

@@ -1,11 +1,11 @@
 -- What a run writes, and its status.
-use Rattle.std.specs.Prelude.{◌≡◌, ◌⊎◌, ℕ, Bool, List, [], ◌∷◌, codes, Contains, IfSome, IsSomeAnd, Option, None, Some, option_map, if◌then◌else◌}
+use Rattle.std.specs.Prelude.{◌≡◌, ◌⊎◌, ℕ, Bool, List, [], ◌∷◌, codes, Contains, Option, None, Some, option_map, if◌then◌else◌}
 use Rattle.std.specs.Io.KnownBytes.{Appends}
 use Rattle.std.specs.Str.{bytes_eq}
 use Rattle.std.specs.declared.alloc.Global.{Global}
 use Rattle.std.specs.declared.vec.Vec.{Vec}
-use Rattle.hx_base.specs.Pairs.{NamedBytes, pairs_of, value_at}
-use Rattle.hx_load.specs.Loads.{GivesProgram, Judges, Loading, ReadsFile, loaded}
+use Rattle.hx_base.specs.Pairs.{NamedBytes, pairs_of}
+use Rattle.hx_load.specs.Loads.{Loading}
 use Rattle.hx_load.specs.Loads as loading
 use Rattle.hx_outside.specs.Log.{Log}
 use Rattle.hx_outside.specs.Makers.{ExpressionText}
@@ -14,9 +14,10 @@ use Rattle.hx_program.specs.Machine.{texts_of}
 use Rattle.hx_record.specs.Record.{record_items}
 use Rattle.hx_record.specs.declared.Event.{Event}
 use Rattle.hx_words.specs.Variable.{Env}
+use Rattle.hx_replay.specs.Configs.{ConfigGives, ConfigJudgesLast, ConfigReads, ConfigSetting, IsJudgement}
 use Rattle.hx_replay.specs.Behavior.{AreAllowed}
 use Rattle.hx_replay.specs.Outcome.{Outcome, ends_with, with_end}
-use Rattle.hx_replay.specs.Program.{Program, engine_behavior, initial_world, usual_limits}
+use Rattle.hx_replay.specs.Program.{Program, engine_behavior, initial_world}
 use Rattle.hx_replay.specs.Records.{HoldsBeforeLastRead, IsRecord, events_of, record_limit}
 use Rattle.hx_replay.specs.Replay.{BeginsWithDecided, ReplayAsksLast, WritesDecided, record_outcome}
 use Rattle.hx_diff.specs.Comparison.{Programs, AreAnsweredAlike, ComparisonAsksFor, comparison_behavior, comparison_text, initial_comparison}
@@ -64,16 +65,6 @@ command_of (word ∷ old ∷ new ∷ []) =
 command_of (word ∷ second ∷ third ∷ fourth ∷ []) = command_of_four word second third fourth
 command_of _ = None
 
--- What a run is given of one configuration: the environment, what the files hold, as far as that is
--- known, and its name.
-pub record Given : Type 0 where
-  pub env : Env
-  pub held : Option NamedBytes
-  pub name : List ℕ
-
-abbrev pub given : List (Vec ℕ Global × Vec ℕ Global) → Option NamedBytes → List ℕ → Given
-given env held name = record { env = pairs_of env; held = held; name = name }
-
 -- What a run is given: the environment, what the files hold, the names of both configurations, and
 -- what the source has left. Of files and source that is what is known.
 pub record Setting : Type 0 where
@@ -82,10 +73,10 @@ pub record Setting : Type 0 where
   pub asked : Asked
   pub left : Option (List ℕ)
 
-abbrev pub old_of : Setting → Given
+abbrev pub old_of : Setting → ConfigSetting
 old_of s = record { env = s.env; held = s.held; name = s.asked.old_name }
 
-abbrev pub new_of : Setting → Given
+abbrev pub new_of : Setting → ConfigSetting
 new_of s = record { env = s.env; held = s.held; name = s.asked.new_name }
 
 abbrev pub setting : List (Vec ℕ Global × Vec ℕ Global) → Option NamedBytes → Asked
@@ -98,52 +89,6 @@ abbrev pub setting_of : List (Vec ℕ Global) → List (Vec ℕ Global × Vec �
     → Option NamedBytes → Option (List ℕ) → Option Setting
 setting_of words env held left =
     option_map (λ asked. setting env held asked left) (command_of (texts_of words))
-
--- ---- one configuration
-
--- these are the files, and the configuration is what they hold under its name, where that is known
-abbrev pub HasConfig : Given → NamedBytes → Option (List ℕ) → Type 0
-HasConfig given files config =
-    IfSome given.held (λ held. (files ≡ held) × (config ≡ value_at held given.name))
-
--- The files hold a configuration of which this is so, under what they hold besides, as far as it is
--- known.
-pub record HoldsConfig (given : Given) (P : NamedBytes → List ℕ → Type 0) : Type 0 where
-  pub config : List ℕ
-  pub files : NamedBytes
-  pub of_files : HasConfig given files (Some config)
-  pub is : P files config
-
--- the configuration is accepted as this program
-abbrev pub Accepts : Given → Program → Type 0
-Accepts given program = HoldsConfig given (λ files config.
-    GivesProgram given.env usual_limits files config program.rules program.references)
-
--- the files that are read for a configuration: itself, and those to which it comes when it is
--- loaded, with no fault before them
-abbrev pub ConfigReads : Given → List ℕ → Type 0
-ConfigReads given name = (name ≡ given.name)
-    ⊎ HoldsConfig given (λ files config. ReadsFile given.env usual_limits files config name)
-
--- the last text that was too large for the maker is one that is read as a regular expression when
--- the configuration is loaded
-abbrev pub ConfigJudgesLast : Given → Option ExpressionText → Type 0
-ConfigJudgesLast given large = HoldsConfig given (λ files config.
-    IsSomeAnd large (Judges given.env usual_limits files config))
-
--- what a configuration loads as; where there is none, its own file is missing
-abbrev pub judgement_of : Given → NamedBytes → Option (List ℕ) → Loading
-judgement_of given files None = loading.Missing given.name
-judgement_of given files (Some config) = loaded given.env usual_limits files config
-
--- this is what the configuration loads as, as far as the files are known
-pub record IsJudgement (given : Given) (judgement : Loading) : Type 0 where
-  pub config : Option (List ℕ)
-  pub files : NamedBytes
-  pub of_files : HasConfig given files config
-  pub is : judgement ≡ judgement_of given files config
-
--- ---- outcomes
 
 -- what comes of a record under two configurations that are accepted
 abbrev pub compared_outcome : Programs → List ℕ → Outcome End
@@ -198,8 +143,8 @@ pub record HasStatus (s : Setting) (status : ℕ) : Type 0 where
 -- these are the task of a setting and its two configurations, which are accepted
 pub record AcceptsBoth (s : Setting) (programs : Programs) : Type 0 where
   pub task : programs.task ≡ s.asked.task
-  pub old : Accepts (old_of s) programs.old_program
-  pub new : Accepts (new_of s) programs.new_program
+  pub old : ConfigGives (old_of s) programs.old_program
+  pub new : ConfigGives (new_of s) programs.new_program
 
 -- both are accepted as programs of which this is so
 pub record AcceptsSome (s : Setting) (P : Programs → Type 0) : Type 0 where

@@ -2,21 +2,19 @@
 use Rattle.std.specs.Prelude.{◌≡◌, ℕ, Bool, true, false, List, [], ◌∷◌, Contains, Option, None, Some, Result, Ok, Err, ⊤, ◌⊎◌}
 use Rattle.std.specs.Io.KnownBytes.{Appends}
 use Rattle.hx_outside.specs.Prefixes.{AppendsPrefix}
-use Rattle.hx_load.specs.Loads.{Loading}
-use Rattle.hx_load.specs.Loads as loading
 use Rattle.hx_load.specs.declared.LoadFault.{LoadFault}
 use Rattle.hx_load.specs.declared.LoadFault.TheVariants as load
 use Rattle.hx_refs.specs.References.{RefsState}
 use Rattle.hx_rules.specs.Programs.{Rules}
+use Rattle.hx_replay.specs.Configs.{program_of}
 use Rattle.hx_replay.specs.Gathering.{WritesOutcome}
 use Rattle.hx_replay.specs.Outcome.{Outcome}
-use Rattle.hx_replay.specs.Program.{Program}
 use Rattle.hx_replay.specs.declared.replay_fault.ReplayFault.{ReplayFault}
 use Rattle.hx_replay.specs.declared.replay_fault.ReplayFault.TheVariants as replay
 use Rattle.hx_diff.specs.Comparison.{Programs}
 use Rattle.hx_diff.specs.Outcome.{End, Completed, last_line}
 use Rattle.hx_diff.specs.Outcome as ends
-use Rattle.hx_diff.specs.Run.{Given, Setting, HasOutcome, IsJudgement}
+use Rattle.hx_diff.specs.Run.{Setting, HasOutcome}
 use Rattle.hx_diff.specs.declared.command.Task.{Task}
 use Rattle.hx_diff.specs.declared.run_fault.RunFault.{RunFault}
 use Rattle.hx_diff.specs.declared.run_fault.RunFault.TheVariants.{ConfigRefused, RecordRefused, Files, Source, Sink, TooLarge, NoMemory}
@@ -101,23 +99,6 @@ EndsAs s (Some end) = HasEnd s end
 
 -- ---- loading
 
--- a configuration as it was loaded
-abbrev pub program_of : Rules × RefsState → Program
-program_of loaded = record { rules = loaded.0; references = loaded.1.content }
-
 abbrev pub programs_of : Task → (old new : Rules × RefsState) → Programs
 programs_of task old new =
     record { task = task; old_program = program_of old; new_program = program_of new }
-
--- the configuration is accepted, and this was loaded of it
-abbrev pub IsAccepted : Given → Rules × RefsState → Type 0
-IsAccepted given loaded = IsJudgement given (loading.Accepted loaded.0 loaded.1.content)
-
--- what comes of a configuration is what it loads as
-abbrev pub LoadsConfig : Given → Result (Rules × RefsState) LoadFault → Type 0
-LoadsConfig given (Ok loaded) = IsAccepted given loaded
-LoadsConfig given (Err (load.Refused line code)) =
-    IsJudgement given (loading.Refused (record { line = line; code = code }))
-LoadsConfig given (Err load.Failed) = ⊤
-LoadsConfig given (Err load.TooLarge) = ⊤
-LoadsConfig given (Err load.NoMemory) = ⊤

@@ -9,10 +9,10 @@ ghost use Rattle.hx_diff.specs.Run.{compared_outcome};
 ghost use Rattle.hx_diff.specs.RunFault.{IsReplayFault, programs_of, result_end, run_result};
 
 use crate::command::Task;
-use crate::engines::{Engines, Loaded};
+use crate::engines::Engines;
 use crate::run_fault::RunFault;
 use hx_outside::{ReMaker, Sink, Source};
-use hx_replay::{ReplayFault, replay};
+use hx_replay::{LoadedConfig, ReplayFault, replay};
 use std::alloc::Global;
 
 /// Answers the events of a record by two configurations, as `replay` does it, and writes what the
@@ -24,8 +24,8 @@ use std::alloc::Global;
 pub fn compare<S: Source, K: Sink, M: ReMaker>(
     alloc: Global,
     task: Task,
-    old: Loaded,
-    new: Loaded,
+    old: LoadedConfig,
+    new: LoadedConfig,
     record_in: &mut S,
     out: &mut K,
     maker: &mut M,

@@ -12,15 +12,10 @@ use crate::report::Report;
 use hx_core::{Answer, Engine, StepFault};
 use hx_outside::ReMaker;
 use hx_record::Event;
-use hx_refs::Refs;
-use hx_replay::{Answerer, Answers};
-use hx_rules::Program;
+use hx_replay::{Answerer, Answers, LoadedConfig};
 use hx_text::NoMemory;
 use hx_trace::Explainer;
 use std::alloc::Global;
-
-/// A configuration that was loaded: its rules and its references.
-pub type Loaded = (Program, Refs);
 
 /// The engines of both configurations, and what is told of their answers.
 #[derive(Drop)]
@@ -36,7 +31,7 @@ pub struct Engines {
 impl Engines {
     /// The engines before the first event, for this task. The references of each configuration have
     /// the heads and the lists that its rules name.
-    pub fn new(alloc: Global, task: Task, old: Loaded, new: Loaded) -> Engines
+    pub fn new(alloc: Global, task: Task, old: LoadedConfig, new: LoadedConfig) -> Engines
         requires old { FitRules old.1.content old.0 }
         requires new { FitRules new.1.content new.0 }
         ensures comparison { comparison_of result ≡ initial_comparison (programs_of task old new) }

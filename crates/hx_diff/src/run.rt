@@ -1,25 +1,25 @@
-ghost use Rattle.std.specs.Prelude.{◌≡◌, ◌≢◌, ◌≤◌, ◌↔◌, ◌⊎◌, ℕ, Err, None, Some, Contains, [], ◌∷◌, OnOk, IfOk, IfSome, IsErrOf, IsSomeAnd};
+ghost use Rattle.std.specs.Prelude.{◌≡◌, ◌≢◌, ◌≤◌, ◌↔◌, ◌⊎◌, ℕ, Err, None, Some, Contains, [], ◌∷◌, OnOk, IfSome, IsErrOf, IsSomeAnd};
 ghost use Rattle.std.specs.Io.KnownBytes.{Appends, IsAtEnd};
 ghost use Rattle.hx_core.specs.World.{FitRules};
 ghost use Rattle.hx_outside.specs.Count.{Rose};
 ghost use Rattle.hx_outside.specs.Log.{HoldsSince};
 ghost use Rattle.hx_program.specs.Machine.{texts_of};
+ghost use Rattle.hx_replay.specs.ConfigFiles.{ReadsConfig};
+ghost use Rattle.hx_replay.specs.Configs.{IsAccepted};
 ghost use Rattle.hx_diff.specs.Command.{asked_of};
-ghost use Rattle.hx_diff.specs.Run.{command_of, given, old_of, setting, setting_of};
-ghost use Rattle.hx_diff.specs.Run.{AnswersBeforeReading, ConfigJudgesLast, ConfigReads, Headline};
+ghost use Rattle.hx_diff.specs.Run.{command_of, new_of, old_of, setting, setting_of};
+ghost use Rattle.hx_diff.specs.Run.{AnswersBeforeReading, Headline};
 ghost use Rattle.hx_diff.specs.Run.{HasStatus, Ran, RunAsksLast, RunJudgesLast, RunReads, SourceFails};
-ghost use Rattle.hx_diff.specs.RunFault.{Attempted, EndsAs, Finishes, IsAccepted, LoadsConfig, completed_status};
+ghost use Rattle.hx_diff.specs.RunFault.{Attempted, EndsAs, Finishes, completed_status};
 ghost use Rattle.hx_diff.specs.RunFault.{fault_end, fault_status, result_status};
-ghost use Rattle.hx_diff.specs.RunFiles.{ReadsFiles, ReadsNew, ReadsToLoad};
+ghost use Rattle.hx_diff.specs.RunFiles.{ReadsFiles};
 ghost use Rattle.hx_diff.specs.declared.run_fault.Side.{Side};
 
 use crate::command::{Command, command_of};
 use crate::compare::compare;
-use crate::engines::Loaded;
 use crate::run_fault::{RunFault, Side};
-use hx_load::{LoadFault, load};
-use hx_outside::{FileFault, Files, ReMaker, Sink, SinkFault, Source, write_all};
-use hx_refs::Limits;
+use hx_outside::{Files, ReMaker, Sink, SinkFault, Source, write_all};
+use hx_replay::{LoadedConfig, load_config};
 use std::alloc::Global;
 
 /// How a run ended: the exit status, and the fault that ended it, if one did.
@@ -261,7 +261,7 @@ fn attempt_new<F: Files, S: Source, K: Sink, M: ReMaker>(
     env: &[(Vec<u8>, Vec<u8>)],
     files: &mut F,
     command: Command<'_>,
-    old: Loaded,
+    old: LoadedConfig,
     record_in: &mut S,
     out: &mut K,
     maker: &mut M,
@@ -301,9 +301,9 @@ fn attempt_new<F: Files, S: Source, K: Sink, M: ReMaker>(
     ensures named { (F.last files.new ≡ F.last files.old)
         ⊎ IsSomeAnd (F.last files.new) (RunReads
         (setting env.now (F.held files.old) (asked_of command.entry) (S.left record_in.old))) }
-    ensures files_read { HoldsSince (F.log files.old) (F.log files.new) (ReadsNew
-        (setting env.now (F.held files.old) (asked_of command.entry) (S.left record_in.old))
-        (F.last files.new) (result_status result)) }
+    ensures files_read { HoldsSince (F.log files.old) (F.log files.new) (ReadsConfig
+        (new_of (setting env.now (F.held files.old) (asked_of command.entry)
+        (S.left record_in.old))) (F.last files.new) (result_status result)) }
 {
     reached.side = Side::New;
     match load_config(alloc, env, files, command.new_name, maker) {
@@ -318,40 +318,6 @@ fn attempt_new<F: Files, S: Source, K: Sink, M: ReMaker>(
             &mut reached.requests,
         ),
         Err(fault) => Err(RunFault::of_load(Side::New, fault)),
-    }
-}
-
-/// Reads a configuration, and loads it.
-fn load_config<F: Files, M: ReMaker>(
-    alloc: Global,
-    env: &[(Vec<u8>, Vec<u8>)],
-    files: &mut F,
-    name: &[u8],
-    maker: &mut M,
-) -> Result<Loaded, LoadFault>
-    ensures loads { LoadsConfig (given env.now (F.held files.old) name.now) result }
-    ensures fit { IfOk result (λ loaded. FitRules loaded.1.content loaded.0) }
-    ensures failed { IsErrOf result LoadFault.Failed
-        → Rose (F.faults files.old) (F.faults files.new)
-        × IsSomeAnd (F.last files.new) (ConfigReads (given env.now (F.held files.old) name.now)) }
-    ensures too_large { IsErrOf result LoadFault.TooLarge
-        → Rose (M.state maker.old).too_large (M.state maker.new).too_large
-        × ConfigJudgesLast (given env.now (F.held files.old) name.now)
-        (M.state maker.new).large }
-    ensures uncounted { ¬ (IsErrOf result LoadFault.TooLarge)
-        → ((M.state maker.new).too_large ≡ (M.state maker.old).too_large)
-        × ((M.state maker.new).large ≡ (M.state maker.old).large) }
-    ensures held { F.held files.new ≡ F.held files.old }
-    ensures named { (F.last files.new ≡ F.last files.old)
-        ⊎ IsSomeAnd (F.last files.new) (ConfigReads (given env.now (F.held files.old) name.now)) }
-    ensures later { F.faults files.old ≤ F.faults files.new }
-    ensures files_read { HoldsSince (F.log files.old) (F.log files.new)
-        (ReadsToLoad (given env.now (F.held files.old) name.now) (F.last files.new) result) }
-{
-    match files.read(alloc, name) {
-        Ok(config) => load(alloc, config.as_slice(), env, files, maker, Limits::usual()),
-        Err(FileFault::Failed) => Err(LoadFault::Failed),
-        Err(FileFault::NoMemory) => Err(LoadFault::NoMemory),
     }
 }
 

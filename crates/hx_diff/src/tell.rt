@@ -32,36 +32,15 @@ pub fn tell<K: Sink, F: Files + Drop, S>(
         Side::Old => old_text,
         Side::New => files.read(alloc, name).ok(),
     };
-    let config = known(name, text.as_deref(), file_after(name, last.as_deref()));
+    let config = KnownConfig::new(name, text.as_deref(), file_after(name, last.as_deref()));
     let ending = ending_of(ended);
     let requests = ended.reached.requests;
     let Place { text, reason } = place_of(
         alloc, ending, &config, env, &mut files, record, requests,
     );
     let file = last.as_deref().unwrap_or(name);
-    let _ = explain(err, ended, &told(name, &text, reason, file, large));
-}
-
-/// What is known of a configuration. These texts may have lifetimes of their own.
-fn known<'t>(name: &'t [u8], text: Option<&'t [u8]>, file: Option<&'t [u8]>) -> KnownConfig<'t> {
-    KnownConfig { name, text, file }
-}
-
-/// What is told beside the fault, of the same kind.
-fn told<'t>(
-    name: &'t [u8],
-    place: &'t [u8],
-    reason: &'t [u8],
-    file: &'t [u8],
-    large: &'t [u8],
-) -> Told<'t> {
-    Told {
-        name,
-        place,
-        reason,
-        file,
-        large,
-    }
+    let told = Told::new(name, &text, reason, file, large);
+    let _ = explain(err, ended, &told);
 }
 
 /// The file that was read last after the configuration of this name, if one was.

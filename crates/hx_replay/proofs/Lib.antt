@@ -1,5 +1,7 @@
 pub mod BeforeReadingLemmas
 pub mod CompletedLemmas
+pub mod ConfigFileLemmas
+pub mod ConfigLemmas
 pub mod LogLemmas
 pub mod OutcomeLemmas
 pub mod ReplayLemmas

@@ -10,15 +10,15 @@ pub since_start : (log : Option Log) (P : Log → Type 0) → P [] → HoldsSinc
 since_start None P start = tt
 since_start (Some reads) P start = ([], sym (append-nil reads), start)
 
-pub since_more : (a b c : Option Log) (read : Option (List ℕ)) (P Q : Log → Type 0) → HoldsSince a b P → Logs b c read
-    → ((reads : Log) → P reads → Q (reads ++ (read ∷ []))) → HoldsSince a c Q
+pub since_more : {T : Type 0} (a b c : Option (List T)) (read : T) (P Q : List T → Type 0) → HoldsSince a b P → Logs b c read
+    → ((reads : List T) → P reads → Q (reads ++ (read ∷ []))) → HoldsSince a c Q
 since_more a b None read P Q so_far one more = tt
 since_more a None (Some now) read P Q so_far one more = absurd one
 since_more None (Some between) (Some now) read P Q so_far one more = absurd so_far
-since_more (Some old) (Some between) (Some now) read P Q so_far one more =
-    (so_far.0 ++ (read ∷ []), one ∙ ap (λ reads. reads ++ (read ∷ [])) so_far.1 ∙ append_assoc old so_far.0 (read ∷ []), more so_far.0 so_far.2)
+since_more {T} (Some old) (Some between) (Some now) read P Q so_far one more =
+    (so_far.0 ++ (read ∷ []), one ∙ ap (λ (reads : List T). reads ++ (read ∷ [])) so_far.1 ∙ append_assoc old so_far.0 (read ∷ []), more so_far.0 so_far.2)
 
-since_map : (a b : Option Log) (P Q : Log → Type 0) → HoldsSince a b P → ((reads : Log) → P reads → Q reads) → HoldsSince a b Q
+pub since_map : {T : Type 0} (a b : Option (List T)) (P Q : List T → Type 0) → HoldsSince a b P → ((reads : List T) → P reads → Q reads) → HoldsSince a b Q
 since_map a None P Q so_far also = tt
 since_map None (Some now) P Q so_far also = so_far
 since_map (Some old) (Some now) P Q so_far also = (so_far.0, so_far.1, also so_far.0 so_far.2)

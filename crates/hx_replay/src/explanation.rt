@@ -27,6 +27,33 @@ pub struct Told<'t> {
     pub large: &'t [u8],
 }
 
+impl<'t> Told<'t> {
+    /// What is told in these texts, which may have lifetimes of their own.
+    pub fn new(
+        name: &'t [u8],
+        place: &'t [u8],
+        reason: &'t [u8],
+        file: &'t [u8],
+        large: &'t [u8],
+    ) -> Told<'t>
+        ensures { told_of result ≡ record {
+          name = name.now;
+          place = place.now;
+          reason = reason.now;
+          file = file.now;
+          large = large.now;
+        } }
+    {
+        Told {
+            name,
+            place,
+            reason,
+            file,
+            large,
+        }
+    }
+}
+
 /// Writes to `err`, in plain words for a person, why a run of this program ended so. `of_status` is
 /// what is said where the exit status says all.
 ///
@@ -56,13 +83,7 @@ pub fn explain<K: Sink>(
     let number = of_number.format(number).as_bytes();
     let code = of_code.format(code).as_bytes();
     // made anew, so that its texts live as long as the numbers
-    let told = Told {
-        name: told.name,
-        place: told.place,
-        reason: told.reason,
-        file: told.file,
-        large: told.large,
-    };
+    let told = Told::new(told.name, told.place, told.reason, told.file, told.large);
     write_parts(
         err,
         &ending_parts(program, ending, of_status, &told, number, code),

@@ -35,6 +35,8 @@
 
 mod answerer;
 mod answers;
+mod config_load;
+mod counting;
 mod ending;
 mod explanation;
 mod file_place;
@@ -51,6 +53,8 @@ mod unknown_call;
 
 pub use answerer::Answerer;
 pub use answers::Answers;
+pub use config_load::{LoadedConfig, load_config};
+pub use counting::count_request;
 pub use ending::Ending;
 pub use explanation::{Told, explain};
 pub use place::{KnownConfig, Place, place_of};

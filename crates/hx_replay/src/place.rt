@@ -1,4 +1,5 @@
 ghost use Rattle.std.specs.Prelude.{◌≡◌, []};
+ghost use Rattle.std.specs.Option.{option_copied};
 
 use crate::ending::Ending;
 use crate::file_place::{entry_place, naming_line};
@@ -31,6 +32,17 @@ pub struct KnownConfig<'t> {
     pub text: Option<&'t [u8]>,
     /// the name of the file that was read last after it, whatever came of it
     pub file: Option<&'t [u8]>,
+}
+
+impl<'t> KnownConfig<'t> {
+    /// What is known of the configuration `name`. The texts may have lifetimes of their own.
+    pub fn new(name: &'t [u8], text: Option<&'t [u8]>, file: Option<&'t [u8]>) -> KnownConfig<'t>
+        ensures name { result.name.now ≡ name.now }
+        ensures text { option_copied result.text ≡ option_copied text.entry }
+        ensures file { option_copied result.file ≡ option_copied file.entry }
+    {
+        KnownConfig { name, text, file }
+    }
 }
 
 /// Nothing is known of the place.

@@ -23,7 +23,6 @@ use Rattle.hx_run.specs.declared.command.Task.TheVariants as task
 use Rattle.hx_run.specs.RunFault.{Attempted, Finishes, fault_end, fault_status}
 use Rattle.hx_run.specs.declared.run_fault.RunFault.{RunFault}
 use Rattle.hx_run.specs.declared.run_fault.RunFault.TheVariants as run
-use Rattle.hx_run.proofs.RunLemmas.{program_of}
 use Rattle.hx_load.proofs.LoadedLemmas.{loads}
 
 -- an end is completed or not
@@ -52,7 +51,7 @@ completes_run : (detail : Detail) (loaded : Loading) (bytes : List ℕ) → (out
 completes_run detail (loading.Refused refusal) bytes is = absurd (completed (Some (ConfigRefused refusal.line refusal.code)) is)
 completes_run detail (loading.Missing name) bytes is = absurd (completed None is)
 completes_run detail (loading.Accepted rules refs) bytes is =
-    let program = program_of rules refs in
+    let program : Program = record { rules = rules; references = refs } in
     let (last, end) = at_record_end (record_outcome (behavior_of detail) (initial_world program) bytes).end is in
     record { program = program; is = refl; last = last; end = end; answers = refl }
 
@@ -65,7 +64,7 @@ record CompletesCheck (loaded : Loading) (bytes : List ℕ) : Type 0 where
 completes_check : (loaded : Loading) (bytes : List ℕ) → (outcome_under task.Check loaded bytes).end ≡ Some Completed → CompletesCheck loaded bytes
 completes_check (loading.Refused refusal) bytes is = absurd (completed (Some (ConfigRefused refusal.line refusal.code)) is)
 completes_check (loading.Missing name) bytes is = absurd (completed None is)
-completes_check (loading.Accepted rules refs) bytes is = record { program = program_of rules refs; is = refl; answers = refl }
+completes_check (loading.Accepted rules refs) bytes is = record { program = record { rules = rules; references = refs }; is = refl; answers = refl }
 
 -- the outcome of a configuration by its task
 outcome_by : (s : Setting) (outcome : Outcome End) (config : List ℕ) (asked : Task) (o : HasOutcome s outcome) → s.task ≡ asked → o.config ≡ Some config

@@ -1,13 +1,13 @@
 -- What a run writes, and its status.
-use Rattle.std.specs.Prelude.{⊤, ◌≡◌, ◌⊎◌, ◌++◌, ℕ, List, [], ◌∷◌, length, codes, Contains, IfSome, IsSomeAnd, Option, None, Some, option_map, if◌then◌else◌}
+use Rattle.std.specs.Prelude.{⊤, ◌≡◌, ◌++◌, ℕ, List, [], ◌∷◌, length, codes, Contains, Option, None, Some, option_map, if◌then◌else◌}
 use Rattle.std.specs.Fmt.{decimal}
 use Rattle.std.specs.Io.KnownBytes.{Appends}
 use Rattle.std.specs.Str.{bytes_eq}
 use Rattle.std.specs.declared.alloc.Global.{Global}
 use Rattle.std.specs.declared.vec.Vec.{Vec}
-use Rattle.hx_base.specs.Pairs.{NamedBytes, pairs_of, value_at}
+use Rattle.hx_base.specs.Pairs.{NamedBytes, pairs_of}
 use Rattle.hx_core.specs.Steps.{EventAsksFor}
-use Rattle.hx_load.specs.Loads.{GivesProgram, Judges, Loading, ReadsFile, loaded}
+use Rattle.hx_load.specs.Loads.{Loading, loaded}
 use Rattle.hx_load.specs.Loads as loading
 use Rattle.hx_outside.specs.Log.{Log}
 use Rattle.hx_outside.specs.Makers.{ExpressionText}
@@ -18,6 +18,7 @@ use Rattle.hx_record.specs.declared.Event.{Event}
 use Rattle.hx_refs.specs.References.{References}
 use Rattle.hx_rules.specs.Programs.{Rules, rule_count}
 use Rattle.hx_words.specs.Variable.{Env}
+use Rattle.hx_replay.specs.Configs.{ConfigGives, ConfigJudgesLast, ConfigReads, ConfigSetting, HasConfig}
 use Rattle.hx_replay.specs.Behavior.{AreAllowed, answers_to, Behavior}
 use Rattle.hx_trace.specs.Why.{explained}
 use Rattle.hx_core.specs.Telling.{told_answer}
@@ -81,10 +82,9 @@ abbrev pub setting_of : List (Vec ℕ Global) → List (Vec ℕ Global × Vec �
 setting_of words env held left =
     option_map (λ command. setting env held command left) (command_of (texts_of words))
 
--- these are the files, and the configuration is what they hold under its name, where that is
--- known
-abbrev pub HasConfig : Setting → NamedBytes → Option (List ℕ) → Type 0
-HasConfig s files config = IfSome s.held (λ held. (files ≡ held) × (config ≡ value_at held s.name))
+-- its configuration
+abbrev pub config_of : Setting → ConfigSetting
+config_of s = record { env = s.env; held = s.held; name = s.name }
 
 -- what is written of a configuration that is accepted: the number of its rules, and that of its
 -- references
@@ -128,7 +128,7 @@ pub record HasOutcome (s : Setting) (outcome : Outcome End) : Type 0 where
   pub config : Option (List ℕ)
   pub files : NamedBytes
   pub bytes : List ℕ
-  pub of_files : HasConfig s files config
+  pub of_files : HasConfig (config_of s) files config
   pub of_source : IsRecord s.left bytes
   pub is : outcome ≡ outcome_of s.env s.task files config bytes
 
@@ -147,18 +147,9 @@ pub record HasStatus (s : Setting) (status : ℕ) : Type 0 where
   pub of_setting : HasOutcome s outcome
   pub is : status_of outcome.end ≡ Some status
 
--- The files of a setting hold a configuration of which this is so, under what they hold besides, as
--- far as it is known.
-pub record HoldsConfig (s : Setting) (P : NamedBytes → List ℕ → Type 0) : Type 0 where
-  pub config : List ℕ
-  pub files : NamedBytes
-  pub of_files : HasConfig s files (Some config)
-  pub is : P files config
-
 -- the configuration of a setting is accepted as this program
 abbrev pub Accepts : Setting → Program → Type 0
-Accepts s program = HoldsConfig s (λ files config.
-    GivesProgram s.env usual_limits files config program.rules program.references)
+Accepts s program = ConfigGives (config_of s) program
 
 -- the configuration of a setting is accepted as a program of which this is so
 pub record AcceptsSome (s : Setting) (P : Program → Type 0) : Type 0 where
@@ -210,8 +201,7 @@ AnswersBeforeReading s log log' old new = HoldsBeforeLastRead log log' (λ bytes
 -- The last text that was too large for the maker is one that is read as a regular expression when
 -- the configuration is loaded.
 abbrev pub RunJudgesLast : Setting → Option ExpressionText → Type 0
-RunJudgesLast s large = HoldsConfig s (λ files config.
-    IsSomeAnd large (Judges s.env usual_limits files config))
+RunJudgesLast s large = ConfigJudgesLast (config_of s) large
 
 -- The last text that was too large for the maker is one for which a rule or a command asks, at an
 -- event of the record.
@@ -223,5 +213,4 @@ RunAsksLast s large =
 -- the files that a run reads: the configuration, and those to which it comes when it is loaded,
 -- with no fault before them
 abbrev pub RunReads : Setting → List ℕ → Type 0
-RunReads s name = (name ≡ s.name)
-    ⊎ HoldsConfig s (λ files config. ReadsFile s.env usual_limits files config name)
+RunReads s name = ConfigReads (config_of s) name

@@ -5,7 +5,7 @@ use hx_core::{Engine, StepFault};
 use hx_outside::ReMaker;
 use hx_record::Event;
 use hx_refs::Refs;
-use hx_replay::{Answerer, Answers};
+use hx_replay::{Answerer, Answers, count_request};
 use hx_rules::Program;
 use hx_text::NoMemory;
 use std::alloc::Global;
@@ -64,13 +64,5 @@ impl Answerer for CountedEngine {
 
     fn end(&mut self, _answers: &mut Answers) -> Result<(), NoMemory> {
         Ok(())
-    }
-}
-
-/// Counts an event that is a request.
-#[inline(always)]
-pub(crate) fn count_request(event: &Event, requests: &mut u64) {
-    if let Event::Req { .. } = event {
-        *requests = requests.saturating_add(1);
     }
 }

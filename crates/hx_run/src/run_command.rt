@@ -16,9 +16,9 @@ ghost use Rattle.hx_run.specs.declared.command.Task.{Task};
 use crate::command::{Command, Task};
 use crate::replay_run::replay_rules;
 use crate::run_fault::RunFault;
-use hx_load::load;
 use hx_outside::{Files, ReMaker, Sink, SinkFault, Source, write_all};
-use hx_refs::{Limits, Refs};
+use hx_refs::Refs;
+use hx_replay::load_config;
 use hx_rules::Program;
 use itoa::Buffer;
 use std::alloc::{AllocError, Global};
@@ -190,8 +190,7 @@ pub(crate) fn attempt<F: Files, S: Source, K: Sink, M: ReMaker>(
         (setting env.now (F.held files.old) (asked_of command.entry) (S.left record_in.old))
         (F.last files.new) (result_status result)) }
 {
-    let config = files.read(alloc, command.name)?;
-    let (rules, refs) = load(alloc, config.as_slice(), env, files, maker, Limits::usual())?;
+    let (rules, refs) = load_config(alloc, env, files, command.name, maker)?;
     match command.task {
         Task::Replay(detail) => {
             replay_rules(alloc, detail, rules, refs, record_in, out, maker, requests)

@@ -26,40 +26,13 @@ pub fn tell<K: Sink, F: Files + Drop, S>(
 {
     let name = given_name(words);
     let (mut files, text, last) = files.into_parts();
-    let config = known_config(name, text.as_deref(), last.as_deref());
+    let config = KnownConfig::new(name, text.as_deref(), last.as_deref());
     let ending = ending_of(ended);
     let requests = ended.requests;
     let Place { text, reason } = place_of(
         alloc, ending, &config, env, &mut files, record, requests,
     );
     let file = last.as_deref().unwrap_or(name);
-    let told = told_of(name, &text, reason, file, large);
+    let told = Told::new(name, &text, reason, file, large);
     let _ = explain(err, ended, &told);
-}
-
-/// What is known of the configuration: its name, its text, and the name of the file that was read
-/// last after it. These texts may have lifetimes of their own.
-pub fn known_config<'t>(
-    name: &'t [u8],
-    text: Option<&'t [u8]>,
-    file: Option<&'t [u8]>,
-) -> KnownConfig<'t> {
-    KnownConfig { name, text, file }
-}
-
-/// What is told beside the fault, of texts that may have lifetimes of their own.
-pub fn told_of<'t>(
-    name: &'t [u8],
-    place: &'t [u8],
-    reason: &'t [u8],
-    file: &'t [u8],
-    large: &'t [u8],
-) -> Told<'t> {
-    Told {
-        name,
-        place,
-        reason,
-        file,
-        large,
-    }
 }

@@ -1,12 +1,11 @@
 ghost use Rattle.std.specs.Prelude.{◌≡◌, None};
 ghost use Rattle.hx_core.specs.World.{first_world, FitRules};
 
-use crate::counted_engine::count_request;
 use hx_core::{Engine, StepFault};
 use hx_outside::ReMaker;
 use hx_record::Event;
 use hx_refs::Refs;
-use hx_replay::{Answerer, Answers};
+use hx_replay::{Answerer, Answers, count_request};
 use hx_rules::Program;
 use hx_text::NoMemory;
 use hx_trace::Explainer;

@@ -1,61 +1,36 @@
 -- What a check comes to: its configuration, its trace and its record.
-use Rattle.std.proofs.Common.{◌≡◌, ℕ, List, [], ◌⊎◌, ◌≤◌, inl, inr, Option, None, Some, IfErr, IfOk, IfSome, IsSomeAnd, Result, Ok, Err, length, unwrap_or, refl, sym, subst, arith}
+use Rattle.std.proofs.Common.{◌≡◌, ◌≢◌, ℕ, List, [], ◌⊎◌, ◌≤◌, inl, inr, Option, None, Some, IfErr, IfSome, IsSomeAnd, Result, Ok, Err, unwrap_or, refl, sym, subst, arith}
 use Rattle.hx_base.specs.Pairs.{NamedBytes, value_at}
-use Rattle.hx_core.specs.Steps.{EventAsksFor}
-use Rattle.hx_core.specs.World.{FitRules}
-use Rattle.hx_load.specs.LoadResult.{LoadsHeld}
-use Rattle.hx_load.specs.Loads.{Loading, Loads, loaded}
 use Rattle.hx_load.specs.Loads as loading
 use Rattle.hx_load.specs.declared.LoadFault.{LoadFault}
 use Rattle.hx_load.specs.declared.LoadFault.TheVariants as load
-use Rattle.hx_load.proofs.LoadedLemmas.{loads}
 use Rattle.hx_outside.specs.Count.{Rose}
-use Rattle.hx_outside.specs.Makers.{ExpressionText}
+use Rattle.hx_outside.specs.Log.{FileLog, HoldsSince, Logs}
+use Rattle.hx_replay.specs.Configs.{IsAccepted, LoadsConfig, program_of}
+use Rattle.hx_replay.proofs.ConfigFileLemmas.{EndsWith, ends_small, part_at_end}
+use Rattle.hx_replay.specs.ConfigFiles.{ReadsPart, ReadsToLoad, ReadsWhole, load_status}
+use Rattle.hx_replay.proofs.ConfigLemmas.{some_is_judgement, some_judgement}
+use Rattle.hx_replay.proofs.LogLemmas.{since_map, since_more}
 use Rattle.hx_outside.specs.declared.FileFault.{FileFault}
 use Rattle.hx_outside.specs.declared.FileFault.TheVariants as file
 use Rattle.hx_refs.specs.References.{RefsState}
-use Rattle.hx_refs.specs.declared.Limits.{Limits}
 use Rattle.hx_rules.specs.Programs.{Rules}
-use Rattle.hx_rules.specs.Tables.{HasHeads, HasLists}
 use Rattle.hx_replay.specs.Outcome.{Outcome, ends_with}
-use Rattle.hx_replay.specs.Program.{Program, initial_world, usual_limits}
+use Rattle.hx_replay.specs.Program.{Program}
 use Rattle.hx_replay.specs.Records.{IsRecord}
-use Rattle.hx_replay.specs.Replay.{ReplayAsksLast}
 use Rattle.hx_run.specs.Outcome.{ConfigRefused, End}
-use Rattle.hx_run.specs.Run.{Accepts, HoldsConfig, RunAsksLast, RunJudgesLast, RunReads, Setting, accepted_outcome, behavior_of, outcome_of}
-use Rattle.hx_run.specs.RunFault.{EndsAs, IsReplayFault, fault_end, fault_of_file, load_fault}
+use Rattle.hx_run.specs.Run.{RunReads, accepted_outcome, config_of, outcome_under}
+use Rattle.hx_run.specs.RunFault.{EndsAs, IsReplayFault, fault_end, fault_of_file, fault_status, load_fault}
 use Rattle.hx_run.specs.declared.command.Detail.TheVariants.{Reasons}
 use Rattle.hx_run.specs.declared.command.Task.TheVariants.{Replay}
 use Rattle.hx_run.specs.declared.run_fault.RunFault.{RunFault}
 use Rattle.hx_run.specs.declared.run_fault.RunFault.TheVariants as run
-use Rattle.hx_run.proofs.RunLemmas.{IsConfig, ReadsConfig, files_in, files_in_are, fits, here, holds}
-use Rattle.hx_trace_run.specs.CheckView.{FindsBeside, FindsCheck, FindsNamed, IsFound, LoadsConfig, LoadsTo, program_of}
+use Rattle.hx_run.proofs.RunLemmas.{accepted_outcome_is, accepts_loaded, has_outcome}
+use Rattle.hx_trace_run.specs.CheckFiles.{ReadsCheckFiles}
+use Rattle.hx_trace_run.specs.CheckView.{FindsBeside, FindsCheck, FindsNamed, FinishesCheck, IsFound, result_status}
 use Rattle.hx_trace_run.specs.Checking.{CheckReads, CheckSetting, CheckSourceFails, IsFile, TakesUnrefused, trace_setting}
 use Rattle.hx_trace_run.specs.declared.agreement.Finding.{Finding}
-
--- ---- the configuration
-
-loads_here : (s : Setting) (items : List ℕ) (result : Result (Rules × RefsState) LoadFault) → IsConfig s.held s.name (Some items)
-    → LoadsHeld s.held s.env usual_limits items result → LoadsConfig s result
-loads_here s items (Ok made) config l =
-    record { config = items; files = l.files; of_files = holds s.held s.name l.files (Some items) l.of_files config; is = l.is }
-loads_here s items (Err (load.Refused line code)) config l =
-    record { config = items; files = l.files; of_files = holds s.held s.name l.files (Some items) l.of_files config; is = l.is }
-loads_here s items (Err load.Failed) config l = tt
-loads_here s items (Err load.TooLarge) config l = tt
-loads_here s items (Err load.NoMemory) config l = tt
-
--- the configuration was read, and this was loaded of it
-pub config_loads : (s : Setting) (now : Option NamedBytes) (limits : Limits) (items text : List ℕ) (result : Result (Rules × RefsState) LoadFault)
-    → ReadsConfig s now limits items text → LoadsHeld now s.env limits text result → LoadsConfig s result
-config_loads s now limits items text result read l =
-    loads_here s items result read.config
-    (here s now limits items text read (λ (h : Option NamedBytes) (m : Limits) (t : List ℕ). LoadsHeld h s.env m t result) l)
-
-pub fits_where : (result : Result (Rules × RefsState) LoadFault) → IfOk result (λ made. HasHeads made.1.content.heads made.0)
-    → IfOk result (λ made. HasLists (length made.1.content.references) made.0) → IfOk result (λ made. FitRules made.1.content made.0)
-fits_where (Ok made) heads lists = fits made.1.content made.0 heads lists
-fits_where (Err fault) heads lists = tt
+use Rattle.hx_trace_run.specs.declared.agreement.Finding.TheVariants.{Same, Differs}
 
 -- ---- the trace
 
@@ -107,46 +82,16 @@ named_unread program held name left file.NoMemory = record {
 
 -- ---- both
 
--- a configuration that is loaded has this outcome
-accepted_is : (s : CheckSetting) (made : Rules × RefsState) (bytes : List ℕ) (l : LoadsTo (trace_setting s) (loading.Accepted made.0 made.1.content))
-    → accepted_outcome (Replay Reasons) (program_of made) bytes ≡ outcome_of s.env (Replay Reasons) l.files (Some l.config) bytes
-unfolding outcome_of
-accepted_is s made bytes l =
-    let is : loaded s.env usual_limits l.files l.config ≡ loading.Accepted made.0 made.1.content = l.is in rw is refl
-
-refused_is : (s : CheckSetting) (line code : ℕ) (bytes : List ℕ) (l : LoadsTo (trace_setting s) (loading.Refused (record { line = line; code = code })))
-    → ends_with (Some (ConfigRefused line code)) ≡ outcome_of s.env (Replay Reasons) l.files (Some l.config) bytes
-unfolding outcome_of
-refused_is s line code bytes l =
-    let is : loaded s.env usual_limits l.files l.config ≡ loading.Refused (record { line = line; code = code }) = l.is in rw is refl
-
--- what is so of the configuration alone is so of it beside a record
-beside_record : (s : CheckSetting) (P : NamedBytes → List ℕ → Type 0)
-    → HoldsConfig (record { env = s.env; held = s.held; task = Replay Reasons; name = s.config_name; left = None }) P → HoldsConfig (trace_setting s) P
-beside_record s P h = record { config = h.config; files = h.files; of_files = h.of_files; is = h.is }
-
--- what a check is given, with the configuration alone
-abbrev pub config_of : CheckSetting → Setting
-config_of s = record { env = s.env; held = s.held; task = Replay Reasons; name = s.config_name; left = None }
-
-pub loaded_finds : (s : CheckSetting) (made : Rules × RefsState) (result : Result Finding RunFault) → LoadsTo (config_of s) (loading.Accepted made.0 made.1.content)
+-- the configuration is loaded
+pub loaded_finds : (s : CheckSetting) (made : Rules × RefsState) (result : Result Finding RunFault) → IsAccepted (config_of (trace_setting s)) made
     → FindsNamed (program_of made) s.held s.trace_name s.left result → FindsCheck s result
-loaded_finds s made result l f =
-    let config = beside_record s (λ files config. loaded s.env usual_limits files config ≡ loading.Accepted made.0 made.1.content) l in
-    record {
-      trace = f.trace;
-      of_files = f.of_files;
-      traced = accepted_outcome (Replay Reasons) (program_of made) f.bytes;
-      of_run = record {
-        config = Some config.config;
-        files = config.files;
-        bytes = f.bytes;
-        of_files = config.of_files;
-        of_source = f.of_source;
-        is = accepted_is s made f.bytes config;
-      };
-      found = f.found;
-    }
+loaded_finds s made result accepted f = record {
+  trace = f.trace;
+  of_files = f.of_files;
+  traced = accepted_outcome (Replay Reasons) (program_of made) f.bytes;
+  of_run = accepted_outcome_is (trace_setting s) made (Replay Reasons) f.bytes refl accepted f.of_source;
+  found = f.found;
+}
 
 -- the fault decides nothing of a trace
 abbrev IsUndecided : RunFault → Type 0
@@ -166,90 +111,109 @@ undecided_found trace outcome run.NoMemory undecided = tt
 -- where nothing has to be found, any configuration, trace and record will do
 unknown : (s : CheckSetting) (fault : RunFault) → IsUndecided fault → FindsCheck s (Err fault)
 unknown s fault undecided =
-    let outcome = outcome_of s.env (Replay Reasons) (files_in s.held) (file_in s.held s.config_name) (unwrap_or s.left []) in
+    let judgement = some_judgement (config_of (trace_setting s)) in
+    let outcome = outcome_under (Replay Reasons) judgement (unwrap_or s.left []) in
     record {
       trace = file_in s.held s.trace_name;
       of_files = file_in_is s.held s.trace_name;
       traced = outcome;
-      of_run = record {
-        config = file_in s.held s.config_name;
-        files = files_in s.held;
-        bytes = unwrap_or s.left [];
-        of_files = holds s.held s.config_name (files_in s.held) (file_in s.held s.config_name) (files_in_are s.held) (file_in_is s.held s.config_name);
-        of_source = record_in_is s.left;
-        is = refl;
-      };
+      of_run = has_outcome (trace_setting s) judgement (unwrap_or s.left []) (some_is_judgement (config_of (trace_setting s))) (record_in_is s.left);
       found = undecided_found (file_in s.held s.trace_name) outcome fault undecided;
     }
 
 -- the configuration isn't loaded
-pub unloaded_finds : (s : CheckSetting) (fault : LoadFault) → LoadsConfig (config_of s) (Err fault) → FindsCheck s (Err (load_fault fault))
-unloaded_finds s (load.Refused line code) l =
-    let config = beside_record s (λ files config. loaded s.env usual_limits files config ≡ loading.Refused (record { line = line; code = code })) l in
-    record {
-      trace = file_in s.held s.trace_name;
-      of_files = file_in_is s.held s.trace_name;
-      traced = ends_with (Some (ConfigRefused line code));
-      of_run = record {
-        config = Some config.config;
-        files = config.files;
-        bytes = unwrap_or s.left [];
-        of_files = config.of_files;
-        of_source = record_in_is s.left;
-        is = refused_is s line code (unwrap_or s.left []) config;
-      };
-      found = refl;
-    }
+pub unloaded_finds : (s : CheckSetting) (fault : LoadFault) → LoadsConfig (config_of (trace_setting s)) (Err fault) → FindsCheck s (Err (load_fault fault))
+unloaded_finds s (load.Refused line code) l = record {
+  trace = file_in s.held s.trace_name;
+  of_files = file_in_is s.held s.trace_name;
+  traced = ends_with (Some (ConfigRefused line code));
+  of_run = has_outcome (trace_setting s) (loading.Refused (record { line = line; code = code })) (unwrap_or s.left []) l (record_in_is s.left);
+  found = refl;
+}
 unloaded_finds s load.Failed l = unknown s run.Files tt
 unloaded_finds s load.TooLarge l = unknown s run.TooLarge tt
 unloaded_finds s load.NoMemory l = unknown s run.NoMemory tt
 
 -- ---- what ends a check early
 
--- a configuration that is loaded is accepted
-accepts : (s : CheckSetting) (made : Rules × RefsState) → LoadsTo (config_of s) (loading.Accepted made.0 made.1.content) → Accepts (trace_setting s) (program_of made)
-accepts s made l = record {
-  config = l.config;
-  files = l.files;
-  of_files = l.of_files;
-  is = subst (λ (said : Loading). Loads s.env usual_limits l.files l.config said) l.is (loads s.env usual_limits l.files l.config);
-}
-
-pub source_fails : (s : CheckSetting) (made : Rules × RefsState) (left' : Option (List ℕ)) → LoadsTo (config_of s) (loading.Accepted made.0 made.1.content)
+pub source_fails : (s : CheckSetting) (made : Rules × RefsState) (left' : Option (List ℕ)) → IsAccepted (config_of (trace_setting s)) made
     → TakesUnrefused (program_of made) s.left left' → CheckSourceFails s left'
-source_fails s made left' l takes = record { program = program_of made; accepted = accepts s made l; is = takes }
-
--- a text for which an event asks
-pub asks : (s : CheckSetting) (made : Rules × RefsState) (large : Option ExpressionText) → LoadsTo (config_of s) (loading.Accepted made.0 made.1.content)
-    → ReplayAsksLast (behavior_of Reasons) EventAsksFor (initial_world (program_of made)) s.left large → RunAsksLast (trace_setting s) large
-asks s made large l a = (Reasons, refl, record { program = program_of made; accepted = accepts s made l; is = a })
-
--- a text of the configuration
-pub judges : (s : CheckSetting) (large : Option ExpressionText) → RunJudgesLast (config_of s) large → RunJudgesLast (trace_setting s) large
-judges s large j = record { config = j.config; files = j.files; of_files = j.of_files; is = j.is }
+source_fails s made left' accepted takes =
+    record { program = program_of made; accepted = accepts_loaded (trace_setting s) made accepted; is = takes }
 
 -- a file of the configuration
-run_reads : (s : CheckSetting) (name : List ℕ) → RunReads (config_of s) name → CheckReads s name
-run_reads s name (inl is) = inl (inl is)
-run_reads s name (inr h) = inl (inr (record { config = h.config; files = h.files; of_files = h.of_files; is = h.is }))
-
-pub config_reads : (s : CheckSetting) (last : Option (List ℕ)) → IsSomeAnd last (RunReads (config_of s)) → IsSomeAnd last (CheckReads s)
+pub config_reads : (s : CheckSetting) (last : Option (List ℕ)) → IsSomeAnd last (RunReads (trace_setting s)) → IsSomeAnd last (CheckReads s)
 config_reads s None reads = absurd reads
-config_reads s (Some name) reads = run_reads s name reads
+config_reads s (Some name) reads = inl reads
 
 -- the trace is the file that wasn't read
-pub trace_unread : (s : CheckSetting) (last : Option (List ℕ)) → last ≡ Some s.trace_name → IsSomeAnd last (CheckReads s)
-trace_unread s last is = rw is (inr refl)
+pub trace_unread : (s : CheckSetting) (made : Rules × RefsState) (last : Option (List ℕ)) → IsAccepted (config_of (trace_setting s)) made
+    → last ≡ Some s.trace_name → IsSomeAnd last (CheckReads s)
+trace_unread s made last accepted is =
+    rw is (inr (refl, record { program = program_of made; accepted = accepts_loaded (trace_setting s) made accepted; is = tt }))
 
 -- the last name stays, or is that of a file that a check reads
-pub config_named : (s : CheckSetting) (old new : Option (List ℕ)) → (new ≡ old) ⊎ IsSomeAnd new (RunReads (config_of s)) → (new ≡ old) ⊎ IsSomeAnd new (CheckReads s)
+pub config_named : (s : CheckSetting) (old new : Option (List ℕ)) → (new ≡ old) ⊎ IsSomeAnd new (RunReads (trace_setting s)) → (new ≡ old) ⊎ IsSomeAnd new (CheckReads s)
 config_named s old new (inl stays) = inl stays
 config_named s old new (inr reads) = inr (config_reads s new reads)
 
-pub both_named : (s : CheckSetting) (old mid new : Option (List ℕ)) → (mid ≡ old) ⊎ IsSomeAnd mid (RunReads (config_of s)) → (new ≡ mid) ⊎ (new ≡ Some s.trace_name)
+pub both_named : (s : CheckSetting) (made : Rules × RefsState) (old mid new : Option (List ℕ)) → IsAccepted (config_of (trace_setting s)) made
+    → (mid ≡ old) ⊎ IsSomeAnd mid (RunReads (trace_setting s)) → (new ≡ mid) ⊎ (new ≡ Some s.trace_name)
     → (new ≡ old) ⊎ IsSomeAnd new (CheckReads s)
-both_named s old mid new first (inr is) = inr (trace_unread s new is)
-both_named s old mid new first (inl stays) = rw stays (config_named s old mid first)
+both_named s made old mid new accepted first (inr is) = inr (trace_unread s made new accepted is)
+both_named s made old mid new accepted first (inl stays) = rw stays (config_named s old mid first)
+
+-- ---- the files that a check reads
+
+status_of_load : (fault : LoadFault) → load_status fault ≡ fault_status (load_fault fault)
+status_of_load (load.Refused line code) = refl
+status_of_load load.Failed = refl
+status_of_load load.TooLarge = refl
+status_of_load load.NoMemory = refl
+
+-- the configuration isn't loaded
+pub files_of_unloaded : (s : CheckSetting) (fault : LoadFault) (last : Option (List ℕ)) (old new : Option FileLog)
+    → HoldsSince old new (ReadsToLoad (config_of (trace_setting s)) last (Err fault)) → HoldsSince old new (ReadsCheckFiles s last (fault_status (load_fault fault)))
+files_of_unloaded s fault last old new since =
+    since_map old new (ReadsPart (config_of (trace_setting s)) last (load_status fault)) (ReadsCheckFiles s last (fault_status (load_fault fault))) since
+    (λ names part. inl (rw (status_of_load fault) at part))
+
+-- neither a replay nor a trace that can't be read refuses a configuration
+unrefused : (r : Result Finding RunFault) → IfErr r (λ fault. IsReplayFault fault ⊎ (fault ≡ run.Files)) → result_status r ≢ 3
+unrefused (Ok Same) kind = λ is. absurd (omega (arith, is))
+unrefused (Ok (Differs line)) kind = λ is. absurd (omega (arith, is))
+unrefused (Err (run.ConfigRefused line code)) (inl replay) = absurd replay
+unrefused (Err (run.ConfigRefused line code)) (inr files) = λ is. cc
+unrefused (Err (run.RecordRefused offset code)) kind = λ is. absurd (omega (arith, is))
+unrefused (Err run.Files) kind = λ is. absurd (omega (arith, is))
+unrefused (Err run.Source) kind = λ is. absurd (omega (arith, is))
+unrefused (Err run.Sink) kind = λ is. absurd (omega (arith, is))
+unrefused (Err run.TooLarge) kind = λ is. absurd (omega (arith, is))
+unrefused (Err run.NoMemory) kind = λ is. absurd (omega (arith, is))
+
+-- it is loaded, and then the trace is read
+pub files_of_loaded : (s : CheckSetting) (made : Rules × RefsState) (r : Result Finding RunFault) (load_last last : Option (List ℕ)) (old now new : Option FileLog)
+    → IfErr r (λ fault. IsReplayFault fault ⊎ (fault ≡ run.Files)) → HoldsSince old now (ReadsToLoad (config_of (trace_setting s)) load_last (Ok made))
+    → Logs now new s.trace_name → HoldsSince old new (ReadsCheckFiles s last (result_status r))
+files_of_loaded s made r load_last last old now new kind since one =
+    since_more old now new s.trace_name (ReadsWhole (config_of (trace_setting s))) (ReadsCheckFiles s last (result_status r)) since one
+    (λ names whole. inr (unrefused r kind, record { config_names = names; names_are = refl; whole = whole }))
+
+-- the end of a check
+ends_with_result : (r : Result Finding RunFault) (old new : Option (List ℕ)) (status : ℕ) → FinishesCheck r old new status → EndsWith (result_status r) status
+ends_with_result r old new status (inl (same, line)) = inl same
+ends_with_result r old new status (inr (late, part)) = inr late
+
+finished_reads : (s : CheckSetting) (last : Option (List ℕ)) (status final : ℕ) → EndsWith status final
+    → (names : List (List ℕ)) → ReadsCheckFiles s last status names → ReadsCheckFiles s last final names
+finished_reads s last status final ends names (inl part) = inl (part_at_end (config_of (trace_setting s)) last status final ends names part)
+finished_reads s last status final ends names (inr (unrefused, trace)) = inr (λ three. unrefused (ends_small status final 3 ends (omega arith) three), trace)
+
+pub finished_files : (s : CheckSetting) (last : Option (List ℕ)) (r : Result Finding RunFault) (old new : Option (List ℕ)) (status : ℕ) (log log' : Option FileLog)
+    → FinishesCheck r old new status → HoldsSince log log' (ReadsCheckFiles s last (result_status r)) → HoldsSince log log' (ReadsCheckFiles s last status)
+finished_files s last r old new status log log' f since =
+    since_map log log' (ReadsCheckFiles s last (result_status r)) (ReadsCheckFiles s last status) since
+    (finished_reads s last (result_status r) status (ends_with_result r old new status f))
 
 -- ---- counts and faults
 

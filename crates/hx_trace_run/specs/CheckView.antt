@@ -1,22 +1,14 @@
 -- Views of the code of a check: what it finds, and what it comes to.
-use Rattle.std.specs.Prelude.{◌≡◌, ◌⊎◌, ℕ, List, [], ◌∷◌, Contains, IsSomeAnd, Option, None, Some, Result, Ok, Err, ⊤}
+use Rattle.std.specs.Prelude.{◌≡◌, ◌⊎◌, ℕ, List, [], ◌∷◌, Contains, IsSomeAnd, Option, Some, Result, Ok, Err, ⊤}
 use Rattle.std.specs.Io.KnownBytes.{Appends}
-use Rattle.std.specs.declared.alloc.Global.{Global}
-use Rattle.std.specs.declared.vec.Vec.{Vec}
-use Rattle.hx_base.specs.Pairs.{NamedBytes, pairs_of}
-use Rattle.hx_load.specs.Loads.{Loading, loaded}
-use Rattle.hx_load.specs.Loads as loading
-use Rattle.hx_load.specs.declared.LoadFault.{LoadFault}
-use Rattle.hx_load.specs.declared.LoadFault.TheVariants as load
+use Rattle.hx_base.specs.Pairs.{NamedBytes}
 use Rattle.hx_outside.specs.Prefixes.{AppendsPrefix}
-use Rattle.hx_refs.specs.References.{RefsState}
-use Rattle.hx_rules.specs.Programs.{Rules}
 use Rattle.hx_replay.specs.Outcome.{Outcome}
-use Rattle.hx_replay.specs.Program.{Program, usual_limits}
+use Rattle.hx_replay.specs.Program.{Program}
 use Rattle.hx_replay.specs.Records.{IsRecord}
 use Rattle.hx_run.specs.Outcome.{Completed, End, last_line}
 use Rattle.hx_run.specs.Outcome as ends
-use Rattle.hx_run.specs.Run.{HasOutcome, HoldsConfig, Setting, accepted_outcome}
+use Rattle.hx_run.specs.Run.{HasOutcome, accepted_outcome}
 use Rattle.hx_replay.specs.declared.replay_fault.ReplayFault.{ReplayFault}
 use Rattle.hx_run.specs.RunFault.{fault_end, fault_status, replay_fault}
 use Rattle.hx_run.specs.declared.command.Detail.TheVariants.{Reasons}
@@ -26,39 +18,6 @@ use Rattle.hx_run.specs.declared.run_fault.RunFault.TheVariants.{ConfigRefused, 
 use Rattle.hx_trace_run.specs.Checking.{CheckSetting, IsFile, IsTrace, trace_setting}
 use Rattle.hx_trace_run.specs.Comparing.{finding_of, finding_status, finding_text}
 use Rattle.hx_trace_run.specs.declared.agreement.Finding.{Finding}
-
--- ---- the configuration
-
--- a configuration as it was loaded
-abbrev pub program_of : Rules × RefsState → Program
-program_of loaded = record { rules = loaded.0; references = loaded.1.content }
-
--- what is given of a configuration, without a record
-abbrev pub config_setting : List (Vec ℕ Global × Vec ℕ Global) → Option NamedBytes → List ℕ
-    → Setting
-config_setting env held name = record {
-  env = pairs_of env;
-  held = held;
-  task = Replay Reasons;
-  name = name;
-  left = None;
-}
-
--- the files of a setting hold a configuration that loads as this
-abbrev pub LoadsTo : Setting → Loading → Type 0
-LoadsTo s judgement =
-    HoldsConfig s (λ files config. loaded s.env usual_limits files config ≡ judgement)
-
--- what comes of a configuration is what it loads as
-abbrev pub LoadsConfig : Setting → Result (Rules × RefsState) LoadFault → Type 0
-LoadsConfig s (Ok made) = LoadsTo s (loading.Accepted made.0 made.1.content)
-LoadsConfig s (Err (load.Refused line code)) =
-    LoadsTo s (loading.Refused (record { line = line; code = code }))
-LoadsConfig s (Err load.Failed) = ⊤
-LoadsConfig s (Err load.TooLarge) = ⊤
-LoadsConfig s (Err load.NoMemory) = ⊤
-
--- ---- what is found
 
 -- what comes of a record whose replay comes to this, where this is found at its end
 abbrev pub found_result : Finding → Result (Unit {0}) ReplayFault → Result Finding RunFault

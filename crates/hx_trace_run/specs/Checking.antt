@@ -1,5 +1,5 @@
 -- What a check of a trace comes to, by what `trace` writes.
-use Rattle.std.specs.Prelude.{◌≡◌, ◌≢◌, ◌⊎◌, ℕ, List, [], ◌∷◌, Contains, IfSome, Option, None, Some}
+use Rattle.std.specs.Prelude.{◌≡◌, ◌≢◌, ◌⊎◌, ⊤, ℕ, List, [], ◌∷◌, Contains, IfSome, Option, None, Some}
 use Rattle.std.specs.Io.KnownBytes.{Appends, Consumes}
 use Rattle.std.specs.declared.alloc.Global.{Global}
 use Rattle.std.specs.declared.vec.Vec.{Vec}
@@ -111,9 +111,10 @@ pub record ComparesTrace (s : CheckSetting) (old new : Option (List ℕ)) (statu
 
 -- ---- what ends a check early
 
--- the files that a check reads: those of the configuration, and the trace
+-- the files that a check reads: those of the configuration, and where it is accepted the trace
 abbrev pub CheckReads : CheckSetting → List ℕ → Type 0
-CheckReads s name = RunReads (trace_setting s) name ⊎ (name ≡ s.trace_name)
+CheckReads s name = RunReads (trace_setting s) name
+    ⊎ ((name ≡ s.trace_name) × AcceptsSome (trace_setting s) (λ program. ⊤))
 
 -- the bytes that were taken from the source refuse no record, whatever would have followed them
 pub record TakesUnrefused (program : Program) (left left' : Option (List ℕ)) : Type 0 where

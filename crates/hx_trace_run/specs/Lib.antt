@@ -4,6 +4,7 @@
 pub mod Words
 pub mod Comparing
 pub mod Checking
+pub mod CheckFiles
 pub mod Explanation
 -- Views of the code, for private contracts.
 pub mod Command

@@ -4,21 +4,22 @@ ghost use Rattle.std.specs.String.{string_bytes};
 ghost use Rattle.hx_core.specs.Steps.{EventAsksFor};
 ghost use Rattle.hx_core.specs.World.{FitRules};
 ghost use Rattle.hx_outside.specs.Count.{Rose};
+ghost use Rattle.hx_outside.specs.Log.{HoldsSince, Logs};
+ghost use Rattle.hx_replay.specs.Configs.{program_of};
 ghost use Rattle.hx_replay.specs.Program.{initial_world};
 ghost use Rattle.hx_replay.specs.Replay.{ReplayAsksLast};
-ghost use Rattle.hx_run.specs.Run.{RunAsksLast, RunJudgesLast, RunReads, behavior_of};
+ghost use Rattle.hx_run.specs.Run.{RunAsksLast, RunJudgesLast, behavior_of};
 ghost use Rattle.hx_run.specs.RunFault.{EndsAs, IsReplayFault, fault_end, fault_status};
 ghost use Rattle.hx_run.specs.declared.command.Detail.{Detail};
-ghost use Rattle.hx_trace_run.specs.CheckView.{FindsCheck, FindsNamed, FinishesCheck, LoadsConfig};
-ghost use Rattle.hx_trace_run.specs.CheckView.{config_setting, program_of, result_status, result_text};
+ghost use Rattle.hx_trace_run.specs.CheckFiles.{ReadsCheckFiles};
+ghost use Rattle.hx_trace_run.specs.CheckView.{FindsCheck, FindsNamed, FinishesCheck, result_status, result_text};
 ghost use Rattle.hx_trace_run.specs.Checking.{CheckReads, CheckSourceFails, Checks, ComparesTrace};
 ghost use Rattle.hx_trace_run.specs.Checking.{HasCheckStatus, TakesUnrefused, check_setting, trace_setting};
 
 use crate::agreement::Finding;
-use crate::record_check::{Loaded, check_record};
-use hx_load::{LoadFault, load};
-use hx_outside::{FileFault, Files, ReMaker, Sink, SinkFault, Source, write_all};
-use hx_refs::Limits;
+use crate::record_check::check_record;
+use hx_outside::{Files, ReMaker, Sink, SinkFault, Source, write_all};
+use hx_replay::{LoadedConfig, load_config};
 use hx_run::{Ended, RunFault};
 use std::alloc::{AllocError, Global};
 
@@ -74,6 +75,10 @@ pub fn check_trace<F: Files, S: Source, K: Sink, M: ReMaker>(
     ensures named { (F.last files.new ≡ F.last files.old)
         ⊎ IsSomeAnd (F.last files.new) (CheckReads (check_setting env.now (F.held files.old)
         config_name.now trace_name.now (S.left record_in.old))) }
+    // The configuration is read first, then the files that it names, and the trace at last.
+    ensures files_read { HoldsSince (F.log files.old) (F.log files.new) (ReadsCheckFiles
+        (check_setting env.now (F.held files.old) config_name.now trace_name.now
+        (S.left record_in.old)) (F.last files.new) result.status) }
     ensures told { IfSome result.fault (λ fault. EndsAs (trace_setting (check_setting env.now
         (F.held files.old) config_name.now trace_name.now (S.left record_in.old)))
         (fault_end fault)) }
@@ -155,6 +160,9 @@ fn find<F: Files, S: Source, K: Sink, M: ReMaker>(
     ensures named { (F.last files.new ≡ F.last files.old)
         ⊎ IsSomeAnd (F.last files.new) (CheckReads (check_setting env.now (F.held files.old)
         config_name.now trace_name.now (S.left record_in.old))) }
+    ensures files_read { HoldsSince (F.log files.old) (F.log files.new) (ReadsCheckFiles
+        (check_setting env.now (F.held files.old) config_name.now trace_name.now
+        (S.left record_in.old)) (F.last files.new) (result_status result)) }
 {
     match load_config(alloc, env, files, config_name, maker) {
         Ok(loaded) => find_loaded(
@@ -169,7 +177,7 @@ fn find_loaded<F: Files, S: Source, K: Sink, M: ReMaker>(
     alloc: Global,
     files: &mut F,
     trace_name: &[u8],
-    loaded: Loaded,
+    loaded: LoadedConfig,
     record_in: &mut S,
     out: &mut K,
     maker: &mut M,
@@ -198,44 +206,11 @@ fn find_loaded<F: Files, S: Source, K: Sink, M: ReMaker>(
     ensures files_later { F.faults files.old ≤ F.faults files.new }
     ensures named { (F.last files.new ≡ F.last files.old)
         ⊎ (F.last files.new ≡ Some trace_name.now) }
+    ensures file_read { Logs (F.log files.old) (F.log files.new) trace_name.now }
 {
     match files.read(alloc, trace_name) {
         Ok(trace) => check_record(alloc, loaded, trace, record_in, out, maker, requests),
         Err(fault) => Err(RunFault::from(fault)),
-    }
-}
-
-/// Reads a configuration, and loads it.
-fn load_config<F: Files, M: ReMaker>(
-    alloc: Global,
-    env: &[(Vec<u8>, Vec<u8>)],
-    files: &mut F,
-    name: &[u8],
-    maker: &mut M,
-) -> Result<Loaded, LoadFault>
-    ensures loads { LoadsConfig (config_setting env.now (F.held files.old) name.now) result }
-    ensures fit { IfOk result (λ loaded. FitRules loaded.1.content loaded.0) }
-    ensures failed { IsErrOf result LoadFault.Failed
-        → Rose (F.faults files.old) (F.faults files.new)
-        × IsSomeAnd (F.last files.new)
-        (RunReads (config_setting env.now (F.held files.old) name.now)) }
-    ensures too_large { IsErrOf result LoadFault.TooLarge
-        → Rose (M.state maker.old).too_large (M.state maker.new).too_large
-        × RunJudgesLast (config_setting env.now (F.held files.old) name.now)
-        (M.state maker.new).large }
-    ensures uncounted { ¬ (IsErrOf result LoadFault.TooLarge)
-        → ((M.state maker.new).too_large ≡ (M.state maker.old).too_large)
-        × ((M.state maker.new).large ≡ (M.state maker.old).large) }
-    ensures held { F.held files.new ≡ F.held files.old }
-    ensures named { (F.last files.new ≡ F.last files.old)
-        ⊎ IsSomeAnd (F.last files.new)
-        (RunReads (config_setting env.now (F.held files.old) name.now)) }
-    ensures later { F.faults files.old ≤ F.faults files.new }
-{
-    match files.read(alloc, name) {
-        Ok(config) => load(alloc, config.as_slice(), env, files, maker, Limits::usual()),
-        Err(FileFault::Failed) => Err(LoadFault::Failed),
-        Err(FileFault::NoMemory) => Err(LoadFault::NoMemory),
     }
 }
 

@@ -3,25 +3,21 @@ ghost use Rattle.std.specs.Io.KnownBytes.{Appends, IsAtEnd};
 ghost use Rattle.hx_core.specs.Steps.{EventAsksFor};
 ghost use Rattle.hx_core.specs.World.{FitRules};
 ghost use Rattle.hx_outside.specs.Count.{Rose};
+ghost use Rattle.hx_replay.specs.Configs.{program_of};
 ghost use Rattle.hx_replay.specs.Program.{initial_world};
 ghost use Rattle.hx_replay.specs.Replay.{ReplayAsksLast};
 ghost use Rattle.hx_run.specs.Run.{behavior_of};
 ghost use Rattle.hx_run.specs.RunFault.{IsReplayFault};
 ghost use Rattle.hx_run.specs.declared.command.Detail.{Detail};
-ghost use Rattle.hx_trace_run.specs.CheckView.{FindsBeside, found_result, program_of};
+ghost use Rattle.hx_trace_run.specs.CheckView.{FindsBeside, found_result};
 ghost use Rattle.hx_trace_run.specs.Checking.{TakesUnrefused};
 
 use crate::agreement::Finding;
 use crate::checking_engine::CheckingEngine;
 use hx_outside::{ReMaker, Sink, Source};
-use hx_refs::Refs;
-use hx_replay::{ReplayFault, replay};
-use hx_rules::Program;
+use hx_replay::{LoadedConfig, ReplayFault, replay};
 use hx_run::RunFault;
 use std::alloc::Global;
-
-/// A configuration that was loaded: its rules and its references.
-pub(crate) type Loaded = (Program, Refs);
 
 /// Answers the events of a record by a configuration, tells why requests have their verdicts, and
 /// compares the text with a trace. Nothing is written.
@@ -30,7 +26,7 @@ pub(crate) type Loaded = (Program, Refs);
 /// requests were answered, as tests show.
 pub(crate) fn check_record<S: Source, K: Sink, M: ReMaker>(
     alloc: Global,
-    loaded: Loaded,
+    loaded: LoadedConfig,
     trace: Vec<u8>,
     record_in: &mut S,
     out: &mut K,

@@ -9,6 +9,7 @@ ghost use Rattle.hx_run.specs.RunFault.{EndsAs, fault_end, fault_status};
 ghost use Rattle.hx_run.specs.declared.run_fault.RunFault.{RunFault};
 ghost use Rattle.hx_run.specs.RunFiles.{ReadsFiles};
 ghost use Rattle.hx_run.specs.declared.command.Detail.{Detail};
+ghost use Rattle.hx_trace_run.specs.CheckFiles.{ReadsCheckFiles};
 ghost use Rattle.hx_trace_run.specs.Checking.{CheckReads, CheckSourceFails, Checks, ComparesTrace};
 ghost use Rattle.hx_trace_run.specs.Checking.{HasCheckStatus, trace_setting};
 ghost use Rattle.hx_trace_run.specs.Words.{AreNoCommand, check_setting_of, command_of, names_of};
@@ -38,8 +39,8 @@ use std::alloc::Global;
 ///
 /// CONFIG is read first. Once all its lines are judged, the files that it names are read through
 /// `files` too, each once, in the order in which they first appear, up to the first that can't be
-/// read or has an entry that is refused. `check` then reads TRACE. No other file is read: of
-/// `trace` a clause says so (`files_read`), of `check` none does.
+/// read or has an entry that is refused. Where CONFIG is accepted, `check` then reads TRACE. No
+/// other file is read (`files_read`, `check_files_read`).
 ///
 /// | Status | Comes |
 /// |---|---|
@@ -157,6 +158,11 @@ pub fn run_trace<F: Files, S: Source, K: Sink, M: ReMaker>(
     ensures check_named { IfSome
         (check_setting_of words.now env.now (F.held files.old) (S.left record_in.old)) (λ given.
         (F.last files.new ≡ F.last files.old) ⊎ IsSomeAnd (F.last files.new) (CheckReads given)) }
+    // The configuration is read first, then the files that it names, and the trace at last.
+    ensures check_files_read { IfSome
+        (check_setting_of words.now env.now (F.held files.old) (S.left record_in.old)) (λ given.
+        HoldsSince (F.log files.old) (F.log files.new)
+        (ReadsCheckFiles given (F.last files.new) result)) }
 {
     run_trace_to_end(alloc, words, env, files, record_in, out, maker).status
 }
@@ -269,6 +275,11 @@ pub fn run_trace_to_end<F: Files, S: Source, K: Sink, M: ReMaker>(
     ensures check_named { IfSome
         (check_setting_of words.now env.now (F.held files.old) (S.left record_in.old)) (λ given.
         (F.last files.new ≡ F.last files.old) ⊎ IsSomeAnd (F.last files.new) (CheckReads given)) }
+    // The configuration is read first, then the files that it names, and the trace at last.
+    ensures check_files_read { IfSome
+        (check_setting_of words.now env.now (F.held files.old) (S.left record_in.old)) (λ given.
+        HoldsSince (F.log files.old) (F.log files.new)
+        (ReadsCheckFiles given (F.last files.new) result.status)) }
 
     ensures told { IfSome
         (setting_of words.now env.now (F.held files.old) (S.left record_in.old)) (λ given.

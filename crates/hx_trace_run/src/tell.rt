@@ -4,10 +4,9 @@ ghost use Rattle.hx_trace_run.specs.Explanation.{explanation};
 use crate::explain::{explain, given_name};
 use hx_outside::{Files, Sink};
 use hx_program::KnownFiles;
-use hx_replay::{Place, RecentRecord, place_of};
+use hx_replay::{KnownConfig, Place, RecentRecord, Told, place_of};
 use hx_run::Ended;
 use hx_run::explain::ending_of;
-use hx_run::tell::{known_config, told_of};
 use std::alloc::Global;
 
 /// Writes to `err` why a run of these words, over these files and this record, ended so: its fault
@@ -28,13 +27,13 @@ pub fn tell<K: Sink, F: Files + Drop, S>(
 {
     let name = given_name(words);
     let (mut files, text, last) = files.into_parts();
-    let config = known_config(name, text.as_deref(), last.as_deref());
+    let config = KnownConfig::new(name, text.as_deref(), last.as_deref());
     let ending = ending_of(ended);
     let requests = ended.requests;
     let Place { text, reason } = place_of(
         alloc, ending, &config, env, &mut files, record, requests,
     );
     let file = last.as_deref().unwrap_or(name);
-    let told = told_of(name, &text, reason, file, large);
+    let told = Told::new(name, &text, reason, file, large);
     let _ = explain(err, ended, &told);
 }

@@ -1,6 +1,4 @@
-use Rattle.std.proofs.Common.{◌≡◌, None, sym, ap, ◌∙◌, slice_get}
-use Rattle.std.specs.Option.{option_copied, option_map_or}
-use Rattle.hx_diff.specs.Difference.{host_of_line}
+use Rattle.std.proofs.Common.{sym, ◌∙◌}
 use Rattle.hx_diff.proofs.DifferenceLemmas.{host_found, host_kept}
 use Rattle.hx_diff.proofs.difference.host.Goals as goal
 

@@ -1,4 +1,4 @@
-use Rattle.std.proofs.Common.{Err, inl, inr, ap, refl}
+use Rattle.std.proofs.Common.{Err, inl, ap, refl}
 use Rattle.hx_diff.specs.Command.{asked_of}
 use Rattle.hx_diff.specs.Run.{setting}
 use Rattle.hx_diff.specs.RunFault.{load_fault}

@@ -1,4 +1,6 @@
-use Rattle.std.proofs.Common.{◌<◌, ◌∙◌, Err, inl, inr, ap, arith, refl, sym}
+use Rattle.std.proofs.Common.{◌<◌, ◌∙◌, Err, inl, inr, ap, arith, refl}
+use Rattle.hx_run.specs.Command.{asked_of}
+use Rattle.hx_run.specs.Run.{setting}
 use Rattle.hx_run.specs.declared.command.Detail.TheVariants.{Verdicts}
 use Rattle.hx_run.proofs.RunLemmas.{before_finished, source_moved}
 use Rattle.hx_run.proofs.EndLemmas.{ends_as, of_fault}
@@ -114,7 +116,8 @@ pub returns-in-Ok-clause-files_read : goal.returns-in-Ok-clause-files_read
 returns-in-Ok-clause-files_read g c = c.in-Ok.ensures.files_read
 
 pub returns-in-Err-clause-files_read : goal.returns-in-Err-clause-files_read
-returns-in-Err-clause-files_read g c = finished_files _ (g.F.Files.last c.attempt.new.files) c.in-Err.fault (g.K.Sink.written c.attempt.new.out) (g.K.Sink.written c.finish.new.out) c.finish.result
+returns-in-Err-clause-files_read g c =
+    finished_files (setting c.args.env.now (g.F.Files.held c.args.files.now) (asked_of c.args.command) (g.S.Source.left c.args.record_in.now)) (g.F.Files.last c.attempt.new.files) c.in-Err.fault (g.K.Sink.written c.attempt.new.out) (g.K.Sink.written c.finish.new.out) c.finish.result
     (g.F.Files.log c.args.files.now) (g.F.Files.log c.attempt.new.files) c.finish.ensures.finished c.in-Err.ensures.files_read
 
 pub returns-in-Err-clause-told : goal.returns-in-Err-clause-told

@@ -1,7 +1,7 @@
 use Rattle.std.proofs.Common.{[], inl, inr}
 use Rattle.std.specs.Io.KnownBytes.{IsAtEnd}
 use Rattle.hx_trace_run.specs.Checking.{check_setting}
-use Rattle.hx_trace_run.proofs.CheckLemmas.{told_ends}
+use Rattle.hx_trace_run.proofs.CheckLemmas.{finished_files, told_ends}
 use Rattle.hx_trace_run.proofs.CheckStatusLemmas.{after_nothing, checks, compares, complete, completed, config_refused, finished_status, of_fault, outside, sink_rose, too_large, without_fault}
 use Rattle.hx_trace_run.proofs.check.check_trace.Goals as goal
 
@@ -88,3 +88,9 @@ returns-clause-file_fault g c = λ is. (c.find-found.ensures.files_failed (rw is
 
 pub returns-clause-record_fault : goal.returns-clause-record_fault
 returns-clause-record_fault g c = λ is. (c.find-found.ensures.source_failed (rw is at c.fault_of.ensures.fault)).0
+
+pub returns-clause-files_read : goal.returns-clause-files_read
+returns-clause-files_read g c =
+    finished_files (check_setting c.args.env.now (g.F.Files.held c.args.files.now) c.args.config_name.now c.args.trace_name.now (g.S.Source.left c.args.record_in.now))
+    (g.F.Files.last c.find-found.new.files) c.find-found.result (g.K.Sink.written c.find-found.new.out) (g.K.Sink.written c.finish-status.new.out)
+    c.finish-status.result (g.F.Files.log c.args.files.now) (g.F.Files.log c.find-found.new.files) c.finish-status.ensures.finished c.find-found.ensures.files_read

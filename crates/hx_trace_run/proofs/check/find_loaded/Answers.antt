@@ -1,4 +1,4 @@
-use Rattle.hx_trace_run.specs.CheckView.{program_of}
+use Rattle.hx_replay.specs.Configs.{program_of}
 use Rattle.hx_trace_run.proofs.CheckLemmas.{named_found, named_unread}
 use Rattle.hx_trace_run.proofs.check.find_loaded.Goals as goal
 

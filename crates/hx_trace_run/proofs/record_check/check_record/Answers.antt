@@ -1,6 +1,6 @@
 use Rattle.std.proofs.Common.{sym, ◌∙◌}
 use Rattle.std.specs.Io.KnownBytes.{IsAtEnd}
-use Rattle.hx_trace_run.specs.CheckView.{program_of}
+use Rattle.hx_replay.specs.Configs.{program_of}
 use Rattle.hx_trace_run.specs.EngineView.{check_state}
 use Rattle.hx_trace_run.proofs.RecordLemmas.{asks_last, at_end_of, found, nothing_written, replay_kind, sink_of, source_of, too_large_of, unrefused}
 use Rattle.hx_trace_run.proofs.record_check.check_record.Goals as goal
