@@ -120,7 +120,7 @@ fn regsub_conv(
     requires { IsExpression ci text.now re }
     ensures { IfOk result (λ built. built ≡ conv.Regsub text.now sub.now each ci) }
 {
-    let re = RegularExpression::new(alloc, text.as_slice(), ci, re)?;
+    let re = RegularExpression::permanent(alloc, text.as_slice(), ci, re)?;
     let sub = copied(alloc, sub)?;
     Ok(TextConv {
         built: Built::Made(Made::Regsub(re, sub, each)),

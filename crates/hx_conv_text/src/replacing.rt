@@ -1,5 +1,5 @@
 //! Parts of a text replaced by a text that is the same at each: no groups are asked for.
-ghost use Rattle.std.specs.Prelude.{◌≡◌, ◌+◌, ◌++◌, ◌≤◌, false, Some, drop, take, length, option_map, option_to_list, unwrap_or, IfOk, IfSome};
+ghost use Rattle.std.specs.Prelude.{◌≡◌, ◌+◌, ◌++◌, ◌≤◌, false, Some, drop, take, length, option_map, option_to_list, unwrap_or, IfOk, IfSome, OnOk};
 ghost use Rattle.regex.specs.Bytes.{match_haystack, match_span, matcher_pattern};
 ghost use Rattle.regex.specs.Patterns.{find, find_all, span};
 ghost use Rattle.regex.specs.Replace.{replaced_by};
@@ -28,6 +28,20 @@ pub(crate) fn with_part_replaced(
     made.extend_from_slice(replacement)?;
     made.extend_from_slice(&input[end..])?;
     Ok(Octets::from_vec(made))
+}
+
+/// Appends the text. A single byte, as most marks are, is pushed, which costs less than to copy a
+/// block.
+fn append(made: &mut Vec<u8>, text: &[u8]) -> Result<(), AllocError>
+    ensures { OnOk result (made.new.items ≡ made.old.items ++ text.now) }
+{
+    match text {
+        [only] => {
+            made.push(*only)?;
+            Ok(())
+        }
+        _ => made.extend_from_slice(text),
+    }
 }
 
 /// The input with the leftmost match replaced by the text. None where nothing matches.
@@ -93,7 +107,7 @@ fn from_first(
     let mut next = Some(first);
     while let Some(found) = next {
         made.extend_from_slice(&input[last..found.start()])?;
-        made.extend_from_slice(text)?;
+        append(&mut made, text)?;
         last = found.end();
         next = match_after(matcher, input, last);
     }

@@ -4,3 +4,4 @@ pub mod OneLemmas
 pub mod LastLemmas
 pub mod FoundLemmas
 pub mod NamedLemmas
+pub mod LineLemmas

@@ -58,7 +58,7 @@ pub joined_alone : {A : Type 0} (xs : List A) → flat_map (λ x. x ∷ []) xs �
 joined_alone [] = refl
 joined_alone (x ∷ xs) = ap (λ rest. x ∷ rest) (joined_alone xs)
 
-values_under-append : (name : Option (List ℕ)) (ps qs : List NamedValue) → values_under name (ps ++ qs) ≡ values_under name ps ++ values_under name qs
+pub values_under-append : (name : Option (List ℕ)) (ps qs : List NamedValue) → values_under name (ps ++ qs) ≡ values_under name ps ++ values_under name qs
 values_under-append name ps qs =
     let is_of : NamedValue → Bool = λ pair. option_map_or (bytes_eq pair.0) name true in
     ap (map (λ pair. pair.1)) (filter-append is_of ps qs)

@@ -48,7 +48,7 @@ fn is_pair_name(pair_name: &[u8], name: Option<&[u8]>) -> bool
     }
 }
 
-fn next_cookie<'w>(pairs: &mut Cookies<'w>, name: Option<&[u8]>) -> Option<&'w [u8]>
+pub(crate) fn next_cookie<'w>(pairs: &mut Cookies<'w>, name: Option<&[u8]>) -> Option<&'w [u8]>
     ensures some { IfSome result (λ value. values_under (option_copied name.entry) pairs.old
         ≡ value.now ∷ values_under (option_copied name.entry) pairs.new) }
     ensures none { IfNone result (values_under (option_copied name.entry) pairs.old ≡ []) }

@@ -7,14 +7,14 @@ ghost use Rattle.hx_sample.specs.Cast.{cast_of};
 ghost use Rattle.hx_sample.specs.Seen.{occurrence_value, value_of};
 ghost use Rattle.hx_sample.specs.declared.sample.Value.TheVariants as value;
 ghost use Rattle.hx_fetch.specs.Fetches.{text_occurrences, count_of};
-ghost use Rattle.hx_fetch.specs.Names.{header_lines};
+ghost use Rattle.hx_fetch.specs.Names.{cookie_values, header_lines};
 ghost use Rattle.hx_fetch.specs.Picks.{occurrence_at, selection_end};
 ghost use Rattle.hx_fetch.specs.Views.{source_texts};
 
-use crate::lines::Lines;
-use crate::texts::{TextReader, TextSource, lone_value};
+use crate::lines::{Lines, is_header_name};
+use crate::texts::{TextReader, TextSource, lone_value, next_cookie};
 use hx_http::Message;
-use hx_lists::hdr_values;
+use hx_lists::{cookies, hdr_values};
 use hx_sample::{Bytes, Sample, Samples, cast};
 use hx_text::{Kind, NoMemory};
 use std::alloc::Global;
@@ -64,17 +64,23 @@ fn nth_back<'w>(source: TextSource<'_, 'w>, after: u64) -> Option<&'w [u8]>
     texts.next()
 }
 
-/// The last line of a header, if there is one.
-#[tactic(auto, using(crate::proofs::StepLemmas::last_of_none))]
+/// The last line of a header, if there is one. It is looked for from the end, so that those before
+/// it cost nothing.
+#[tactic(auto, using(crate::proofs::ListLemmas::drop_at))]
 fn last_line<'w>(message: &'w Message, name: Option<&[u8]>) -> Option<&'w [u8]>
     ensures { option_copied result
         ≡ slice_get (reverse (header_lines (option_copied name.entry) message.now)) 0 }
 {
-    let mut last = None;
-    for line in Lines::new(message, name) {
-        last = Some(line);
+    let mut left = message.len();
+    while left > 0 {
+        left -= 1;
+        if let Some((line_name, line)) = message.header(left) {
+            if is_header_name(line_name, name) {
+                return Some(line);
+            }
+        }
     }
-    last
+    None
 }
 
 /// The last value of a header line.
@@ -177,6 +183,20 @@ fn has_line(message: &Message, name: Option<&[u8]>) -> bool
     Lines::new(message, name).next().is_some()
 }
 
+/// Whether there is a cookie of the name, or without one a cookie at all.
+#[tactic(auto, using(crate::proofs::FoundLemmas::cookie_in_lines))]
+fn has_cookie(message: &Message, name: Option<&[u8]>) -> bool
+    ensures { result
+        ≡ is_some (slice_get (cookie_values (option_copied name.entry) message.now) 0) }
+{
+    for line in Lines::new(message, Some(b"Cookie")) {
+        if next_cookie(&mut cookies(line), name).is_some() {
+            return true;
+        }
+    }
+    false
+}
+
 /// Whether there is a text. A header line has some values, so it needn't be cut into them.
 #[tactic(auto, using(crate::proofs::FoundLemmas::value_in_lines))]
 fn has_text(source: TextSource<'_, '_>) -> bool
@@ -185,7 +205,8 @@ fn has_text(source: TextSource<'_, '_>) -> bool
     match source {
         TextSource::Lines(message, name) => has_line(message, name),
         TextSource::Values(message, name) => has_line(message, name),
-        _ => TextReader::new(source).next().is_some(),
+        TextSource::Cookies(message, name) => has_cookie(message, name),
+        TextSource::Params(_, _, _) => TextReader::new(source).next().is_some(),
     }
 }
 

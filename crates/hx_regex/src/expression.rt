@@ -14,6 +14,10 @@ use std::marker::Model;
 /// so one that is searched seldom, as an entry that is soon deleted, mustn't have one.
 const SEARCHES: u32 = 64;
 
+/// The same for an expression that stays as long as the process, of which nothing is lost. One that
+/// is hardly ever searched needn't be made a second time.
+const SEARCHES_OF_PERMANENT: u32 = 4;
+
 /// A regular expression. Contracts see it as its text, and whether it ignores the case of letters.
 ///
 /// To set up a search takes a hundred times as long as to search a short text. So what one search
@@ -30,7 +34,8 @@ pub struct RegularExpression {
 #[derive(Drop)]
 struct Searched {
     made: Regex,
-    searches: Cell<u32>,
+    /// How many searches more are set up each by itself, before a matcher is kept.
+    left: Cell<u32>,
     kept: Cell<Option<KeptMatcher>>,
 }
 
@@ -67,12 +72,42 @@ impl RegularExpression {
         ensures { IfOk result (λ expression.
             expression ≡ record { text = text.now; ci = ci }) }
     {
+        RegularExpression::kept_after(alloc, SEARCHES, text, ci, made)
+    }
+
+    /// The same for an expression that stays as long as the process, as that of a rule: what a
+    /// search of it sets up is kept sooner.
+    pub fn permanent(
+        alloc: Global,
+        text: &[u8],
+        ci: bool,
+        made: Regex,
+    ) -> Result<RegularExpression, NoMemory>
+        requires { IsExpression ci text.now made }
+        ensures { IfOk result (λ expression.
+            expression ≡ record { text = text.now; ci = ci }) }
+    {
+        RegularExpression::kept_after(alloc, SEARCHES_OF_PERMANENT, text, ci, made)
+    }
+
+    /// The same, of which a matcher is kept after so many searches.
+    fn kept_after(
+        alloc: Global,
+        searches: u32,
+        text: &[u8],
+        ci: bool,
+        made: Regex,
+    ) -> Result<RegularExpression, NoMemory>
+        requires { IsExpression ci text.now made }
+        ensures { IfOk result (λ expression.
+            expression ≡ record { text = text.now; ci = ci }) }
+    {
         let text = Octets::copy(alloc, text)?;
         let searched = Box::new(
             alloc,
             Searched {
                 made,
-                searches: Cell::new(0),
+                left: Cell::new(searches),
                 kept: Cell::new(None),
             },
         )?;
@@ -94,14 +129,14 @@ impl RegularExpression {
         if let Some(kept) = self.kept_matcher() {
             return Ok(Search::Kept(kept));
         }
-        let searches = self.searched.searches.get();
-        if searches >= SEARCHES {
-            self.searched.searches.set(0);
+        let left = self.searched.left.get();
+        if left == 0 {
+            self.searched.left.set(SEARCHES);
             if let Ok(kept) = lasting(alloc, self.text.as_slice(), self.ci) {
                 return Ok(Search::Kept(kept));
             }
         } else {
-            self.searched.searches.set(searches + 1);
+            self.searched.left.set(left - 1);
         }
         Ok(Search::Fresh(self.fresh(alloc)?))
     }

@@ -2,7 +2,7 @@
 //!
 //! ```
 //! let made = PlainMaker::new().make(alloc, "^/admin/[0-9]+$", false)?;
-//! let admin = RegularExpression::new(alloc, b"^/admin/[0-9]+$", false, made)?;
+//! let admin = RegularExpression::permanent(alloc, b"^/admin/[0-9]+$", false, made)?;
 //! let hit = admin.is_match(alloc, b"/admin/7")?; // true
 //! ```
 #![tactic(auto)]

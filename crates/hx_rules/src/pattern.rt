@@ -53,7 +53,7 @@ impl Pattern {
             Err(PatFault::NoMemory) => return Err(PlanFault::NoMemory),
             Err(_) => unreachable!(),
         };
-        let regex = RegularExpression::new(alloc, text, false, regex)?;
+        let regex = RegularExpression::permanent(alloc, text, false, regex)?;
         Ok(Pattern { regex })
     }
 

@@ -37,7 +37,7 @@ loop-next-preserved c =
     let is = rw c.in-Some.is at c.loop-next.invariant.2 in
     let found = rw (c.loop-next.invariant.0, c.end-last.ensures) at c.match_after-next.ensures.found in
     let copied = c.in_ok-extend_from_slice.ensures.items ∙ ap (λ n. made ++ slice_range input last n) c.start.ensures in
-    let written = c.in_ok-extend_from_slice-2.ensures.items ∙ ap (λ l. l ++ text) copied
+    let written = c.in_ok-append.ensures ∙ ap (λ l. l ++ text) copied
     ∙ append_assoc made (slice_range input last s.0) text in (
       c.match_after-next.ensures.same ∙ c.loop-next.invariant.0,
       c.match_after-next.ensures.within,
@@ -52,5 +52,5 @@ returns-clause-value c =
     let last = c.loop-next.last in
     let made = c.loop-next.made.items in
     let is = rw c.in_default.is at c.loop-next.invariant.2 in
-    c.in_ok-extend_from_slice-3.ensures.items ∙ ap (λ l. made ++ l) (take_rest input last)
+    c.in_ok-extend_from_slice-2.ensures.items ∙ ap (λ l. made ++ l) (take_rest input last)
     ∙ all_replaced re input text last made is
