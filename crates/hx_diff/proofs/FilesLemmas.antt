@@ -6,7 +6,7 @@ use Rattle.hx_outside.specs.Log.{FileLog, HoldsSince}
 use Rattle.hx_refs.specs.References.{RefsState}
 use Rattle.hx_rules.specs.Programs.{Rules}
 use Rattle.hx_replay.proofs.ConfigFileLemmas.{EndsWith, config_at_end, files_loaded, files_unloaded, joined, part_at_end}
-use Rattle.hx_replay.specs.ConfigFiles.{ReadsConfig, ReadsPart, ReadsToLoad, ReadsWhole, load_status}
+use Rattle.hx_replay.specs.ConfigFiles.{ReadsConfigFiles, ReadsPart, ReadsToLoad, ReadsWhole, load_status}
 use Rattle.hx_diff.specs.Run.{Setting, new_of, old_of}
 use Rattle.hx_diff.specs.RunFault.{Finishes, IsReplayFault, fault_status, load_fault, result_status}
 use Rattle.hx_replay.proofs.LogLemmas.{since_map}
@@ -34,7 +34,7 @@ files_of_old s side fault last old new since =
 -- the new one isn't loaded
 pub files_of_new : (s : Setting) (side : Side) (fault : LoadFault) (last : Option (List ℕ)) (old new : Option FileLog)
     → HoldsSince old new (ReadsToLoad (new_of s) last (Err fault))
-    → HoldsSince old new (ReadsConfig (new_of s) last (fault_status (load_fault side fault)))
+    → HoldsSince old new (ReadsConfigFiles (new_of s) last (fault_status (load_fault side fault)))
 files_of_new s side fault last old new since =
     files_unloaded (new_of s) fault last (fault_status (load_fault side fault)) old new (status_of_load side fault) since
 
@@ -52,16 +52,16 @@ no_refusal (Err run.NoMemory) kind = λ is. absurd (omega (arith, is))
 -- the new one is loaded, and the record replayed
 pub files_of_replay : (s : Setting) (loaded : Rules × RefsState) (r : Result Bool RunFault) (last : Option (List ℕ)) (old new : Option FileLog)
     → IfErr r IsReplayFault → HoldsSince old new (ReadsToLoad (new_of s) last (Ok loaded))
-    → HoldsSince old new (ReadsConfig (new_of s) last (result_status r))
+    → HoldsSince old new (ReadsConfigFiles (new_of s) last (result_status r))
 files_of_replay s loaded r last old new kind since =
     files_loaded (new_of s) loaded last last (result_status r) old new (no_refusal r kind) since
 
 -- the old one is loaded, and then the new one is read
 pub files_of_both : (s : Setting) (loaded : Rules × RefsState) (r : Result Bool RunFault) (first_last last : Option (List ℕ)) (old now new : Option FileLog)
-    → HoldsSince old now (ReadsToLoad (old_of s) first_last (Ok loaded)) → HoldsSince now new (ReadsConfig (new_of s) last (result_status r))
+    → HoldsSince old now (ReadsToLoad (old_of s) first_last (Ok loaded)) → HoldsSince now new (ReadsConfigFiles (new_of s) last (result_status r))
     → HoldsSince old new (ReadsFiles s last (result_status r))
 files_of_both s loaded r first_last last old now new first second =
-    joined old now new (ReadsWhole (old_of s)) (ReadsConfig (new_of s) last (result_status r)) (ReadsFiles s last (result_status r))
+    joined old now new (ReadsWhole (old_of s)) (ReadsConfigFiles (new_of s) last (result_status r)) (ReadsFiles s last (result_status r))
     (λ old_names new_names whole others. inr (record {
       old_names = old_names;
       new_names = new_names;

@@ -9,7 +9,7 @@ use Rattle.hx_outside.specs.Count.{Rose}
 use Rattle.hx_outside.specs.Log.{Log}
 use Rattle.hx_refs.specs.References.{RefsState}
 use Rattle.hx_rules.specs.Programs.{Rules}
-use Rattle.hx_replay.specs.Configs.{ConfigReads, IsAccepted, LoadsConfig, program_of}
+use Rattle.hx_replay.specs.Configs.{IsAccepted, IsConfigFile, LoadsConfig, program_of}
 use Rattle.hx_replay.proofs.ConfigLemmas.{accepts, some_is_judgement, some_judgement}
 use Rattle.hx_replay.specs.Gathering.{IsOfRecord, WritesOutcome}
 use Rattle.hx_replay.specs.Outcome.{ends_with}
@@ -226,25 +226,25 @@ no_files (Err run.NoMemory) kind is = cc
 -- ---- files
 
 -- a file of one configuration is one of the run
-pub old_reads : (s : Setting) (last : Option (List ℕ)) → IsSomeAnd last (ConfigReads (old_of s)) → IsSomeAnd last (RunReads s)
+pub old_reads : (s : Setting) (last : Option (List ℕ)) → IsSomeAnd last (IsConfigFile (old_of s)) → IsSomeAnd last (RunReads s)
 old_reads s None reads = absurd reads
 old_reads s (Some name) reads = inl reads
 
-pub new_reads : (s : Setting) (last : Option (List ℕ)) → IsSomeAnd last (ConfigReads (new_of s)) → IsSomeAnd last (RunReads s)
+pub new_reads : (s : Setting) (last : Option (List ℕ)) → IsSomeAnd last (IsConfigFile (new_of s)) → IsSomeAnd last (RunReads s)
 new_reads s None reads = absurd reads
 new_reads s (Some name) reads = inr reads
 
-pub old_named : (s : Setting) (before after : Option (List ℕ)) → (after ≡ before) ⊎ IsSomeAnd after (ConfigReads (old_of s))
+pub old_named : (s : Setting) (before after : Option (List ℕ)) → (after ≡ before) ⊎ IsSomeAnd after (IsConfigFile (old_of s))
     → (after ≡ before) ⊎ IsSomeAnd after (RunReads s)
 old_named s before after (inl same) = inl same
 old_named s before after (inr reads) = inr (old_reads s after reads)
 
-pub new_named : (s : Setting) (before after : Option (List ℕ)) → (after ≡ before) ⊎ IsSomeAnd after (ConfigReads (new_of s))
+pub new_named : (s : Setting) (before after : Option (List ℕ)) → (after ≡ before) ⊎ IsSomeAnd after (IsConfigFile (new_of s))
     → (after ≡ before) ⊎ IsSomeAnd after (RunReads s)
 new_named s before after (inl same) = inl same
 new_named s before after (inr reads) = inr (new_reads s after reads)
 
-pub both_named : (s : Setting) (before mid after : Option (List ℕ)) → (mid ≡ before) ⊎ IsSomeAnd mid (ConfigReads (old_of s))
+pub both_named : (s : Setting) (before mid after : Option (List ℕ)) → (mid ≡ before) ⊎ IsSomeAnd mid (IsConfigFile (old_of s))
     → (after ≡ mid) ⊎ IsSomeAnd after (RunReads s) → (after ≡ before) ⊎ IsSomeAnd after (RunReads s)
 both_named s before mid after first (inr reads) = inr reads
 both_named s before mid after (inl stays) (inl same) = inl (same ∙ stays)

@@ -14,7 +14,7 @@ use Rattle.hx_program.specs.Machine.{texts_of}
 use Rattle.hx_record.specs.Record.{record_items}
 use Rattle.hx_record.specs.declared.Event.{Event}
 use Rattle.hx_words.specs.Variable.{Env}
-use Rattle.hx_replay.specs.Configs.{ConfigGives, ConfigJudgesLast, ConfigReads, ConfigSetting, IsJudgement}
+use Rattle.hx_replay.specs.Configs.{ConfigGives, ConfigJudgesLast, ConfigSetting, IsConfigFile, IsJudgement}
 use Rattle.hx_replay.specs.Behavior.{AreAllowed}
 use Rattle.hx_replay.specs.Outcome.{Outcome, ends_with, with_end}
 use Rattle.hx_replay.specs.Program.{Program, engine_behavior, initial_world}
@@ -202,4 +202,4 @@ RunAsksLast s large = AcceptsSome s (λ programs.
 
 -- the files that a run reads: those of both configurations
 abbrev pub RunReads : Setting → List ℕ → Type 0
-RunReads s name = ConfigReads (old_of s) name ⊎ ConfigReads (new_of s) name
+RunReads s name = IsConfigFile (old_of s) name ⊎ IsConfigFile (new_of s) name

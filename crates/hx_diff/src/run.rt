@@ -4,7 +4,7 @@ ghost use Rattle.hx_core.specs.World.{FitRules};
 ghost use Rattle.hx_outside.specs.Count.{Rose};
 ghost use Rattle.hx_outside.specs.Log.{HoldsSince};
 ghost use Rattle.hx_program.specs.Machine.{texts_of};
-ghost use Rattle.hx_replay.specs.ConfigFiles.{ReadsConfig};
+ghost use Rattle.hx_replay.specs.ConfigFiles.{ReadsConfigFiles};
 ghost use Rattle.hx_replay.specs.Configs.{IsAccepted};
 ghost use Rattle.hx_diff.specs.Command.{asked_of};
 ghost use Rattle.hx_diff.specs.Run.{command_of, new_of, old_of, setting, setting_of};
@@ -301,7 +301,7 @@ fn attempt_new<F: Files, S: Source, K: Sink, M: ReMaker>(
     ensures named { (F.last files.new ≡ F.last files.old)
         ⊎ IsSomeAnd (F.last files.new) (RunReads
         (setting env.now (F.held files.old) (asked_of command.entry) (S.left record_in.old))) }
-    ensures files_read { HoldsSince (F.log files.old) (F.log files.new) (ReadsConfig
+    ensures files_read { HoldsSince (F.log files.old) (F.log files.new) (ReadsConfigFiles
         (new_of (setting env.now (F.held files.old) (asked_of command.entry)
         (S.left record_in.old))) (F.last files.new) (result_status result)) }
 {

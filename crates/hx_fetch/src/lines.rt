@@ -9,6 +9,7 @@ use hx_http::Message;
 use std::marker::Model;
 
 /// Most lines write a name as it is asked for, which is known at once.
+#[inline(always)]
 #[tactic(auto, using(crate::proofs::ListLemmas::same_whatever_case))]
 pub(crate) fn is_header_name(line_name: &[u8], name: Option<&[u8]>) -> bool
     ensures { result ≡ option_map_or (str_eq_ignore_ascii_case line_name.now)

@@ -10,7 +10,7 @@ use Rattle.hx_load.specs.declared.LoadFault.TheVariants as load
 use Rattle.hx_outside.specs.Log.{FileLog, HoldsSince, Logs}
 use Rattle.hx_refs.specs.References.{RefsState}
 use Rattle.hx_refs.specs.declared.Limits.{Limits}
-use Rattle.hx_replay.specs.ConfigFiles.{ReadsConfig, ReadsPart, ReadsToLoad, ReadsWhole, load_status}
+use Rattle.hx_replay.specs.ConfigFiles.{ReadsConfigFiles, ReadsPart, ReadsToLoad, ReadsWhole, load_status}
 use Rattle.hx_replay.specs.Configs.{ConfigSetting, HoldsConfig}
 use Rattle.hx_replay.specs.Program.{usual_limits}
 use Rattle.hx_replay.proofs.ConfigLemmas.{IsConfig, GivenToLoad, files_in, files_in_are, here, holds}
@@ -189,15 +189,15 @@ files_of_load s held limits items text result last old now new read one since =
 
 -- one that isn't loaded
 pub files_unloaded : (s : ConfigSetting) (fault : LoadFault) (last : Option (List ℕ)) (status : ℕ) (old new : Option FileLog) → load_status fault ≡ status
-    → HoldsSince old new (ReadsToLoad s last (Err fault)) → HoldsSince old new (ReadsConfig s last status)
+    → HoldsSince old new (ReadsToLoad s last (Err fault)) → HoldsSince old new (ReadsConfigFiles s last status)
 files_unloaded s fault last status old new same since =
-    since_map old new (ReadsPart s last (load_status fault)) (ReadsConfig s last status) since (λ names part. inl (rw same at part))
+    since_map old new (ReadsPart s last (load_status fault)) (ReadsConfigFiles s last status) since (λ names part. inl (rw same at part))
 
 -- one that is loaded
 pub files_loaded : (s : ConfigSetting) (loaded : Rules × RefsState) (load_last last : Option (List ℕ)) (status : ℕ) (old new : Option FileLog) → status ≢ 3
-    → HoldsSince old new (ReadsToLoad s load_last (Ok loaded)) → HoldsSince old new (ReadsConfig s last status)
+    → HoldsSince old new (ReadsToLoad s load_last (Ok loaded)) → HoldsSince old new (ReadsConfigFiles s last status)
 files_loaded s loaded load_last last status old new unrefused since =
-    since_map old new (ReadsWhole s) (ReadsConfig s last status) since (λ names whole. inr (unrefused, whole))
+    since_map old new (ReadsWhole s) (ReadsConfigFiles s last status) since (λ names whole. inr (unrefused, whole))
 
 -- the status of a run that comes to one: that one, or where its last line couldn't be written 6 or 7
 abbrev pub EndsWith : (status final : ℕ) → Type 0
@@ -227,6 +227,6 @@ part_at_end s last status final ends names part = record {
 }
 
 pub config_at_end : (s : ConfigSetting) (last : Option (List ℕ)) (status final : ℕ) → EndsWith status final → (names : List (List ℕ))
-    → ReadsConfig s last status names → ReadsConfig s last final names
+    → ReadsConfigFiles s last status names → ReadsConfigFiles s last final names
 config_at_end s last status final ends names (inl part) = inl (part_at_end s last status final ends names part)
 config_at_end s last status final ends names (inr (unrefused, whole)) = inr (λ three. unrefused (ends_small status final 3 ends (omega arith) three), whole)

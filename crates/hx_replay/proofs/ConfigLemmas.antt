@@ -14,7 +14,7 @@ use Rattle.hx_refs.specs.References.{References, version_entries, RefsState}
 use Rattle.hx_refs.specs.declared.Limits.{Limits}
 use Rattle.hx_rules.specs.Programs.{Rules}
 use Rattle.hx_rules.specs.Tables.{HasHeads, HasLists}
-use Rattle.hx_replay.specs.Configs.{ConfigGives, ConfigJudgesLast, ConfigReads, ConfigSetting, HasConfig, IsJudgement, LoadsConfig, judgement_of}
+use Rattle.hx_replay.specs.Configs.{ConfigGives, ConfigJudgesLast, ConfigSetting, HasConfig, IsConfigFile, IsJudgement, LoadsConfig, judgement_of}
 use Rattle.hx_replay.specs.Program.{Program, usual_limits}
 
 -- the files, as far as it is known what they hold
@@ -124,17 +124,17 @@ config_loads s now limits items text result read l =
     (here s now limits items text read (λ (h : Option NamedBytes) (m : Limits) (t : List ℕ). LoadsHeld h s.env m t result) l)
 
 -- the configuration is the file that wasn't read
-pub config_unread : (s : ConfigSetting) (last : Option (List ℕ)) → last ≡ Some s.name → IsSomeAnd last (ConfigReads s)
+pub config_unread : (s : ConfigSetting) (last : Option (List ℕ)) → last ≡ Some s.name → IsSomeAnd last (IsConfigFile s)
 config_unread s last is = rw is (inl refl)
 
 comes_to : (s : ConfigSetting) (items : List ℕ) (files : NamedBytes) (last : Option (List ℕ)) → IsConfig s.held s.name (Some items)
-    → HasFiles s.held files → IsSomeAnd last (ReadsFile s.env usual_limits files items) → IsSomeAnd last (ConfigReads s)
+    → HasFiles s.held files → IsSomeAnd last (ReadsFile s.env usual_limits files items) → IsSomeAnd last (IsConfigFile s)
 comes_to s items files None config of_files reads = absurd reads
 comes_to s items files (Some name) config of_files reads =
     inr (record { config = items; files = files; of_files = holds s.held s.name files (Some items) of_files config; is = reads })
 
 pub load_reads : (s : ConfigSetting) (now : Option NamedBytes) (limits : Limits) (items text : List ℕ) (last : Option (List ℕ))
-    → GivenToLoad s now limits items text → LoadReadsLast now s.env limits text last → IsSomeAnd last (ConfigReads s)
+    → GivenToLoad s now limits items text → LoadReadsLast now s.env limits text last → IsSomeAnd last (IsConfigFile s)
 load_reads s now limits items text last read l =
     let there : LoadReadsLast s.held s.env usual_limits items last =
     here s now limits items text read (λ (h : Option NamedBytes) (m : Limits) (t : List ℕ). LoadReadsLast h s.env m t last) l in
@@ -143,7 +143,7 @@ load_reads s now limits items text last read l =
 -- the last name stays, or is that of a file that is read: after the configuration was read
 pub load_named : (s : ConfigSetting) (now : Option NamedBytes) (limits : Limits) (items text : List ℕ) (old mid new : Option (List ℕ))
     → GivenToLoad s now limits items text → mid ≡ old → (new ≡ mid) ⊎ LoadReadsLast now s.env limits text new
-    → (new ≡ old) ⊎ IsSomeAnd new (ConfigReads s)
+    → (new ≡ old) ⊎ IsSomeAnd new (IsConfigFile s)
 load_named s now limits items text old mid new read kept (inl stays) = inl (stays ∙ kept)
 load_named s now limits items text old mid new read kept (inr l) = inr (load_reads s now limits items text new read l)
 

@@ -35,9 +35,9 @@ pub record ReadsPart (s : ConfigSetting) (last : Option (List ℕ)) (status : �
 
 -- The files that are read where a run ends with this status: all of a configuration that is
 -- accepted, which no run ends for with status 3, or those of one that isn't loaded.
-abbrev pub ReadsConfig : ConfigSetting → (last : Option (List ℕ)) → (status : ℕ) → List (List ℕ)
+abbrev pub ReadsConfigFiles : ConfigSetting → (last : Option (List ℕ)) → (status : ℕ) → List (List ℕ)
     → Type 0
-ReadsConfig s last status names =
+ReadsConfigFiles s last status names =
     ReadsPart s last status names ⊎ ((status ≢ 3) × ReadsWhole s names)
 
 -- the status with which a run ends whose configuration isn't loaded

@@ -43,8 +43,8 @@ ConfigGives s program = HoldsConfig s (λ files config.
 
 -- the files that are read for a configuration: itself, and those to which it comes when it is
 -- loaded, with no fault before them
-abbrev pub ConfigReads : ConfigSetting → List ℕ → Type 0
-ConfigReads s name = (name ≡ s.name)
+abbrev pub IsConfigFile : ConfigSetting → List ℕ → Type 0
+IsConfigFile s name = (name ≡ s.name)
     ⊎ HoldsConfig s (λ files config. ReadsFile s.env usual_limits files config name)
 
 -- the last text that was too large for the maker is one that is read as a regular expression when

@@ -2,7 +2,7 @@ ghost use Rattle.std.specs.Prelude.{◌≡◌, ◌≤◌, ◌⊎◌, IfOk, IsErr
 ghost use Rattle.hx_core.specs.World.{FitRules};
 ghost use Rattle.hx_outside.specs.Count.{Rose};
 ghost use Rattle.hx_outside.specs.Log.{HoldsSince};
-ghost use Rattle.hx_replay.specs.Configs.{ConfigJudgesLast, ConfigReads, LoadsConfig, config_setting};
+ghost use Rattle.hx_replay.specs.Configs.{ConfigJudgesLast, IsConfigFile, LoadsConfig, config_setting};
 ghost use Rattle.hx_replay.specs.ConfigFiles.{ReadsToLoad};
 
 use hx_load::{LoadFault, load};
@@ -36,7 +36,7 @@ pub fn load_config<F: Files, M: ReMaker>(
     ensures failed { IsErrOf result LoadFault.Failed
         → Rose (F.faults files.old) (F.faults files.new)
         × IsSomeAnd (F.last files.new)
-        (ConfigReads (config_setting env.now (F.held files.old) name.now)) }
+        (IsConfigFile (config_setting env.now (F.held files.old) name.now)) }
     ensures too_large { IsErrOf result LoadFault.TooLarge
         → Rose (M.state maker.old).too_large (M.state maker.new).too_large
         × ConfigJudgesLast (config_setting env.now (F.held files.old) name.now)
@@ -47,7 +47,7 @@ pub fn load_config<F: Files, M: ReMaker>(
     ensures held { F.held files.new ≡ F.held files.old }
     ensures named { (F.last files.new ≡ F.last files.old)
         ⊎ IsSomeAnd (F.last files.new)
-        (ConfigReads (config_setting env.now (F.held files.old) name.now)) }
+        (IsConfigFile (config_setting env.now (F.held files.old) name.now)) }
     ensures later { F.faults files.old ≤ F.faults files.new }
     ensures files_read { HoldsSince (F.log files.old) (F.log files.new)
         (ReadsToLoad (config_setting env.now (F.held files.old) name.now) (F.last files.new)

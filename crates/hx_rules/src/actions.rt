@@ -1,4 +1,4 @@
-ghost use Rattle.std.specs.Prelude.{◌≡◌, length, IfOk, OnErr, OnOk};
+ghost use Rattle.std.specs.Prelude.{◌≡◌, [], length, IfOk, OnErr, OnOk};
 ghost use Rattle.std.specs.Option.{option_map_or};
 ghost use Rattle.hx_expr.specs.Values.{expr_value, HasTableHeads};
 ghost use Rattle.hx_sample.specs.Changes.{ChangeCountsLarge};
@@ -90,18 +90,40 @@ impl<T: Tables> Request<'_, T> {
         after_rewrite(edited, self.strict)
     }
 
-    /// The value of the expression, owned.
-    fn value<L: Ledger>(&self, plan: &Plan, steps: &mut Steps<L>) -> Result<Option<Value>, NoMemory>
-        requires { HasTableHeads (T.heads (T.state self.now.tables.now)) plan.now.convs }
+    /// The value of the expression, owned. A room that is empty is there for its bytes.
+    fn value_in<L: Ledger>(
+        &self,
+        room: Vec<u8>,
+        plan: &Plan,
+        steps: &mut Steps<L>,
+    ) -> Result<Option<Value>, NoMemory>
+        requires room { room.items ≡ [] }
+        requires heads { HasTableHeads (T.heads (T.state self.now.tables.now)) plan.now.convs }
         ensures { IfOk result (λ value. value
             ≡ in_state expr_value (table_view T.heads T.lists T.after_change) self.now.conn.now
             (state_of T.state self.now) plan.now) }
     {
         let world = self.world();
         match eval(self.alloc, plan, &world, self.tables, steps)? {
-            Some(sample) => Ok(Some(owned_value(self.alloc, sample)?)),
+            Some(sample) => Ok(Some(owned_value(room, sample)?)),
             None => Ok(None),
         }
+    }
+
+    /// The value of the expression, owned, in memory that an earlier one had.
+    fn value<L: Ledger>(
+        &mut self,
+        plan: &Plan,
+        steps: &mut Steps<L>,
+    ) -> Result<Option<Value>, NoMemory>
+        requires { HasTableHeads (T.heads (T.state self.old.tables.now)) plan.now.convs }
+        ensures value { IfOk result (λ value. value
+            ≡ in_state expr_value (table_view T.heads T.lists T.after_change) self.old.conn.now
+            (state_of T.state self.old) plan.now) }
+        ensures kept { self.new ≡ self.old }
+    {
+        let room = self.vars.room();
+        self.value_in(room, plan, steps)
     }
 
     /// Does what the action says. Nothing is changed where memory runs out, or where the key of a

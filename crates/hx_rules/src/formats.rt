@@ -1,32 +1,20 @@
-ghost use Rattle.std.specs.Prelude.{◌≡◌, ◌++◌, IfOk, OnOk, OnErr};
-ghost use Rattle.hx_sample.specs.Seen.{bytes_of, occurrence_value};
-ghost use Rattle.hx_rules.specs.Formats.{part_text, string_of, text_in};
+ghost use Rattle.std.specs.Prelude.{◌≡◌, ◌++◌, [], IfOk, OnOk};
+ghost use Rattle.hx_ast.specs.declared.action.Part.TheVariants as part;
+ghost use Rattle.hx_expr.specs.Values.{HasTableHeads};
+ghost use Rattle.hx_sample.specs.Seen.{bytes_of};
+ghost use Rattle.hx_rules.specs.Formats.{part_text, text_in};
 ghost use Rattle.hx_rules.specs.RequestView.{state_of};
 ghost use Rattle.hx_rules.specs.State.{in_state, table_view};
 ghost use Rattle.hx_rules.specs.Tables.{HasFormatHeads, HasPartHeads};
 
 use crate::format::{BuiltFormat, BuiltPart, PartPlan};
-use crate::owning::owned_bytes;
 use crate::request::Request;
-use hx_expr::eval;
+use crate::strings::{push_string, string_in};
+use hx_expr::{Plan, eval};
 use hx_pool::Steps;
-use hx_sample::{Bytes, Sample, Tables, cast};
-use hx_text::{Kind, NoMemory, Octets};
-use std::alloc::Global;
+use hx_sample::{Bytes, Tables};
+use hx_text::{NoMemory, Octets};
 use std::sync::ledger::Ledger;
-
-/// The bytes of the value as a string, which are none where there is no value.
-fn string_bytes<'a>(alloc: Global, value: Option<Sample<'a>>) -> Result<Bytes<'a>, NoMemory>
-    ensures { IfOk result (λ bytes. bytes_of bytes ≡ string_of (occurrence_value value.entry)) }
-{
-    let Some(sample) = value else {
-        return Ok(Bytes::Lent(b""));
-    };
-    match cast(alloc, sample, Kind::Str)? {
-        Some(Sample::Str(bytes)) => Ok(bytes),
-        _ => Ok(Bytes::Lent(b"")),
-    }
-}
 
 impl<T: Tables> Request<'_, T> {
     /// Appends the text of a part.
@@ -46,32 +34,69 @@ impl<T: Tables> Request<'_, T> {
             PartPlan::Value(plan) => {
                 let world = self.world();
                 let value = eval(self.alloc, plan, &world, self.tables, steps)?;
-                text.push_all(string_bytes(self.alloc, value)?.as_slice())
+                push_string(self.alloc, text, value)
             }
         }
     }
 
-    /// The text of a part, lent where it is bytes that stand for themselves. What a converter or a
-    /// cast has made is taken as it is.
-    fn part_text<'f, L: Ledger>(
+    /// The value of an expression as a string. A room that is empty is there for its bytes.
+    fn string_of<L: Ledger>(
         &self,
+        room: Vec<u8>,
+        plan: &Plan,
+        steps: &mut Steps<L>,
+    ) -> Result<Octets, NoMemory>
+        requires room { room.items ≡ [] }
+        requires heads { HasTableHeads (T.heads (T.state self.now.tables.now)) plan.now.convs }
+        ensures { IfOk result (λ text. text
+            ≡ in_state part_text (table_view T.heads T.lists T.after_change)
+            self.now.conn.now (state_of T.state self.now) (part.Value plan.now)) }
+    {
+        let world = self.world();
+        let value = eval(self.alloc, plan, &world, self.tables, steps)?;
+        string_in(self.alloc, room, value)
+    }
+
+    /// The text of a part, lent where it is bytes that stand for themselves. What a converter has
+    /// made is taken as it is.
+    fn part_text<'f, L: Ledger>(
+        &mut self,
         part: &'f BuiltPart,
         steps: &mut Steps<L>,
     ) -> Result<Bytes<'f>, NoMemory>
-        requires { HasPartHeads (T.heads (T.state self.now.tables.now)) part.now }
-        ensures { IfOk result (λ text. bytes_of text
+        requires { HasPartHeads (T.heads (T.state self.old.tables.now)) part.now }
+        ensures text { IfOk result (λ text. bytes_of text
             ≡ in_state part_text (table_view T.heads T.lists T.after_change)
-            self.now.conn.now (state_of T.state self.now) part.now) }
+            self.old.conn.now (state_of T.state self.old) part.now) }
+        ensures kept { self.new ≡ self.old }
     {
         match &part.plan {
             PartPlan::Text(bytes) => Ok(Bytes::Lent(bytes.as_slice())),
             PartPlan::Value(plan) => {
-                let world = self.world();
-                let value = eval(self.alloc, plan, &world, self.tables, steps)?;
-                let bytes = string_bytes(self.alloc, value)?;
-                Ok(Bytes::Own(owned_bytes(self.alloc, bytes)?))
+                let room = self.vars.room();
+                Ok(Bytes::Own(self.string_of(room, plan, steps)?))
             }
         }
+    }
+
+    /// The text that the format makes, in a room that is empty.
+    fn text_in<L: Ledger>(
+        &self,
+        room: Vec<u8>,
+        format: &BuiltFormat,
+        steps: &mut Steps<L>,
+    ) -> Result<Octets, NoMemory>
+        requires room { room.items ≡ [] }
+        requires heads { HasFormatHeads (T.heads (T.state self.now.tables.now)) format.now }
+        ensures { IfOk result (λ text. text
+            ≡ text_in (table_view T.heads T.lists T.after_change) self.now.conn.now
+            (state_of T.state self.now) format.now) }
+    {
+        let mut text = Octets::from_vec(room);
+        for part in format.as_slice() {
+            self.push_part(&mut text, part, steps)?;
+        }
+        Ok(text)
     }
 
     /// The text that the format makes.
@@ -85,28 +110,29 @@ impl<T: Tables> Request<'_, T> {
             ≡ text_in (table_view T.heads T.lists T.after_change) self.now.conn.now
             (state_of T.state self.now) format.now) }
     {
-        let mut text = Octets::from_vec(Vec::new(self.alloc));
-        for part in format.as_slice() {
-            self.push_part(&mut text, part, steps)?;
-        }
-        Ok(text)
+        self.text_in(Vec::new(self.alloc), format, steps)
     }
 
     /// The same, and lent where the format is bytes that stand for themselves. One part alone is
-    /// the text, which no other is put together with.
+    /// the text, which no other is put together with. Memory that an earlier text had is used
+    /// again, and `keep_text` keeps that of this one.
     pub(crate) fn lent_text<'f, L: Ledger>(
-        &self,
+        &mut self,
         format: &'f BuiltFormat,
         steps: &mut Steps<L>,
     ) -> Result<Bytes<'f>, NoMemory>
-        requires { HasFormatHeads (T.heads (T.state self.now.tables.now)) format.now }
-        ensures { IfOk result (λ text. bytes_of text
-            ≡ text_in (table_view T.heads T.lists T.after_change) self.now.conn.now
-            (state_of T.state self.now) format.now) }
+        requires { HasFormatHeads (T.heads (T.state self.old.tables.now)) format.now }
+        ensures text { IfOk result (λ text. bytes_of text
+            ≡ text_in (table_view T.heads T.lists T.after_change) self.old.conn.now
+            (state_of T.state self.old) format.now) }
+        ensures kept { self.new ≡ self.old }
     {
         match format.as_slice() {
             [only] => self.part_text(only, steps),
-            _ => Ok(Bytes::Own(self.text(format, steps)?)),
+            _ => {
+                let room = self.vars.room();
+                Ok(Bytes::Own(self.text_in(room, format, steps)?))
+            }
         }
     }
 }

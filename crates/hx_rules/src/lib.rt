@@ -32,6 +32,7 @@ mod program;
 mod replacing;
 mod request;
 mod rewrites;
+mod strings;
 mod taking;
 mod typing;
 mod verdict;

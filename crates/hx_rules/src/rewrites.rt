@@ -11,6 +11,7 @@ ghost use Rattle.hx_rules.specs.Tables.{HasActionHeads, HasFormatHeads};
 
 use crate::action::Rewrite;
 use crate::format::BuiltFormat;
+use crate::owning::keep_text;
 use crate::pattern::Pattern;
 use crate::replacing::Replacer;
 use crate::request::Request;
@@ -96,7 +97,9 @@ impl<T: Tables> Request<'_, T> {
         ensures same { IsSameRequest T.state T.heads T.lists self.old self.new }
     {
         let text = self.lent_text(format, steps)?;
-        edit_head(self.message, asked, text.as_slice())
+        let edited = edit_head(self.message, asked, text.as_slice());
+        keep_text(self.vars, text);
+        edited
     }
 
     /// Replaces values of the header lines of a name, each of those between commas or the whole of
@@ -129,7 +132,9 @@ impl<T: Tables> Request<'_, T> {
     {
         let text = self.lent_text(format, steps)?;
         let replacer = Replacer::new(self.alloc, pattern, text.as_slice(), each);
-        replacer.replace_values(self.message, name.as_slice())
+        let edited = replacer.replace_values(self.message, name.as_slice());
+        keep_text(self.vars, text);
+        edited
     }
 
     /// Rewrites the head of the request. What is refused is as for the edits of a message, and

@@ -18,7 +18,7 @@ use Rattle.hx_record.specs.declared.Event.{Event}
 use Rattle.hx_refs.specs.References.{References}
 use Rattle.hx_rules.specs.Programs.{Rules, rule_count}
 use Rattle.hx_words.specs.Variable.{Env}
-use Rattle.hx_replay.specs.Configs.{ConfigGives, ConfigJudgesLast, ConfigReads, ConfigSetting, HasConfig}
+use Rattle.hx_replay.specs.Configs.{ConfigGives, ConfigJudgesLast, ConfigSetting, HasConfig, IsConfigFile}
 use Rattle.hx_replay.specs.Behavior.{AreAllowed, answers_to, Behavior}
 use Rattle.hx_trace.specs.Why.{explained}
 use Rattle.hx_core.specs.Telling.{told_answer}
@@ -213,4 +213,4 @@ RunAsksLast s large =
 -- the files that a run reads: the configuration, and those to which it comes when it is loaded,
 -- with no fault before them
 abbrev pub RunReads : Setting → List ℕ → Type 0
-RunReads s name = ConfigReads (config_of s) name
+RunReads s name = IsConfigFile (config_of s) name

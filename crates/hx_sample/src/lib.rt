@@ -17,6 +17,7 @@
 
 mod casting;
 pub mod laws;
+mod rooms;
 mod sample;
 mod samples;
 mod sessions;

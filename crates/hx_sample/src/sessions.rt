@@ -8,12 +8,12 @@ ghost use Rattle.hx_sample.specs.declared.stored_variable.Owner.TheVariants as w
 ghost use Rattle.hx_sample.specs.declared.stored_variable.Owner.{Owner as Whose};
 ghost use Rattle.hx_sample.specs.Slots.{key_in, vars_in, HasNoDoubles, HasUnder, HasChain, LosesOnly, OwnerStep, VariablePool};
 
+use crate::rooms::Rooms;
 use crate::sample::Value;
 use crate::slots::{clear, set_in, unset_in, value_in};
 use crate::stored_variable::{Owner, StoredVariable};
 use hx_pool::{Chain, Pool};
 use hx_text::{NoMemory, Octets};
-use std::alloc::Global;
 use std::collections::BTreeMap;
 use std::marker::Brand;
 use std::sync::ledger::Blank;
@@ -52,7 +52,7 @@ pub(crate) fn value_in_session<'a>(
 /// A connection whose variables are all unset keeps an empty chain until its session ends, and so
 /// does one whose first variable finds no memory.
 pub(crate) fn set_in_session(
-    alloc: Global,
+    rooms: &mut Rooms,
     slots: &mut Pool<StoredVariable>,
     sessions: &mut BTreeMap<u32, Chain>,
     conn: u32,
@@ -72,7 +72,7 @@ pub(crate) fn set_in_session(
     add_session(sessions, conn)?;
     match sessions.get_mut(&conn) {
         Some(chain) => set_in::<Brand>(
-            alloc,
+            rooms,
             slots,
             chain,
             Owner::Session(conn),
@@ -85,6 +85,7 @@ pub(crate) fn set_in_session(
 }
 
 pub(crate) fn unset_in_session(
+    rooms: &mut Rooms,
     slots: &mut Pool<StoredVariable>,
     sessions: &mut BTreeMap<u32, Chain>,
     conn: u32,
@@ -101,11 +102,12 @@ pub(crate) fn unset_in_session(
     let Some(chain) = sessions.get_mut(&conn) else {
         return;
     };
-    unset_in::<Brand>(slots, chain, name, Blank::new(1));
+    unset_in::<Brand>(rooms, slots, chain, name, Blank::new(1));
 }
 
 /// Unsets all variables of the session, and forgets the connection.
 pub(crate) fn clear_session(
+    rooms: &mut Rooms,
     slots: &mut Pool<StoredVariable>,
     sessions: &mut BTreeMap<u32, Chain>,
     conn: u32,
@@ -121,5 +123,5 @@ pub(crate) fn clear_session(
     let Some(mut chain) = sessions.remove(&conn) else {
         return;
     };
-    clear::<Brand>(slots, &mut chain, Blank::new(1));
+    clear::<Brand>(rooms, slots, &mut chain, Blank::new(1));
 }

@@ -10,11 +10,11 @@ ghost use Rattle.hx_sample.specs.declared.stored_variable.Owner.{Owner as Whose}
 ghost use Rattle.hx_sample.specs.declared.stored_variable.StoredVariable.{StoredVariable as Stored};
 ghost use Rattle.hx_sample.specs.Slots.{key_in, vars_in, variable_links, variable_at, variable_of, HasNoDoubles, HasNone, IsFound, HasUnder, Leads, LosesOnly, OwnerStep, ChangesSlot};
 
+use crate::rooms::Rooms;
 use crate::sample::Value;
 use crate::stored_variable::{Owner, StoredVariable};
 use hx_pool::{Chain, Links, Pool, Steps};
 use hx_text::{NoMemory, Octets};
-use std::alloc::Global;
 use std::sync::ledger::{Blank, Ledger};
 
 fn is_named<L: Ledger>(
@@ -86,7 +86,7 @@ fn put_value<L: Ledger>(
 
 // Puts a variable of a new name last.
 fn add<L: Ledger>(
-    alloc: Global,
+    rooms: &mut Rooms,
     slots: &mut Pool<StoredVariable>,
     chain: &mut Chain,
     owner: Owner,
@@ -101,7 +101,7 @@ fn add<L: Ledger>(
         (Some (record { owner = owner; name = name.now; value = value }))) }
     ensures err { OnErr result ((slots.new ≡ slots.old) × (chain.new ≡ chain.old)) }
 {
-    let name = Octets::copy(alloc, name.as_slice())?;
+    let name = rooms.copy(name.as_slice())?;
     slots.reserve(1)?;
     put_last(
         slots,
@@ -138,7 +138,7 @@ fn put_last<L: Ledger>(
 /// Gives the owner's variable with this name a value, in place of the value that it had, or as a
 /// new variable. The name is copied only for a new one.
 pub(crate) fn set_in<L: Ledger>(
-    alloc: Global,
+    rooms: &mut Rooms,
     slots: &mut Pool<StoredVariable>,
     chain: &mut Chain,
     owner: Owner,
@@ -161,12 +161,13 @@ pub(crate) fn set_in<L: Ledger>(
             put_value(slots, id, value, &mut steps);
             Ok(())
         }
-        None => add(alloc, slots, chain, owner, name, value, &mut steps),
+        None => add(rooms, slots, chain, owner, name, value, &mut steps),
     }
 }
 
-// Takes a variable out of its chain, and gives its slot back.
+// Takes a variable out of its chain, and gives its slot back. The memory of its texts is kept.
 fn drop_at<L: Ledger>(
+    rooms: &mut Rooms,
     slots: &mut Pool<StoredVariable>,
     chain: &mut Chain,
     id: usize,
@@ -178,11 +179,14 @@ fn drop_at<L: Ledger>(
     ensures live { live_count slots.new + 1 ≡ live_count slots.old }
 {
     chain.unlink(slots, id, steps);
-    let _variable = slots.give(id);
+    let variable = slots.give(id);
+    rooms.keep(variable.name.into_vec());
+    rooms.keep_value(variable.value);
 }
 
 /// Takes the owner's variable with this name out, if there is one.
 pub(crate) fn unset_in<L: Ledger>(
+    rooms: &mut Rooms,
     slots: &mut Pool<StoredVariable>,
     chain: &mut Chain,
     name: &Octets,
@@ -200,11 +204,16 @@ pub(crate) fn unset_in<L: Ledger>(
     let Some(id) = find(slots, chain, name, &mut steps) else {
         return;
     };
-    drop_at(slots, chain, id, &mut steps);
+    drop_at(rooms, slots, chain, id, &mut steps);
 }
 
 /// Takes all variables of the owner out.
-pub(crate) fn clear<L: Ledger>(slots: &mut Pool<StoredVariable>, chain: &mut Chain, blank: Blank)
+pub(crate) fn clear<L: Ledger>(
+    rooms: &mut Rooms,
+    slots: &mut Pool<StoredVariable>,
+    chain: &mut Chain,
+    blank: Blank,
+)
     requires name { blank.name ≡ L.name }
     requires parts { blank.parts ≡ L.parts }
     requires some { 0 < L.parts }
@@ -218,6 +227,6 @@ pub(crate) fn clear<L: Ledger>(slots: &mut Pool<StoredVariable>, chain: &mut Cha
 {
     let mut steps: Steps<L> = Steps::open(blank);
     while let Some(id) = chain.front() {
-        drop_at(slots, chain, id, &mut steps);
+        drop_at(rooms, slots, chain, id, &mut steps);
     }
 }

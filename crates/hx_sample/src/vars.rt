@@ -1,7 +1,8 @@
-ghost use Rattle.std.specs.Prelude.{◌≡◌, OnOk, OnErr};
+ghost use Rattle.std.specs.Prelude.{◌≡◌, [], OnOk, OnErr};
 ghost use Rattle.std.specs.Option.{option_copied};
 ghost use Rattle.hx_sample.specs.Vars.{no_vars, var_of, with_var, without_var, after_request, after_session};
 
+use crate::rooms::Rooms;
 use crate::sample::Value;
 use crate::sessions::{clear_session, set_in_session, unset_in_session, value_in_session};
 use crate::slots::{clear, set_in, unset_in, value_in};
@@ -19,18 +20,19 @@ use std::sync::ledger::Blank;
 /// and the name.
 ///
 /// They stand in slots of memory that are used again, and a chain leads through those of each scope
-/// and of each session. To get, set or unset one costs by the number of variables in its chain,
+/// and of each session. The memory of some texts is kept too, for those of the next variables, and
+/// for callers. To get, set or unset one costs by the number of variables in its chain,
 /// which a configuration bounds, and for a session's also by the logarithm of the number of
 /// connections with a variable.
 #[derive(Drop)]
 pub struct Vars {
-    alloc: Global,
     slots: Pool<StoredVariable>,
     process: Chain,
     sessions: BTreeMap<u32, Chain>,
     transaction: Chain,
     request: Chain,
     response: Chain,
+    rooms: Rooms,
 }
 
 impl Model for Vars {
@@ -54,13 +56,13 @@ impl Vars {
         ensures { result ≡ no_vars }
     {
         Vars {
-            alloc,
             slots: Pool::new(alloc),
             process: Chain::new(),
             sessions: BTreeMap::new(alloc),
             transaction: Chain::new(),
             request: Chain::new(),
             response: Chain::new(),
+            rooms: Rooms::new(alloc),
         }
     }
 
@@ -89,7 +91,7 @@ impl Vars {
         let key = &name.name;
         match name.scope {
             Scope::Proc => set_in::<Brand>(
-                self.alloc,
+                &mut self.rooms,
                 &mut self.slots,
                 &mut self.process,
                 Owner::Process,
@@ -98,7 +100,7 @@ impl Vars {
                 Blank::new(1),
             ),
             Scope::Sess => set_in_session(
-                self.alloc,
+                &mut self.rooms,
                 &mut self.slots,
                 &mut self.sessions,
                 conn,
@@ -106,7 +108,7 @@ impl Vars {
                 value,
             ),
             Scope::Txn => set_in::<Brand>(
-                self.alloc,
+                &mut self.rooms,
                 &mut self.slots,
                 &mut self.transaction,
                 Owner::Transaction,
@@ -115,7 +117,7 @@ impl Vars {
                 Blank::new(1),
             ),
             Scope::Req => set_in::<Brand>(
-                self.alloc,
+                &mut self.rooms,
                 &mut self.slots,
                 &mut self.request,
                 Owner::Request,
@@ -124,7 +126,7 @@ impl Vars {
                 Blank::new(1),
             ),
             Scope::Res => set_in::<Brand>(
-                self.alloc,
+                &mut self.rooms,
                 &mut self.slots,
                 &mut self.response,
                 Owner::Response,
@@ -143,15 +145,45 @@ impl Vars {
         let key = &name.name;
         match name.scope {
             Scope::Proc => {
-                unset_in::<Brand>(&mut self.slots, &mut self.process, key, Blank::new(1))
+                unset_in::<Brand>(
+                    &mut self.rooms,
+                    &mut self.slots,
+                    &mut self.process,
+                    key,
+                    Blank::new(1),
+                )
             }
-            Scope::Sess => unset_in_session(&mut self.slots, &mut self.sessions, conn, key),
+            Scope::Sess => unset_in_session(
+                &mut self.rooms,
+                &mut self.slots,
+                &mut self.sessions,
+                conn,
+                key,
+            ),
             Scope::Txn => {
-                unset_in::<Brand>(&mut self.slots, &mut self.transaction, key, Blank::new(1))
+                unset_in::<Brand>(
+                    &mut self.rooms,
+                    &mut self.slots,
+                    &mut self.transaction,
+                    key,
+                    Blank::new(1),
+                )
             }
-            Scope::Req => unset_in::<Brand>(&mut self.slots, &mut self.request, key, Blank::new(1)),
+            Scope::Req => unset_in::<Brand>(
+                &mut self.rooms,
+                &mut self.slots,
+                &mut self.request,
+                key,
+                Blank::new(1),
+            ),
             Scope::Res => {
-                unset_in::<Brand>(&mut self.slots, &mut self.response, key, Blank::new(1))
+                unset_in::<Brand>(
+                    &mut self.rooms,
+                    &mut self.slots,
+                    &mut self.response,
+                    key,
+                    Blank::new(1),
+                )
             }
         }
     }
@@ -161,9 +193,24 @@ impl Vars {
     pub fn end_request(&mut self)
         ensures { self.new ≡ after_request self.old }
     {
-        clear::<Brand>(&mut self.slots, &mut self.transaction, Blank::new(1));
-        clear::<Brand>(&mut self.slots, &mut self.request, Blank::new(1));
-        clear::<Brand>(&mut self.slots, &mut self.response, Blank::new(1));
+        clear::<Brand>(
+            &mut self.rooms,
+            &mut self.slots,
+            &mut self.transaction,
+            Blank::new(1),
+        );
+        clear::<Brand>(
+            &mut self.rooms,
+            &mut self.slots,
+            &mut self.request,
+            Blank::new(1),
+        );
+        clear::<Brand>(
+            &mut self.rooms,
+            &mut self.slots,
+            &mut self.response,
+            Blank::new(1),
+        );
     }
 
     /// Unsets every variable of the session of the connection `conn`. All others stay. It takes no
@@ -171,6 +218,20 @@ impl Vars {
     pub fn end_session(&mut self, conn: u32)
         ensures { self.new ≡ after_session self.old conn }
     {
-        clear_session(&mut self.slots, &mut self.sessions, conn);
+        clear_session(&mut self.rooms, &mut self.slots, &mut self.sessions, conn);
+    }
+    /// An empty text in memory that an earlier one had, if some was kept. The variables stay.
+    pub fn room(&mut self) -> Vec<u8>
+        ensures room { result.items ≡ [] }
+        ensures other { self.new ≡ self.old }
+    {
+        self.rooms.take()
+    }
+
+    /// Keeps the memory of a text that is needed no more, for `room`. The variables stay.
+    pub fn keep_room(&mut self, room: Vec<u8>)
+        ensures { self.new ≡ self.old }
+    {
+        self.rooms.keep(room);
     }
 }

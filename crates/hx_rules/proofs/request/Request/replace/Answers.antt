@@ -1,3 +1,6 @@
+use Rattle.std.proofs.Common.{◌≡◌, None, sym, subst}
+use Rattle.std.specs.Prelude.{IfErr, OnOk}
+use Rattle.hx_http.specs.Edits.{MayFail}
 use Rattle.hx_sample.specs.Seen.{bytes_of}
 use Rattle.hx_rules.specs.ActionView.{replacing_action}
 use Rattle.hx_rules.specs.Formats.{text_in}
@@ -16,11 +19,15 @@ returns-clause-ok g c =
     let sub = c.as_slice.result.now in
     let given = c.as_slice-2.result.now in
     let replacement = replacement_by c.new-replacer.result in
-    made_as c.replace_values.result state c.replace_values.new.message (replacing_edit given replacement state.message)
-    (edit_of text (replacing_action c.args.each c.args.name.now c.args.pattern.now c.args.format.now) state.message)
-    (replacement_is text c.args.each state.message c.args.name.now c.args.pattern.now given sub (bytes_of c.in_ok-text.text) c.args.format.now replacement
-    c.as_slice-2.ensures c.as_slice.ensures c.in_ok-text.ensures c.new-replacer.ensures)
-    c.replace_values.ensures.ok
+    let made = edit_of text (replacing_action c.args.each c.args.name.now c.args.pattern.now c.args.format.now) state.message in
+    let is = replacement_is text c.args.each state.message c.args.name.now c.args.pattern.now given sub (bytes_of c.in_ok-text.text) c.args.format.now replacement
+    c.as_slice-2.ensures c.as_slice.ensures c.in_ok-text.ensures.text c.new-replacer.ensures in
+    rw c.keep_text.ensures (subst
+    (λ self. OnOk c.replace_values-edited.result (c.replace_values-edited.new.message ≡ (replacing_edit given replacement self.message.now).head)
+    → OnOk c.replace_values-edited.result (record (state_of g.T.Tables.state self) { message = c.replace_values-edited.new.message } ≡ record state { message = made.head }))
+    (sym c.lent_text.ensures.kept)
+    (made_as c.replace_values-edited.result state c.replace_values-edited.new.message (replacing_edit given replacement state.message) made is)
+    c.replace_values-edited.ensures.ok)
 
 pub returns-clause-none : goal.returns-clause-none
 returns-clause-none g c =
@@ -30,11 +37,14 @@ returns-clause-none g c =
     let sub = c.as_slice.result.now in
     let given = c.as_slice-2.result.now in
     let replacement = replacement_by c.new-replacer.result in
-    passes_as c.replace_values.result (replacing_edit given replacement state.message)
-    (edit_of text (replacing_action c.args.each c.args.name.now c.args.pattern.now c.args.format.now) state.message)
-    (replacement_is text c.args.each state.message c.args.name.now c.args.pattern.now given sub (bytes_of c.in_ok-text.text) c.args.format.now replacement
-    c.as_slice-2.ensures c.as_slice.ensures c.in_ok-text.ensures c.new-replacer.ensures)
-    c.replace_values.ensures.none
+    let made = edit_of text (replacing_action c.args.each c.args.name.now c.args.pattern.now c.args.format.now) state.message in
+    let is = replacement_is text c.args.each state.message c.args.name.now c.args.pattern.now given sub (bytes_of c.in_ok-text.text) c.args.format.now replacement
+    c.as_slice-2.ensures c.as_slice.ensures c.in_ok-text.ensures.text c.new-replacer.ensures in
+    subst
+    (λ self. OnOk c.replace_values-edited.result ((replacing_edit given replacement self.message.now).fault ≡ None) → OnOk c.replace_values-edited.result (made.fault ≡ None))
+    (sym c.lent_text.ensures.kept)
+    (passes_as c.replace_values-edited.result (replacing_edit given replacement state.message) made is)
+    c.replace_values-edited.ensures.none
 
 pub returns-clause-refused : goal.returns-clause-refused
 returns-clause-refused g c =
@@ -44,8 +54,11 @@ returns-clause-refused g c =
     let sub = c.as_slice.result.now in
     let given = c.as_slice-2.result.now in
     let replacement = replacement_by c.new-replacer.result in
-    fails_as c.replace_values.result (replacing_edit given replacement state.message)
-    (edit_of text (replacing_action c.args.each c.args.name.now c.args.pattern.now c.args.format.now) state.message)
-    (replacement_is text c.args.each state.message c.args.name.now c.args.pattern.now given sub (bytes_of c.in_ok-text.text) c.args.format.now replacement
-    c.as_slice-2.ensures c.as_slice.ensures c.in_ok-text.ensures c.new-replacer.ensures)
-    c.replace_values.ensures.refused
+    let made = edit_of text (replacing_action c.args.each c.args.name.now c.args.pattern.now c.args.format.now) state.message in
+    let is = replacement_is text c.args.each state.message c.args.name.now c.args.pattern.now given sub (bytes_of c.in_ok-text.text) c.args.format.now replacement
+    c.as_slice-2.ensures c.as_slice.ensures c.in_ok-text.ensures.text c.new-replacer.ensures in
+    subst
+    (λ self. IfErr c.replace_values-edited.result (MayFail (replacing_edit given replacement self.message.now).fault) → IfErr c.replace_values-edited.result (MayFail made.fault))
+    (sym c.lent_text.ensures.kept)
+    (fails_as c.replace_values-edited.result (replacing_edit given replacement state.message) made is)
+    c.replace_values-edited.ensures.refused

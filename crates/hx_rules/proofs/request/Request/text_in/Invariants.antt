@@ -2,7 +2,7 @@ use Rattle.std.proofs.Common.{◌≡◌, ◌++◌, drop}
 use Rattle.hx_rules.specs.Formats.{text_in}
 use Rattle.hx_rules.specs.RequestView.{state_of}
 use Rattle.hx_rules.specs.State.{table_view}
-use Rattle.hx_rules.proofs.request.Request.text.Given as goal
+use Rattle.hx_rules.proofs.request.Request.text_in.Given as goal
 
 -- the text so far and that of the parts that are left are the whole
 abbrev pub invariant-loop-part : goal.invariant-loop-part
