@@ -8,10 +8,10 @@ HEAD = (b'GET /a/b?c=1 HTTP/1.1\r\nHost: books.example\r\nUser-Agent: Mozilla/5.
 
 
 def built(name):
-    """The path of a program, which is built first where its sources are newer."""
-    made = subprocess.run([os.path.join(TOP, name), '--help'], stdout=subprocess.DEVNULL, check=False)
+    """The path of a program, which is proved first where the proved one isn't of these sources."""
+    made = subprocess.run([os.path.join(TOP, 'tools', 'prove'), name], stdout=subprocess.DEVNULL, check=False)
     if made.returncode != 0:
-        sys.exit(f'{name} can\'t be built')
+        sys.exit(f'{name} can\'t be proved')
     return os.path.join(TOP, 'crates', name, 'out', name)
 
 

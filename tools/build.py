@@ -8,10 +8,13 @@ With names of crates, these and what they stand on are proved in place of hxeval
 in one checkout wait for one another, so each crate is proved in a room of its own: a folder with
 its files, and with what was built of the crates below it. What it kept is then moved back, so that
 rt finds it here later. A crate whose files are as they were is passed over. Standard error says
-what is at work; what rt printed of a crate that isn't proved follows.
+what is at work; what rt printed of a crate that isn't proved follows. Of each program that was
+proved, the sum of its sources is kept beside the rooms, so that it is known to stand for them.
 """
 import contextlib
 import fcntl
+import glob
+import hashlib
 import heapq
 import os
 import shutil
@@ -49,14 +52,58 @@ def below(crates, name, found=None):
     return found
 
 
+def sum_of(crates, name, parts, *texts):
+    """The sum of these parts of a crate and of those below it, their rows, and these texts."""
+    wanted, whole = [*below(crates, name), name], hashlib.sha256(repr((name, texts)).encode())
+    with open(f"{TOP}/crates.txt", encoding="utf-8") as lines:
+        rows = [line for line in lines if line.partition(":")[0].strip() in wanted]
+    whole.update(repr(sorted(rows)).encode())
+    for folder in (f"{TOP}/crates/{crate}/{part}" for crate in sorted(wanted) for part in parts):
+        for path in sorted(glob.glob(f"{folder}/**", recursive=True)):
+            if os.path.isfile(path):
+                with open(path, "rb") as file:
+                    text = file.read()
+                whole.update(f"{os.path.relpath(path, TOP)} {len(text)}\n".encode() + text)
+    return whole.hexdigest()
+
+
+def standing(crates, name):
+    """What is kept of a proved program: the sum of what was proved, and that of the program."""
+    with open(f"{TOP}/crates/{name}/out/{name}", "rb") as program:
+        own = hashlib.sha256(program.read()).hexdigest()
+    # a proof is no part of what was proved
+    return f"{sum_of(crates, name, ('src', 'specs'))} {own}\n"
+
+
+def proved(name):
+    """The path of the proved program of these sources, or None."""
+    try:
+        with open(f"{KEPT}/proved/{name}", encoding="utf-8") as record:
+            if record.read() == standing(listed(), name):
+                return f"{TOP}/crates/{name}/out/{name}"
+    except OSError:
+        pass
+    return None
+
+
+def record(crates, name, before):
+    """Keeps that a program was proved, unless its sources have changed since its sum was `before`."""
+    now = standing(crates, name)
+    if now.split()[0] == before:
+        os.makedirs(f"{KEPT}/proved", exist_ok=True)
+        with open(f"{KEPT}/proved/{name}", "w", encoding="utf-8") as out:
+            out.write(now)
+    else:
+        say(f"the sources of {name} changed while it was proved")
+
+
 def size(name):
-    """How long a crate takes, roughly: the lines of its files."""
+    """How long a crate takes, roughly: the lines of its code. Definitions and lemmas cost little."""
     total = 0
-    for part in ("src", "specs", "proofs"):
-        for folder, _, files in os.walk(f"{TOP}/crates/{name}/{part}"):
-            for file in files:
-                with open(f"{folder}/{file}", "rb") as it:
-                    total += it.read().count(b"\n")
+    for folder, _, files in os.walk(f"{TOP}/crates/{name}/src"):
+        for file in files:
+            with open(f"{folder}/{file}", "rb") as it:
+                total += it.read().count(b"\n")
     return total
 
 
@@ -123,6 +170,15 @@ def prove(crates, name, rooms, jobs):
     return ran.returncode, ran.stdout
 
 
+def left(seconds, lines, done):
+    """How much time is left, in words, where these crates of those with lines took so many seconds."""
+    whole, made = sum(lines.values()), sum(lines[name] for name in done)
+    if seconds < 60 or 10 * made < whole:
+        return ""
+    minutes = seconds * (whole - made) / made / 60
+    return f", about {minutes:.0f} minutes left" if minutes >= 1.5 else ", a minute or two left"
+
+
 def say(text):
     print(f"hxeval: {text}", file=sys.stderr, flush=True)
 
@@ -146,6 +202,9 @@ def build(names):
         wanted += [it for it in (*below(crates, name), name) if it not in wanted]
     behind = weights(crates, wanted)
     lanes = len(os.sched_getaffinity(0))
+    lines = {name: size(name) for name in wanted}
+    programs = [it for it in names if os.path.isfile(f"{TOP}/crates/{it}/src/main.rt")]
+    before = {name: sum_of(crates, name, ("src", "specs")) for name in programs}
     begin, waiting, running, done, failed = time.monotonic(), set(wanted), {}, [], []
 
     def work(name, jobs, rooms):
@@ -161,22 +220,25 @@ def build(names):
                 sys.stderr.write(said)
                 say(f"{name} is not proved ({seconds} s so far)")
             else:
-                say(f"{name} is proved: {len(done)} of {len(wanted)} crates, {seconds} s so far")
+                rest = left(seconds, lines, done)
+                say(f"{name} is proved: {len(done)} of {len(wanted)} crates, {seconds} s so far{rest}")
             LOCK.notify_all()
 
     with alone(), tempfile.TemporaryDirectory(prefix="rooms-", dir=KEPT) as rooms, LOCK:
         while running or (waiting and not failed):
             ready = [(-behind[it], it) for it in waiting if all(dep in done for dep in crates[it])]
             heapq.heapify(ready)
-            while ready and len(running) < lanes and not failed:
+            while ready and sum(running.values()) < lanes and not failed:
                 # A proof that several processors share takes three times as much of them, so only
                 # those that no other crate waits for share one.
-                jobs = max(1, (lanes - len(running)) // len(ready))
+                jobs = max(1, (lanes - sum(running.values())) // len(ready))
                 _, name = heapq.heappop(ready)
                 waiting.remove(name)
                 running[name] = jobs
                 threading.Thread(target=work, args=(name, jobs, rooms)).start()
             LOCK.wait()
+    for name in before if not failed else ():
+        record(crates, name, before[name])
     return 1 if failed else 0
 
 

@@ -26,11 +26,21 @@ use std::sync::ledger::Ledger;
 
 /// A declaration of an ACL: the name, what is tested, and the position of the declaration of the
 /// same name before it, if there is one.
-#[derive(Drop)]
 struct Declared {
     name: Octets,
     test: Test,
     earlier: Option<usize>,
+}
+
+// Written out, so that letting one go is one call in the proofs of callers.
+impl Drop for Declared {
+    fn drop(self) {
+        let Declared {
+            name: _name,
+            test: _test,
+            earlier: _earlier,
+        } = self;
+    }
 }
 
 /// The ACLs that are declared (HAProxy configuration manual 2.4, section 7.1). Contracts see them
@@ -39,11 +49,21 @@ struct Declared {
 /// The last declaration of each name is kept in an ordered map, and each declaration knows the one
 /// of its name before it. So what a name costs at a request grows with its own declarations, and
 /// with the logarithm of the number of names.
-#[derive(Drop)]
 pub struct AclSet {
     alloc: Global,
     tests: Vec<Declared>,
     positions: BTreeMap<Octets, usize>,
+}
+
+// Written out, so that letting one go is one call in the proofs of callers.
+impl Drop for AclSet {
+    fn drop(self) {
+        let AclSet {
+            alloc: _alloc,
+            tests: _tests,
+            positions: _positions,
+        } = self;
+    }
 }
 
 impl Model for AclSet {

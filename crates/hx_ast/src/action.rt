@@ -3,12 +3,21 @@ use crate::items::Items;
 use hx_text::{Octets, VarName};
 
 /// A part of a format.
-#[derive(Drop)]
 pub enum Part {
     /// bytes that stand for themselves
     Text(Octets),
     /// `%[EXPR]`: the value of an expression as a string, and nothing where it has none
     Value(Expr),
+}
+
+// Written out, so that letting one go is one call in the proofs of callers.
+impl Drop for Part {
+    fn drop(self) {
+        match self {
+            Part::Text(_it) => (),
+            Part::Value(_it) => (),
+        }
+    }
 }
 
 /// A text in which values of a request are filled in: its parts, in their order (HAProxy
@@ -30,7 +39,6 @@ pub enum RedirectKind {
 /// What a rule of `http-request` does (HAProxy configuration manual 2.4, section 4.2): a variant
 /// for each action, whose fields are its arguments in their order. An argument that may be missing
 /// is an option, and a word that may be there is a boolean.
-#[derive(Drop)]
 pub enum Action {
     /// `allow`: the rules of `http-request` end
     Allow,
@@ -73,4 +81,31 @@ pub enum Action {
     Redirect(RedirectKind, Format, Option<u16>, bool),
     /// `strict-mode on|off`: whether a rewrite that fails ends the request with an error
     StrictMode(bool),
+}
+
+// Written out, so that letting one go is one call in the proofs of callers.
+impl Drop for Action {
+    fn drop(self) {
+        match self {
+            Action::Allow => (),
+            Action::Deny(_it) => (),
+            Action::SetHeader(_first, _second) => (),
+            Action::AddHeader(_first, _second) => (),
+            Action::DelHeader(_it) => (),
+            Action::ReplaceHeader(_first, _second, _third) => (),
+            Action::ReplaceValue(_first, _second, _third) => (),
+            Action::SetMethod(_it) => (),
+            Action::SetUri(_it) => (),
+            Action::SetPath(_it) => (),
+            Action::SetQuery(_it) => (),
+            Action::SetVar(_first, _second) => (),
+            Action::UnsetVar(_it) => (),
+            Action::AddAcl(_first, _second) => (),
+            Action::DelAcl(_first, _second) => (),
+            Action::DelMap(_first, _second) => (),
+            Action::SetMap(_first, _second, _third) => (),
+            Action::Redirect(_first, _second, _third, _fourth) => (),
+            Action::StrictMode(_it) => (),
+        }
+    }
 }

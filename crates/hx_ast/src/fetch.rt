@@ -7,7 +7,6 @@ use hx_text::{Ip, Octets, VarName};
 ///
 /// The number after the name of a header is that of an occurrence: of the header's values, or
 /// lines, from the first, 1, where it is positive, and from the last, -1, where it is negative.
-#[derive(Drop)]
 pub enum Fetch {
     /// `always_true`
     AlwaysTrue,
@@ -64,4 +63,39 @@ pub enum Fetch {
     /// `url_param([NAME[,DELIM]])`, `urlp`: the parameters NAME of the target, or all parameters;
     /// DELIM begins and separates parameters too
     UrlParam(Option<Octets>, Option<u8>),
+}
+
+// Written out, so that letting one go is one call in the proofs of callers.
+impl Drop for Fetch {
+    fn drop(self) {
+        match self {
+            Fetch::AlwaysTrue => (),
+            Fetch::AlwaysFalse => (),
+            Fetch::Bool(_it) => (),
+            Fetch::Int(_it) => (),
+            Fetch::Str(_it) => (),
+            Fetch::Bin(_it) => (),
+            Fetch::Ipv4(_it) => (),
+            Fetch::Ipv6(_it) => (),
+            Fetch::Var(_first, _second) => (),
+            Fetch::Src => (),
+            Fetch::Dst => (),
+            Fetch::SrcPort => (),
+            Fetch::DstPort => (),
+            Fetch::Method => (),
+            Fetch::ReqVer => (),
+            Fetch::Path => (),
+            Fetch::Query => (),
+            Fetch::Url => (),
+            Fetch::Base => (),
+            Fetch::ReqHdr(_first, _second) => (),
+            Fetch::ReqFhdr(_first, _second) => (),
+            Fetch::ReqHdrIp(_first, _second) => (),
+            Fetch::ReqHdrVal(_first, _second) => (),
+            Fetch::ReqHdrCnt(_it) => (),
+            Fetch::ReqCook(_it) => (),
+            Fetch::ReqCookCnt(_it) => (),
+            Fetch::UrlParam(_first, _second) => (),
+        }
+    }
 }

@@ -18,7 +18,6 @@ pub type Cond = Items<Conj>;
 /// An ACL: samples, and the patterns that they are compared with (HAProxy configuration manual 2.4,
 /// section 7.1). It has the inline patterns twice: as they are written, and under the last of its
 /// heads.
-#[derive(Drop)]
 pub struct Decl {
     /// gives the samples
     pub expr: Expr,
@@ -32,8 +31,20 @@ pub struct Decl {
     pub words: Texts,
 }
 
+// Written out, so that letting one go is one call in the proofs of callers.
+impl Drop for Decl {
+    fn drop(self) {
+        let Decl {
+            expr: _expr,
+            by: _by,
+            ci: _ci,
+            heads: _heads,
+            words: _words,
+        } = self;
+    }
+}
+
 /// The ACL of a term.
-#[derive(Drop)]
 pub enum AclUse {
     /// the ACL of this name: one that is declared, or else one that is predefined
     Named(Octets),
@@ -41,8 +52,17 @@ pub enum AclUse {
     Own(Decl),
 }
 
+// Written out, so that letting one go is one call in the proofs of callers.
+impl Drop for AclUse {
+    fn drop(self) {
+        match self {
+            AclUse::Named(_it) => (),
+            AclUse::Own(_it) => (),
+        }
+    }
+}
+
 /// A term of a condition (HAProxy configuration manual 2.4, section 7.2).
-#[derive(Drop)]
 pub struct Term {
     /// whether the term holds where the ACL doesn't
     pub negated: bool,
@@ -50,8 +70,17 @@ pub struct Term {
     pub acl: AclUse,
 }
 
+// Written out, so that letting one go is one call in the proofs of callers.
+impl Drop for Term {
+    fn drop(self) {
+        let Term {
+            negated: _negated,
+            acl: _acl,
+        } = self;
+    }
+}
+
 /// A rule: an action, and when it is taken.
-#[derive(Drop)]
 pub struct Rule {
     /// the number of its line in the configuration, counted from 1
     pub line: u64,
@@ -63,8 +92,19 @@ pub struct Rule {
     pub cond: Option<Cond>,
 }
 
+// Written out, so that letting one go is one call in the proofs of callers.
+impl Drop for Rule {
+    fn drop(self) {
+        let Rule {
+            line: _line,
+            action: _action,
+            unless: _unless,
+            cond: _cond,
+        } = self;
+    }
+}
+
 /// What a line of a configuration says.
-#[derive(Drop)]
 pub enum Statement {
     /// nothing that changes a rule, as a line without words
     Plain,
@@ -99,4 +139,30 @@ pub enum Statement {
         /// NAME
         name: Octets,
     },
+}
+
+// Written out, so that letting one go is one call in the proofs of callers.
+impl Drop for Statement {
+    fn drop(self) {
+        match self {
+            Statement::Plain => (),
+            Statement::Acl {
+                line: _line,
+                name: _name,
+                decl: _decl,
+            } => (),
+            Statement::Rule(_it) => (),
+            Statement::Redirect(_it) => (),
+            Statement::Backend {
+                line: _line,
+                format: _format,
+                unless: _unless,
+                cond: _cond,
+            } => (),
+            Statement::Fallback {
+                line: _line,
+                name: _name,
+            } => (),
+        }
+    }
 }

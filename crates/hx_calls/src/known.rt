@@ -51,7 +51,6 @@ pub struct Lengths {
 }
 
 /// What the lines so far bring. Contracts see it as `Known`.
-#[derive(Drop)]
 pub struct Knowledge {
     alloc: Global,
     references: Vec<TableSpec>,
@@ -62,6 +61,23 @@ pub struct Knowledge {
     names: Vec<Octets>,
     begun: bool,
     fallback: bool,
+}
+
+// Written out, so that letting one go is one call in the proofs of callers.
+impl Drop for Knowledge {
+    fn drop(self) {
+        let Knowledge {
+            alloc: _alloc,
+            references: _references,
+            heads: _heads,
+            outputs: _outputs,
+            acls: _acls,
+            named: _named,
+            names: _names,
+            begun: _begun,
+            fallback: _fallback,
+        } = self;
+    }
 }
 
 impl Model for Knowledge {
@@ -438,12 +454,15 @@ impl Knowledge {
         ensures { result ≡ reference_specs self }
     {
         let Knowledge {
+            alloc: _alloc,
             references,
             heads,
             outputs,
             acls,
             named,
-            ..
+            names: _names,
+            begun: _begun,
+            fallback: _fallback,
         } = self;
         TableSpecs::new(references, heads, &acls, &named, &outputs)
     }

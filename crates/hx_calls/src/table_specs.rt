@@ -9,7 +9,6 @@ use std::marker::Model;
 
 /// A reference: a file, whose entries are patterns or pairs, or the inline patterns of an ACL
 /// (HAProxy management guide 2.4, section 9.3, `show acl` and `show map`).
-#[derive(Drop)]
 pub struct TableSpec {
     /// the name of the file; none for inline patterns
     pub file: Option<Octets>,
@@ -31,6 +30,24 @@ pub struct TableSpec {
     pub out_ip: bool,
     /// the inline patterns; none for a file
     pub inline: Texts,
+}
+
+// Written out, so that letting one go is one call in the proofs of callers.
+impl Drop for TableSpec {
+    fn drop(self) {
+        let TableSpec {
+            file: _file,
+            given: _given,
+            two_column: _two_column,
+            acl: _acl,
+            named: _named,
+            line: _line,
+            out_str: _out_str,
+            out_int: _out_int,
+            out_ip: _out_ip,
+            inline: _inline,
+        } = self;
+    }
 }
 
 /// How a reference is searched: the position of the reference, the match method, and whether the
@@ -56,10 +73,19 @@ pub struct MapOutput {
 
 /// The references and the heads of a configuration, in the order of their first appearance.
 /// Contracts see them as two lists.
-#[derive(Drop)]
 pub struct TableSpecs {
     specs: Vec<TableSpec>,
     heads: Vec<HeadSpec>,
+}
+
+// Written out, so that letting one go is one call in the proofs of callers.
+impl Drop for TableSpecs {
+    fn drop(self) {
+        let TableSpecs {
+            specs: _specs,
+            heads: _heads,
+        } = self;
+    }
 }
 
 impl Model for TableSpecs {

@@ -192,7 +192,7 @@ fn limits_without(text: &[u8]) -> Result<Limits, CaseFault> {
 
 /// Limits, and the number of the version with which a reference begins, which may follow after `@`
 /// and else is 0.
-pub fn limits(text: &[u8]) -> Result<(Limits, u32), CaseFault> {
+fn limits(text: &[u8]) -> Result<(Limits, u32), CaseFault> {
     match cut_at(b'@', text) {
         Some((most, first)) => Ok((limits_without(most)?, id(first)?)),
         None => Ok((limits_without(text)?, 0)),

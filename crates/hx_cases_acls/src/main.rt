@@ -3,30 +3,21 @@
 //! the lines of files, and of the versions and entries of references.
 #![tactic(auto)]
 
-mod calls;
 mod conditions;
 mod descriptions;
 mod entries;
-mod list_changes;
-mod list_searches;
-mod lists;
-mod on_lists;
-mod on_refs;
-mod random;
-mod random_calls;
-mod random_texts;
 mod references;
 mod searches;
-mod slot_counts;
 mod statements;
 mod steps;
+mod sums;
 mod uses;
 
 use crate::conditions::{grounds_case, holds_case};
 use crate::entries::entries_case;
-use crate::random_calls::calls_case;
 use crate::statements::statements_case;
 use crate::steps::references_case;
+use crate::sums::sums_case;
 use hx_cases_base::{Calls, CaseFault, State, answers, connection_case, request_case, vars_case};
 use hx_outside::{StdSink, StdSource, read_to_end, write_all};
 use std::alloc::Global;
@@ -56,7 +47,7 @@ impl Calls for AclCalls {
             b"grounds" => grounds_case(alloc, &self.state, out, args),
             b"entries" => entries_case(alloc, out, args),
             b"references" => references_case(alloc, out, args),
-            b"calls" => calls_case(alloc, out, args),
+            b"sums" => sums_case(alloc, out, args),
             _ => Err(CaseFault::UnknownCall),
         }
     }

@@ -16,7 +16,7 @@ use std::marker::Brand;
 use std::sync::ledger::{Blank, Ledger};
 
 /// The sample that a text writes for a method: a number, an address, or the text itself.
-pub fn sample_of<'a>(by: By, text: &'a [u8]) -> Result<Sample<'a>, CaseFault>
+fn sample_of<'a>(by: By, text: &'a [u8]) -> Result<Sample<'a>, CaseFault>
     ensures { IfOk result (λ sample. IsOfKind (kind_by by) (value_of sample)) }
 {
     match by {

@@ -47,7 +47,7 @@ fn entry_number(text: &[u8]) -> Result<u64, CaseFault> {
 }
 
 /// Writes `VERSION.0`, and then each entry with its number as `VERSION.SERIAL`.
-fn show_entries(out: &mut String, ver: u32, entries: Entries<'_>) -> Result<(), CaseFault> {
+pub fn show_entries(out: &mut String, ver: u32, entries: Entries<'_>) -> Result<(), CaseFault> {
     write!(out, "{ver}.0")?;
     for entry in entries {
         out.push(',')?;
@@ -59,7 +59,7 @@ fn show_entries(out: &mut String, ver: u32, entries: Entries<'_>) -> Result<(), 
 }
 
 /// Writes what is told of a reference.
-fn show_info(out: &mut String, refs: &Refs, r: u32) -> Result<(), CaseFault>
+pub fn show_info(out: &mut String, refs: &Refs, r: u32) -> Result<(), CaseFault>
     requires { r < length refs.now.content.references }
 {
     let info = refs.info(r);
@@ -67,7 +67,7 @@ fn show_info(out: &mut String, refs: &Refs, r: u32) -> Result<(), CaseFault>
 }
 
 /// Writes how many slots of memory are in use, and how many of these wait to be given back.
-fn show_slots(out: &mut String, refs: &Refs) -> Result<(), CaseFault> {
+pub fn show_slots(out: &mut String, refs: &Refs) -> Result<(), CaseFault> {
     let Slots { used, retired } = refs.slots();
     Ok(write!(out, "{used}.{retired}|")?)
 }
@@ -89,7 +89,7 @@ fn commit_counted<L: Ledger>(
 }
 
 /// Commits a version, and counts nothing.
-pub fn commit_uncounted(refs: &mut Refs, r: u32, ver: u32) -> Result<(), RefFault>
+fn commit_uncounted(refs: &mut Refs, r: u32, ver: u32) -> Result<(), RefFault>
     requires { r < length refs.old.content.references }
 {
     commit_counted::<Brand>(refs, r, ver, Blank::new(1))
@@ -131,6 +131,12 @@ fn version_step(
         b"show" => show_entries(out, ver, refs.entries(r, Some(ver))),
         _ => Err(CaseFault::BadArguments),
     }
+}
+
+/// Gives back slots.
+fn tidy(out: &mut String, refs: &mut Refs, count: u32) -> Result<(), CaseFault> {
+    refs.tidy(count as usize);
+    show_done(out, Ok(()))
 }
 
 /// Adds `KEY=VALUE` or `KEY`.
@@ -246,6 +252,7 @@ fn text_step(
         b"set" => set(out, refs, r, ver, text),
         b"setid" => set_id(out, refs, r, ver, text),
         b"replace" => show_done(out, replace(refs, r, text)),
+        b"tidy" => tidy(out, refs, id(text)?),
         _ => Err(CaseFault::BadArguments),
     }
 }
@@ -306,6 +313,21 @@ fn find(
     Ok(out.push('|')?)
 }
 
+/// Searches by the `k`-th use of a reference, and writes the number of the entry too.
+fn seek(
+    alloc: Global,
+    out: &mut String,
+    refs: &Refs,
+    r: u32,
+    k: u32,
+    text: &[u8],
+) -> Result<(), CaseFault>
+    requires { r < length refs.now.content.references }
+{
+    let number = find_at(alloc, out, refs, r, k, text)?;
+    Ok(write!(out, "{number:?}|")?)
+}
+
 /// The step of this name and this text, with more behind `@`.
 fn text_step_at(
     alloc: Global,
@@ -322,12 +344,13 @@ fn text_step_at(
         b"resolve" => show_number(out, refs.resolve(text, side(at)?)),
         b"change" => change(out, refs, r, at, text),
         b"find" => find(alloc, out, refs, r, id(at)?, text),
+        b"seek" => seek(alloc, out, refs, r, id(at)?, text),
         _ => text_step(alloc, out, refs, r, name, Some(id(at)?), text),
     }
 }
 
 /// A step on the reference at the position `r`.
-fn step(
+pub fn step(
     alloc: Global,
     out: &mut String,
     refs: &mut Refs,
@@ -363,7 +386,8 @@ fn step(
 /// gives back 64 slots, `info`, `slots`, `resolve@SIDE:WORD` with the sides `acl`, `write` and `map`, and
 /// `change@CHANGE:KEY` with the changes `add`, `del`, `delmap`, and `set`, which has KEY=VALUE;
 /// and `find@K:TEXT`, which answers the entry that is found by the K-th use, from 0, for the text,
-/// or for the number or the address that it writes.
+/// or for the number or the address that it writes. `seek@K:TEXT` tells the number of the entry
+/// too, and `tidy:N` gives back N slots.
 pub fn references_case(alloc: Global, out: &mut String, args: &[Vec<u8>]) -> Result<(), CaseFault> {
     let [most, described, steps @ ..] = args else {
         return Err(CaseFault::BadArguments);

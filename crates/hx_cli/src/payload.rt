@@ -28,12 +28,23 @@ pub(crate) fn ends_payload(text: &[u8]) -> bool
 }
 
 /// A payload that has begun: for which reference and which version, and the entries of its lines.
-#[derive(Drop)]
 pub(crate) struct Payload {
     is_map: bool,
     ver: Option<u32>,
     name: Octets,
     pairs: Pairs,
+}
+
+// Written out, so that letting one go is one call in the proofs of callers.
+impl Drop for Payload {
+    fn drop(self) {
+        let Payload {
+            is_map: _is_map,
+            ver: _ver,
+            name: _name,
+            pairs: _pairs,
+        } = self;
+    }
 }
 
 impl Model for Payload {

@@ -23,10 +23,19 @@ const BAD_COMMAND: u32 = 20;
 
 /// The sessions of the management socket. Contracts see the payloads that have begun, as a finite
 /// map from the numbers of their sessions.
-#[derive(Drop)]
 pub struct Sessions {
     alloc: Global,
     payloads: Payloads,
+}
+
+// Written out, so that letting one go is one call in the proofs of callers.
+impl Drop for Sessions {
+    fn drop(self) {
+        let Sessions {
+            alloc: _alloc,
+            payloads: _payloads,
+        } = self;
+    }
 }
 
 impl Model for Sessions {

@@ -21,9 +21,15 @@ use std::marker::Model;
 /// A converter of texts that was built, from `lower` to `url_dec` of the manual's table (HAProxy
 /// configuration manual 2.4, section 7.3.1): its regular expression, if it has one, was read once.
 /// Contracts see it as the converter that it was built from.
-#[derive(Drop)]
 pub struct TextConv {
     built: Built,
+}
+
+// Written out, so that letting one go is one call in the proofs of callers.
+impl Drop for TextConv {
+    fn drop(self) {
+        let TextConv { built: _built } = self;
+    }
 }
 
 impl Model for TextConv {

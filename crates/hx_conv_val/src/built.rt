@@ -10,9 +10,15 @@ use std::marker::Model;
 
 /// A converter that `build_val` made, for `apply`. Contracts see it as the converter that it was
 /// made of.
-#[derive(Drop)]
 pub struct ValConv {
     pub(crate) form: Form,
+}
+
+// Written out, so that letting one go is one call in the proofs of callers.
+impl Drop for ValConv {
+    fn drop(self) {
+        let ValConv { form: _form } = self;
+    }
 }
 
 impl Model for ValConv {

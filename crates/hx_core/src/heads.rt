@@ -6,10 +6,19 @@ use std::alloc::Global;
 
 /// The head of a request: as it was read, and as the rules made it. Each request is read into the
 /// memory of the one before.
-#[derive(Drop)]
 pub(crate) struct Heads {
     pub(crate) read: Message,
     pub(crate) made: Message,
+}
+
+// Written out, so that letting one go is one call in the proofs of callers.
+impl Drop for Heads {
+    fn drop(self) {
+        let Heads {
+            read: _read,
+            made: _made,
+        } = self;
+    }
 }
 
 impl Heads {

@@ -26,7 +26,6 @@ const TIDY: usize = 64;
 
 /// What is known between two events. Contracts see it as a world, whose references fit its rules,
 /// and the slots of memory in which these are kept.
-#[derive(Drop)]
 pub(crate) struct KeptWorld {
     pub(crate) alloc: Global,
     pub(crate) rules: Program,
@@ -35,6 +34,21 @@ pub(crate) struct KeptWorld {
     pub(crate) vars: Vars,
     pub(crate) refs: Refs,
     pub(crate) sessions: Sessions,
+}
+
+// Written out, so that letting one go is one call in the proofs of callers.
+impl Drop for KeptWorld {
+    fn drop(self) {
+        let KeptWorld {
+            alloc: _alloc,
+            rules: _rules,
+            connections: _connections,
+            requests: _requests,
+            vars: _vars,
+            refs: _refs,
+            sessions: _sessions,
+        } = self;
+    }
 }
 
 impl Model for KeptWorld {

@@ -25,7 +25,6 @@ mod DetachLemmas
 mod RootLemmas
 mod LaterLemmas
 mod RemoveSteps
-mod WalkLemmas
 mod PlaceLemmas
 pub mod DistinctLemmas
 mod SplitLemmas

@@ -2,8 +2,6 @@
 #![tactic(auto)]
 
 mod bits;
-#[cfg(test)]
-mod chain_tests;
 mod exact;
 mod insert;
 mod key;
@@ -16,8 +14,6 @@ mod place;
 mod pop;
 mod remove;
 mod seek;
-#[cfg(test)]
-mod tests;
 mod tree;
 
 pub use key::BitKey;

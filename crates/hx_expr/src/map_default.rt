@@ -9,12 +9,23 @@ use std::alloc::Global;
 
 /// The text that a map gives where it finds nothing, and what that text is as the type of the map's
 /// values, read once.
-#[derive(Drop)]
 pub(crate) enum MapDefault {
     Nothing,
     Str(Octets),
     Int(Octets, Option<i64>),
     Ip(Octets, Option<Ip>),
+}
+
+// Written out, so that letting one go is one call in the proofs of callers.
+impl Drop for MapDefault {
+    fn drop(self) {
+        match self {
+            MapDefault::Nothing => (),
+            MapDefault::Str(_it) => (),
+            MapDefault::Int(_first, _second) => (),
+            MapDefault::Ip(_first, _second) => (),
+        }
+    }
 }
 
 /// The default of a map whose values are of the type `out`.

@@ -25,8 +25,6 @@ mod memory;
 mod pool;
 mod slot;
 mod steps;
-#[cfg(test)]
-mod tests;
 
 pub use chain::Chain;
 pub use links::{Linked, Links};

@@ -24,7 +24,6 @@ use std::marker::Model;
 /// it took and has not passed, and whether a read found the record's end. What is left of the
 /// record is those bytes and then what the source has left, so each call of one reader is lent the
 /// same source.
-#[derive(Drop)]
 pub struct Reader {
     limit: u64,
     at: u64,
@@ -33,6 +32,20 @@ pub struct Reader {
     ended: bool,
     // the memory of an event that was given back
     memory: Vec<u8>,
+}
+
+// Written out, so that letting one go is one call in the proofs of callers.
+impl Drop for Reader {
+    fn drop(self) {
+        let Reader {
+            limit: _limit,
+            at: _at,
+            window: _window,
+            wait: _wait,
+            ended: _ended,
+            memory: _memory,
+        } = self;
+    }
 }
 
 impl Model for Reader {

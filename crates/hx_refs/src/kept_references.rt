@@ -49,10 +49,19 @@ fn answer(position: u32, fault: Option<RefFault>) -> Result<u32, RefFault>
 
 /// The references in their order, and the store, which has a row of versions for each. Contracts
 /// see the list of the references with their versions, and the slots of memory that the store uses.
-#[derive(Drop)]
 pub(crate) struct KeptReferences {
     pub(crate) references: Vec<KeptReference>,
     pub(crate) store: Store,
+}
+
+// Written out, so that letting one go is one call in the proofs of callers.
+impl Drop for KeptReferences {
+    fn drop(self) {
+        let KeptReferences {
+            references: _references,
+            store: _store,
+        } = self;
+    }
 }
 
 impl Model for KeptReferences {

@@ -32,7 +32,6 @@ const FIRST_NUMBER: u64 = 0x1_0000_0000;
 /// numbers of versions that callers know wrap. Those of the store don't: there the version that is
 /// searched has the number `stored_first`, and each that was prepared after it one more. They are
 /// the same until the first wrap.
-#[derive(Drop)]
 pub(crate) struct KeptReference {
     id: u32,
     file: Option<Octets>,
@@ -44,6 +43,24 @@ pub(crate) struct KeptReference {
     curr: u32,
     next: u32,
     stored_first: u32,
+}
+
+// Written out, so that letting one go is one call in the proofs of callers.
+impl Drop for KeptReference {
+    fn drop(self) {
+        let KeptReference {
+            id: _id,
+            file: _file,
+            two_column: _two_column,
+            acl: _acl,
+            as_int: _as_int,
+            as_ip: _as_ip,
+            uses: _uses,
+            curr: _curr,
+            next: _next,
+            stored_first: _stored_first,
+        } = self;
+    }
 }
 
 impl Model for KeptReference {

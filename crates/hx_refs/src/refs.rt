@@ -33,13 +33,25 @@ use std::sync::ledger::Ledger;
 /// The references of a configuration, by their positions. Contracts see their content, which is the
 /// limits, the heads in the order of their numbers, the references in their order, and the number
 /// of the version with which a reference begins; and how many slots of memory they use.
-#[derive(Drop)]
 pub struct Refs {
     alloc: Global,
     limits: Limits,
     first: u32,
     heads: Vec<KeptHead>,
     pub(crate) kept: KeptReferences,
+}
+
+// Written out, so that letting one go is one call in the proofs of callers.
+impl Drop for Refs {
+    fn drop(self) {
+        let Refs {
+            alloc: _alloc,
+            limits: _limits,
+            first: _first,
+            heads: _heads,
+            kept: _kept,
+        } = self;
+    }
 }
 
 impl Model for Refs {

@@ -12,9 +12,15 @@ use std::alloc::Global;
 use std::marker::Model;
 
 /// The regular expression of an action. Contracts see it as its text.
-#[derive(Drop)]
 pub(crate) struct Pattern {
     regex: RegularExpression,
+}
+
+// Written out, so that letting one go is one call in the proofs of callers.
+impl Drop for Pattern {
+    fn drop(self) {
+        let Pattern { regex: _regex } = self;
+    }
 }
 
 impl Model for Pattern {

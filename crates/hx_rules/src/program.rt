@@ -18,12 +18,23 @@ use std::marker::Model;
 
 /// A rule: the number of its line, what it does, and when it is taken. Contracts see it as the rule
 /// that it was built from.
-#[derive(Drop)]
 pub(crate) struct BuiltRule {
     pub(crate) line: u64,
     pub(crate) action: BuiltAction,
     pub(crate) unless: bool,
     pub(crate) cond: Option<Condition>,
+}
+
+// Written out, so that letting one go is one call in the proofs of callers.
+impl Drop for BuiltRule {
+    fn drop(self) {
+        let BuiltRule {
+            line: _line,
+            action: _action,
+            unless: _unless,
+            cond: _cond,
+        } = self;
+    }
 }
 
 impl Model for BuiltRule {
@@ -52,12 +63,23 @@ impl BuiltRule {
 
 /// A rule of `use_backend`: the number of its line, what makes the backend's name, and when it is
 /// taken. Contracts see it as what it was built from.
-#[derive(Drop)]
 pub(crate) struct BuiltBackend {
     pub(crate) line: u64,
     pub(crate) format: BuiltFormat,
     pub(crate) unless: bool,
     pub(crate) cond: Option<Condition>,
+}
+
+// Written out, so that letting one go is one call in the proofs of callers.
+impl Drop for BuiltBackend {
+    fn drop(self) {
+        let BuiltBackend {
+            line: _line,
+            format: _format,
+            unless: _unless,
+            cond: _cond,
+        } = self;
+    }
 }
 
 impl Model for BuiltBackend {
@@ -77,7 +99,6 @@ impl Model for BuiltBackend {
 /// Contracts see them as lists: of the declarations of ACLs, of the rules of `http-request`, of the
 /// redirects and of the rules of `use_backend`, and the backend where no other is taken, with the
 /// number of its line.
-#[derive(Drop)]
 pub struct Program {
     alloc: Global,
     pub(crate) acls: AclSet,
@@ -89,6 +110,22 @@ pub struct Program {
     pub(crate) fallback_line: u64,
     /// Whether one of `rules` rewrites the head of a request.
     rewrites: bool,
+}
+
+// Written out, so that letting one go is one call in the proofs of callers.
+impl Drop for Program {
+    fn drop(self) {
+        let Program {
+            alloc: _alloc,
+            acls: _acls,
+            rules: _rules,
+            redirects: _redirects,
+            backends: _backends,
+            fallback: _fallback,
+            fallback_line: _fallback_line,
+            rewrites: _rewrites,
+        } = self;
+    }
 }
 
 impl Model for Program {

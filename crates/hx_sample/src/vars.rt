@@ -24,7 +24,6 @@ use std::sync::ledger::Blank;
 /// for callers. To get, set or unset one costs by the number of variables in its chain,
 /// which a configuration bounds, and for a session's also by the logarithm of the number of
 /// connections with a variable.
-#[derive(Drop)]
 pub struct Vars {
     slots: Pool<StoredVariable>,
     process: Chain,
@@ -33,6 +32,21 @@ pub struct Vars {
     request: Chain,
     response: Chain,
     rooms: Rooms,
+}
+
+// Written out, so that letting one go is one call in the proofs of callers.
+impl Drop for Vars {
+    fn drop(self) {
+        let Vars {
+            slots: _slots,
+            process: _process,
+            sessions: _sessions,
+            transaction: _transaction,
+            request: _request,
+            response: _response,
+            rooms: _rooms,
+        } = self;
+    }
 }
 
 impl Model for Vars {

@@ -21,9 +21,15 @@ pub enum Reason {
 }
 
 /// The reasons of a request, in the order of the terms. Contracts see them as their list.
-#[derive(Drop)]
 pub struct Reasons {
     reasons: Vec<Reason>,
+}
+
+// Written out, so that letting one go is one call in the proofs of callers.
+impl Drop for Reasons {
+    fn drop(self) {
+        let Reasons { reasons: _reasons } = self;
+    }
 }
 
 impl Model for Reasons {
@@ -36,7 +42,6 @@ impl Model for Reasons {
 }
 
 /// Why a request has its verdict (HAProxy configuration manual 2.4, sections 4.2 and 7.2).
-#[derive(Drop)]
 pub struct Why {
     /// the number of the line of the statement that decided, counted from 1, or 0 where none did
     pub line: u64,
@@ -45,6 +50,17 @@ pub struct Why {
     pub conj: u32,
     /// what each term of that conjunction held by
     pub reasons: Reasons,
+}
+
+// Written out, so that letting one go is one call in the proofs of callers.
+impl Drop for Why {
+    fn drop(self) {
+        let Why {
+            line: _line,
+            conj: _conj,
+            reasons: _reasons,
+        } = self;
+    }
 }
 
 impl Reasons {

@@ -16,11 +16,21 @@ use std::sync::ledger::Ledger;
 
 /// What a version holds: how many entries, the chain of their slots, and an index for each use by
 /// which they are searched. What it stands for is said together with the slots.
-#[derive(Drop)]
 pub(crate) struct Content {
     pub(crate) count: u32,
     pub(crate) entries: Chain,
     pub(crate) indexes: Vec<Index>,
+}
+
+// Written out, so that letting one go is one call in the proofs of callers.
+impl Drop for Content {
+    fn drop(self) {
+        let Content {
+            count: _count,
+            entries: _entries,
+            indexes: _indexes,
+        } = self;
+    }
 }
 
 /// An entry that is to be appended: its number, its key and its value, the key as it was prepared

@@ -67,7 +67,6 @@ fn more(filled: usize, grown: bool) -> usize
 /// Calls find a row by its position `r`, which is below their number, and a version of it by its
 /// `number`. A version that isn't in the row is one to which nothing was added. A call that is
 /// given a `blank` counts its steps in the ledger that this is for, which nobody reads.
-#[derive(Drop)]
 pub struct Store {
     alloc: Global,
     pools: Pools,
@@ -75,6 +74,20 @@ pub struct Store {
     retired: Chain,
     waiting: u64,
     filled: usize,
+}
+
+// Written out, so that letting one go is one call in the proofs of callers.
+impl Drop for Store {
+    fn drop(self) {
+        let Store {
+            alloc: _alloc,
+            pools: _pools,
+            rows: _rows,
+            retired: _retired,
+            waiting: _waiting,
+            filled: _filled,
+        } = self;
+    }
 }
 
 impl Model for Store {

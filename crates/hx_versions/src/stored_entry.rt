@@ -10,7 +10,6 @@ use hx_sample::Hit;
 /// An entry in a slot of memory: its number, its key and its value; the number of the slot of its
 /// version; the numbers of the nodes that keep its key, one for each index of the version; and the
 /// entries before and after it.
-#[derive(Drop)]
 pub(crate) struct StoredEntry {
     pub(crate) number: u64,
     pub(crate) key: KeptText,
@@ -18,6 +17,20 @@ pub(crate) struct StoredEntry {
     pub(crate) version: usize,
     pub(crate) nodes: NodeNumbers,
     pub(crate) links: Links,
+}
+
+// Written out, so that letting one go is one call in the proofs of callers.
+impl Drop for StoredEntry {
+    fn drop(self) {
+        let StoredEntry {
+            number: _number,
+            key: _key,
+            value: _value,
+            version: _version,
+            nodes: _nodes,
+            links: _links,
+        } = self;
+    }
 }
 
 impl StoredEntry {

@@ -13,13 +13,25 @@ pub(crate) enum Owner {
 
 /// A version in a slot of memory: its owner, its number, the serial number of the entry that was
 /// added last, its content, and the versions before and after it.
-#[derive(Drop)]
 pub(crate) struct StoredVersion {
     pub(crate) owner: Owner,
     pub(crate) number: u32,
     pub(crate) serial: u32,
     pub(crate) content: Content,
     pub(crate) links: Links,
+}
+
+// Written out, so that letting one go is one call in the proofs of callers.
+impl Drop for StoredVersion {
+    fn drop(self) {
+        let StoredVersion {
+            owner: _owner,
+            number: _number,
+            serial: _serial,
+            content: _content,
+            links: _links,
+        } = self;
+    }
 }
 
 impl Linked for StoredVersion {

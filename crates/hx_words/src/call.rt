@@ -5,10 +5,19 @@ use hx_text::Octets;
 use std::marker::Model;
 
 /// A call: a name, and the arguments in its parentheses. Contracts see it as a record of both.
-#[derive(Drop)]
 pub struct Call {
     name: Octets,
     args: Vec<Octets>,
+}
+
+// Written out, so that letting one go is one call in the proofs of callers.
+impl Drop for Call {
+    fn drop(self) {
+        let Call {
+            name: _name,
+            args: _args,
+        } = self;
+    }
 }
 
 impl Model for Call {

@@ -4,10 +4,19 @@ use crate::call::Call;
 use std::marker::Model;
 
 /// The calls of a text, in order, and how many of its bytes were read.
-#[derive(Drop)]
 pub struct Calls {
     calls: Vec<Call>,
     used: usize,
+}
+
+// Written out, so that letting one go is one call in the proofs of callers.
+impl Drop for Calls {
+    fn drop(self) {
+        let Calls {
+            calls: _calls,
+            used: _used,
+        } = self;
+    }
 }
 
 impl Model for Calls {

@@ -1,0 +1,132 @@
+//! Cases of libraries that are driven by types of their callers: pools, chains and trees, whose
+//! values have links, and the texts of a machine.
+//!
+//! Each line of standard input names a driver, with a count where it takes one, and its answer
+//! follows it in standard output. A driver compares what each call answers with what a list says,
+//! and ends the program where they differ.
+#![tactic(auto)]
+
+ghost use Rattle.std.specs.Prelude.{◌≡◌, ◌<◌};
+
+mod chains;
+mod pools;
+mod texts;
+mod trees;
+
+use crate::chains::{chain_calls, chains_in_order};
+use crate::pools::{pool_calls, slot_used_again};
+use crate::texts::{machine_texts, many_texts};
+use crate::trees::{long_keys, prefixes_and_equal_keys, tree_calls};
+use hx_outside::{StdSink, StdSource, read_to_end, write_all};
+use hx_pool::Steps;
+use hx_text::{NoMemory, cut_at, read_number};
+use std::alloc::Global;
+use std::fmt::Write;
+use std::io::writer;
+use std::marker::Brand;
+use std::process::{Abort, ExitCode};
+use std::str;
+use std::sync::ledger::{Blank, Ledger};
+
+/// What the driver of this name counted, or none where it has no count. `count` is how often it
+/// makes its calls. No driver of another name is known.
+fn driven<R: Abort, L: Ledger>(
+    rt: &R,
+    alloc: Global,
+    name: &[u8],
+    count: u32,
+    steps: &mut Steps<L>,
+) -> Result<Option<usize>, NoMemory> {
+    match name {
+        b"pool_calls" => Ok(Some(pool_calls(rt, alloc, u64::from(count), steps)?)),
+        b"chain_calls" => Ok(Some(chain_calls(rt, alloc, count, steps)?)),
+        b"tree_calls" => Ok(Some(tree_calls(rt, alloc, u64::from(count), steps)?)),
+        _ => {
+            uncounted(rt, alloc, name, count, steps)?;
+            Ok(None)
+        }
+    }
+}
+
+/// Runs a driver that counts nothing.
+fn uncounted<R: Abort, L: Ledger>(
+    rt: &R,
+    alloc: Global,
+    name: &[u8],
+    count: u32,
+    steps: &mut Steps<L>,
+) -> Result<(), NoMemory> {
+    match name {
+        b"slot_used_again" => slot_used_again(rt, alloc),
+        b"chains_in_order" => chains_in_order(rt, alloc, steps),
+        b"prefixes_and_equal_keys" => prefixes_and_equal_keys(rt, alloc, count, steps),
+        b"long_keys" => long_keys(rt, alloc, steps),
+        b"machine_texts" => machine_texts(rt, alloc),
+        b"many_texts" => many_texts(rt, alloc, count as usize),
+        _ => {
+            assert!(rt; false, "no driver has this name");
+            Ok(())
+        }
+    }
+}
+
+/// Writes a line, and after ` => ` what its driver answers. A line that is empty or a comment
+/// stands alone.
+fn answer_line<R: Abort, L: Ledger>(
+    rt: &R,
+    alloc: Global,
+    out: &mut String,
+    line: &[u8],
+    steps: &mut Steps<L>,
+) -> Result<(), NoMemory> {
+    out.push_str(str::from_utf8(line).unwrap_or("not UTF-8"))?;
+    if let [] | [b'#', ..] = line {
+        return Ok(());
+    }
+    let (name, count) = cut_at(b' ', line).unwrap_or((line, b"0".as_slice()));
+    let Some(count) = read_number(count, 4_294_967_295) else {
+        assert!(rt; false, "a count is no number");
+        return Ok(());
+    };
+    match driven(rt, alloc, name, count as u32, steps)? {
+        Some(counted) => write!(out, " => as the list says, at most {counted}")?,
+        None => out.push_str(" => as it should be")?,
+    }
+    Ok(())
+}
+
+/// The answers of all lines. A line break ends each.
+fn answers<R: Abort, L: Ledger>(
+    rt: &R,
+    alloc: Global,
+    text: &[u8],
+    blank: Blank,
+) -> Result<String, NoMemory>
+    requires name { blank.name ≡ L.name }
+    requires parts { blank.parts ≡ L.parts }
+    requires some { 0 < L.parts }
+{
+    let mut steps = Steps::<L>::open(blank);
+    let mut out = String::new(alloc);
+    for line in text.split(|b| *b == b'\n') {
+        if !line.is_empty() {
+            answer_line(rt, alloc, &mut out, line, &mut steps)?;
+            out.push('\n')?;
+        }
+    }
+    Ok(out)
+}
+
+fn main(rt: HostRuntime) -> ExitCode {
+    let alloc = rt.alloc();
+    let Ok(text) = read_to_end(alloc, &mut StdSource::new(rt.reader()), 16_777_216) else {
+        return ExitCode::from(5);
+    };
+    let Ok(out) = answers::<HostRuntime, Brand>(&rt, alloc, text.as_slice(), Blank::new(1)) else {
+        return ExitCode::from(7);
+    };
+    match write_all(&mut StdSink::new(writer(&rt)), out.as_bytes()) {
+        Ok(()) => ExitCode::from(0),
+        Err(_) => ExitCode::from(6),
+    }
+}

@@ -1,9 +1,0 @@
-use Rattle.std.proofs.Common.{[]}
-use Rattle.hx_pool.specs.Chain.{links_at}
-use Rattle.hx_ebtree.specs.declared.chain_tests.Item.{Item}
-use Rattle.hx_ebtree.proofs.chain_tests.Chains.new.Goals as goal
-
-pub invariant_of-result : goal.invariant_of-result
-invariant_of-result c =
-    let links = links_at (λ (item : Item). item.links) c.new.result in
-    ([], [], c.new-2.ensures links, c.new-3.ensures links, λ k p q. absurd p)
