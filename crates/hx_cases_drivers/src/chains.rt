@@ -3,12 +3,12 @@ ghost use Rattle.std.specs.Prelude.{◌≡◌, ◌++◌, ◌∷◌, ℕ, List, S
 ghost use Rattle.hx_pool.specs.Chain.{LiesIn};
 ghost use Rattle.hx_cases_drivers.specs.declared.chains.Item.{Item};
 
+use crate::comparisons::Comparisons;
 use hx_pool::{Chain, Linked, Links, Pool, Steps};
 use hx_text::NoMemory;
 use std::alloc::{AllocError, Global};
 use std::marker::Model;
 use std::mem;
-use std::process::Abort;
 use std::sync::ledger::Ledger;
 
 /// More numbers than a chain ever has here.
@@ -158,21 +158,21 @@ impl Chains {
     }
 }
 
-/// Asserts that the first chain has these keys in this order.
-fn compare<R: Abort, L: Ledger>(
-    rt: &R,
+/// Compares the keys of the first chain, in their order, with these.
+fn compare<L: Ledger>(
+    comparisons: &mut Comparisons,
     alloc: Global,
     chains: &Chains,
     keys: &[u32],
     steps: &mut Steps<L>,
 ) -> Result<(), NoMemory> {
     let read = chains.keys(alloc, steps)?;
-    assert_eq!(rt; read.as_slice(), keys);
+    comparisons.note(read.as_slice() == keys);
     Ok(())
 }
 
-fn middle_out_and_two_behind<R: Abort, L: Ledger>(
-    rt: &R,
+fn middle_out_and_two_behind<L: Ledger>(
+    comparisons: &mut Comparisons,
     alloc: Global,
     chains: &mut Chains,
     steps: &mut Steps<L>,
@@ -183,48 +183,48 @@ fn middle_out_and_two_behind<R: Abort, L: Ledger>(
     for key in 1..=3 {
         chains.push(key, steps)?;
     }
-    assert_eq!(rt; chains.unlink(1, steps), Some(2));
+    comparisons.note(chains.unlink(1, steps) == Some(2));
     chains.append(steps);
-    compare(rt, alloc, chains, &[1, 3, 4, 5], steps)
+    compare(comparisons, alloc, chains, &[1, 3, 4, 5], steps)
 }
 
-fn before_front_and_middle<R: Abort, L: Ledger>(
-    rt: &R,
+fn before_front_and_middle<L: Ledger>(
+    comparisons: &mut Comparisons,
     alloc: Global,
     chains: &mut Chains,
     steps: &mut Steps<L>,
 ) -> Result<(), NoMemory> {
     chains.insert_before(0, 6, steps)?;
-    compare(rt, alloc, chains, &[6, 1, 3, 4, 5], steps)?;
+    compare(comparisons, alloc, chains, &[6, 1, 3, 4, 5], steps)?;
     chains.insert_before(2, 7, steps)?;
     chains.insert_before(5, 8, steps)?;
-    compare(rt, alloc, chains, &[6, 1, 7, 3, 4, 8, 5], steps)
+    compare(comparisons, alloc, chains, &[6, 1, 7, 3, 4, 8, 5], steps)
 }
 
-fn empty_chains<R: Abort, L: Ledger>(
-    rt: &R,
+fn empty_chains<L: Ledger>(
+    comparisons: &mut Comparisons,
     alloc: Global,
     chains: &mut Chains,
     steps: &mut Steps<L>,
 ) -> Result<(), NoMemory> {
     chains.append(steps);
-    compare(rt, alloc, chains, &[6, 1, 7, 3, 4, 8, 5], steps)?;
+    compare(comparisons, alloc, chains, &[6, 1, 7, 3, 4, 8, 5], steps)?;
     chains.swap();
-    compare(rt, alloc, chains, &[], steps)?;
+    compare(comparisons, alloc, chains, &[], steps)?;
     chains.append(steps);
-    compare(rt, alloc, chains, &[6, 1, 7, 3, 4, 8, 5], steps)
+    compare(comparisons, alloc, chains, &[6, 1, 7, 3, 4, 8, 5], steps)
 }
 
-fn first_and_last_out<R: Abort, L: Ledger>(
-    rt: &R,
+fn first_and_last_out<L: Ledger>(
+    comparisons: &mut Comparisons,
     alloc: Global,
     chains: &mut Chains,
     steps: &mut Steps<L>,
 ) -> Result<(), NoMemory> {
-    assert_eq!(rt; chains.unlink(0, steps), Some(6));
-    assert_eq!(rt; chains.unlink(5, steps), Some(5));
-    assert_eq!(rt; chains.unlink(5, steps), None);
-    compare(rt, alloc, chains, &[1, 7, 3, 4, 8], steps)
+    comparisons.note(chains.unlink(0, steps) == Some(6));
+    comparisons.note(chains.unlink(5, steps) == Some(5));
+    comparisons.note(chains.unlink(5, steps) == None);
+    compare(comparisons, alloc, chains, &[1, 7, 3, 4, 8], steps)
 }
 
 /// What the two chains of the pool have to be.
@@ -236,8 +236,8 @@ struct Lists {
 
 /// Makes one of the calls, as `choice` says, and does the same to the lists. The index may lie past
 /// the end.
-fn call<R: Abort, L: Ledger>(
-    rt: &R,
+fn call<L: Ledger>(
+    comparisons: &mut Comparisons,
     chains: &mut Chains,
     lists: &mut Lists,
     choice: u32,
@@ -267,9 +267,9 @@ fn call<R: Abort, L: Ledger>(
         }
         _ => {
             let gone = chains.unlink(index, steps);
-            assert_eq!(rt; gone.is_some(), within);
+            comparisons.note(gone.is_some() == within);
             if index < lists.first.len() {
-                assert_eq!(rt; gone, Some(lists.first.remove(index)));
+                comparisons.note(gone == Some(lists.first.remove(index)));
             }
         }
     }
@@ -278,8 +278,8 @@ fn call<R: Abort, L: Ledger>(
 
 /// Makes that many calls, compares the first chain after each, and answers how many items it had at
 /// most.
-pub fn chain_calls<R: Abort, L: Ledger>(
-    rt: &R,
+pub fn chain_calls<L: Ledger>(
+    comparisons: &mut Comparisons,
     alloc: Global,
     count: u32,
     steps: &mut Steps<L>,
@@ -295,7 +295,7 @@ pub fn chain_calls<R: Abort, L: Ledger>(
         number = number.wrapping_mul(1_664_525).wrapping_add(1_013_904_223);
         let index = (number >> 8) as usize % 64;
         call(
-            rt,
+            comparisons,
             &mut chains,
             &mut lists,
             (number >> 20) % 9,
@@ -304,20 +304,20 @@ pub fn chain_calls<R: Abort, L: Ledger>(
             steps,
         )?;
         longest = longest.max(lists.first.len());
-        compare(rt, alloc, &chains, lists.first.as_slice(), steps)?;
+        compare(comparisons, alloc, &chains, lists.first.as_slice(), steps)?;
     }
     Ok(longest)
 }
 
 /// Takes items out of two chains, puts others in and joins the chains.
-pub fn chains_in_order<R: Abort, L: Ledger>(
-    rt: &R,
+pub fn chains_in_order<L: Ledger>(
+    comparisons: &mut Comparisons,
     alloc: Global,
     steps: &mut Steps<L>,
 ) -> Result<(), NoMemory> {
     let mut chains = Chains::new(alloc);
-    middle_out_and_two_behind(rt, alloc, &mut chains, steps)?;
-    before_front_and_middle(rt, alloc, &mut chains, steps)?;
-    empty_chains(rt, alloc, &mut chains, steps)?;
-    first_and_last_out(rt, alloc, &mut chains, steps)
+    middle_out_and_two_behind(comparisons, alloc, &mut chains, steps)?;
+    before_front_and_middle(comparisons, alloc, &mut chains, steps)?;
+    empty_chains(comparisons, alloc, &mut chains, steps)?;
+    first_and_last_out(comparisons, alloc, &mut chains, steps)
 }

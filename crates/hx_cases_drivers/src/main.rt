@@ -3,17 +3,19 @@
 //!
 //! Each line of standard input names a driver, with a count where it takes one, and its answer
 //! follows it in standard output. A driver compares what each call answers with what a list says,
-//! and ends the program where they differ.
+//! and its answer is how often they differ, or that they don't.
 #![tactic(auto)]
 
 ghost use Rattle.std.specs.Prelude.{◌≡◌, ◌<◌};
 
 mod chains;
+mod comparisons;
 mod pools;
 mod texts;
 mod trees;
 
 use crate::chains::{chain_calls, chains_in_order};
+use crate::comparisons::Comparisons;
 use crate::pools::{pool_calls, slot_used_again};
 use crate::texts::{machine_texts, many_texts};
 use crate::trees::{long_keys, prefixes_and_equal_keys, tree_calls};
@@ -24,56 +26,80 @@ use std::alloc::Global;
 use std::fmt::Write;
 use std::io::writer;
 use std::marker::Brand;
-use std::process::{Abort, ExitCode};
+use std::process::ExitCode;
 use std::str;
 use std::sync::ledger::{Blank, Ledger};
 
-/// What the driver of this name counted, or none where it has no count. `count` is how often it
-/// makes its calls. No driver of another name is known.
-fn driven<R: Abort, L: Ledger>(
-    rt: &R,
+/// What a driver counted, if it counts, or that none has the name of the line.
+#[derive(Drop)]
+enum Answer {
+    Counted(usize),
+    Uncounted,
+    Unknown,
+}
+
+/// Runs the driver of this name. `count` is how often it makes its calls.
+fn driven<L: Ledger>(
+    comparisons: &mut Comparisons,
     alloc: Global,
     name: &[u8],
     count: u32,
     steps: &mut Steps<L>,
-) -> Result<Option<usize>, NoMemory> {
-    match name {
-        b"pool_calls" => Ok(Some(pool_calls(rt, alloc, u64::from(count), steps)?)),
-        b"chain_calls" => Ok(Some(chain_calls(rt, alloc, count, steps)?)),
-        b"tree_calls" => Ok(Some(tree_calls(rt, alloc, u64::from(count), steps)?)),
-        _ => {
-            uncounted(rt, alloc, name, count, steps)?;
-            Ok(None)
-        }
-    }
+) -> Result<Answer, NoMemory> {
+    let counted = match name {
+        b"pool_calls" => pool_calls(comparisons, alloc, u64::from(count), steps)?,
+        b"chain_calls" => chain_calls(comparisons, alloc, count, steps)?,
+        b"tree_calls" => tree_calls(comparisons, alloc, u64::from(count), steps)?,
+        _ => return uncounted(comparisons, alloc, name, count, steps),
+    };
+    Ok(Answer::Counted(counted))
 }
 
 /// Runs a driver that counts nothing.
-fn uncounted<R: Abort, L: Ledger>(
-    rt: &R,
+fn uncounted<L: Ledger>(
+    comparisons: &mut Comparisons,
     alloc: Global,
     name: &[u8],
     count: u32,
     steps: &mut Steps<L>,
-) -> Result<(), NoMemory> {
+) -> Result<Answer, NoMemory> {
     match name {
-        b"slot_used_again" => slot_used_again(rt, alloc),
-        b"chains_in_order" => chains_in_order(rt, alloc, steps),
-        b"prefixes_and_equal_keys" => prefixes_and_equal_keys(rt, alloc, count, steps),
-        b"long_keys" => long_keys(rt, alloc, steps),
-        b"machine_texts" => machine_texts(rt, alloc),
-        b"many_texts" => many_texts(rt, alloc, count as usize),
-        _ => {
-            assert!(rt; false, "no driver has this name");
-            Ok(())
-        }
+        b"slot_used_again" => slot_used_again(comparisons, alloc)?,
+        b"chains_in_order" => chains_in_order(comparisons, alloc, steps)?,
+        b"prefixes_and_equal_keys" => prefixes_and_equal_keys(comparisons, alloc, count, steps)?,
+        b"long_keys" => long_keys(comparisons, alloc, steps)?,
+        b"machine_texts" => machine_texts(comparisons, alloc)?,
+        b"many_texts" => many_texts(comparisons, alloc, count as usize)?,
+        _ => return Ok(Answer::Unknown),
     }
+    Ok(Answer::Uncounted)
+}
+
+/// Writes ` => ` and what a driver answered: that it found no difference, or how many.
+fn write_answer(
+    out: &mut String,
+    comparisons: &Comparisons,
+    answer: Answer,
+) -> Result<(), NoMemory> {
+    let (made, differing) = (comparisons.made(), comparisons.differing());
+    if differing != 0 {
+        write!(
+            out,
+            " => {differing} of {made} comparisons found a difference"
+        )?;
+        return Ok(());
+    }
+    match answer {
+        Answer::Counted(counted) => write!(out, " => as the list says, at most {counted}")?,
+        Answer::Uncounted => out.push_str(" => as it should be")?,
+        Answer::Unknown => out.push_str(" => no driver has this name")?,
+    }
+    Ok(())
 }
 
 /// Writes a line, and after ` => ` what its driver answers. A line that is empty or a comment
 /// stands alone.
-fn answer_line<R: Abort, L: Ledger>(
-    rt: &R,
+fn answer_line<L: Ledger>(
     alloc: Global,
     out: &mut String,
     line: &[u8],
@@ -85,23 +111,16 @@ fn answer_line<R: Abort, L: Ledger>(
     }
     let (name, count) = cut_at(b' ', line).unwrap_or((line, b"0".as_slice()));
     let Some(count) = read_number(count, 4_294_967_295) else {
-        assert!(rt; false, "a count is no number");
+        out.push_str(" => its count is no number")?;
         return Ok(());
     };
-    match driven(rt, alloc, name, count as u32, steps)? {
-        Some(counted) => write!(out, " => as the list says, at most {counted}")?,
-        None => out.push_str(" => as it should be")?,
-    }
-    Ok(())
+    let mut comparisons = Comparisons::new();
+    let answer = driven(&mut comparisons, alloc, name, count as u32, steps)?;
+    write_answer(out, &comparisons, answer)
 }
 
 /// The answers of all lines. A line break ends each.
-fn answers<R: Abort, L: Ledger>(
-    rt: &R,
-    alloc: Global,
-    text: &[u8],
-    blank: Blank,
-) -> Result<String, NoMemory>
+fn answers<L: Ledger>(alloc: Global, text: &[u8], blank: Blank) -> Result<String, NoMemory>
     requires name { blank.name ≡ L.name }
     requires parts { blank.parts ≡ L.parts }
     requires some { 0 < L.parts }
@@ -110,7 +129,7 @@ fn answers<R: Abort, L: Ledger>(
     let mut out = String::new(alloc);
     for line in text.split(|b| *b == b'\n') {
         if !line.is_empty() {
-            answer_line(rt, alloc, &mut out, line, &mut steps)?;
+            answer_line(alloc, &mut out, line, &mut steps)?;
             out.push('\n')?;
         }
     }
@@ -122,7 +141,7 @@ fn main(rt: HostRuntime) -> ExitCode {
     let Ok(text) = read_to_end(alloc, &mut StdSource::new(rt.reader()), 16_777_216) else {
         return ExitCode::from(5);
     };
-    let Ok(out) = answers::<HostRuntime, Brand>(&rt, alloc, text.as_slice(), Blank::new(1)) else {
+    let Ok(out) = answers::<Brand>(alloc, text.as_slice(), Blank::new(1)) else {
         return ExitCode::from(7);
     };
     match write_all(&mut StdSink::new(writer(&rt)), out.as_bytes()) {

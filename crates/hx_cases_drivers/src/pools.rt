@@ -1,11 +1,11 @@
 //! A pool and a chain beside a list of the numbers and a list of the keys.
 ghost use Rattle.std.specs.Prelude.{◌≡◌, ◌<◌, [], IfOk, length};
 
+use crate::comparisons::Comparisons;
 use hx_pool::{Chain, Linked, Links, Pool, Steps};
 use hx_text::NoMemory;
 use std::alloc::{AllocError, Global};
 use std::marker::Model;
-use std::process::Abort;
 use std::sync::ledger::Ledger;
 
 /// More slots than a run ever has.
@@ -100,24 +100,29 @@ impl Driven {
         self.pool.give(id).key
     }
 
-    /// Asserts that the chain, its values and what is live are what the list says.
-    fn compare<R: Abort, L: Ledger>(&self, rt: &R, slots: usize, steps: &mut Steps<L>) {
+    /// Compares the chain, its values and what is live with what the list says.
+    fn compare<L: Ledger>(
+        &self,
+        comparisons: &mut Comparisons,
+        slots: usize,
+        steps: &mut Steps<L>,
+    ) {
         let mut next = self.chain.front();
         for index in 0..self.order.len() {
             let id = self.order[index];
-            assert_eq!(rt; next, Some(id));
-            assert!(rt; id < slots);
-            assert!(rt; self.keys.get(id).copied() == Some(self.pool.get(id, steps).key));
+            comparisons.note(next == Some(id));
+            comparisons.note(id < slots);
+            comparisons.note(self.keys.get(id).copied() == Some(self.pool.get(id, steps).key));
             next = self.chain.next(&self.pool, id, steps);
         }
-        assert!(rt; next.is_none());
+        comparisons.note(next.is_none());
         let mut live = 0u64;
         for id in 0..MOST {
             if self.pool.live(id) {
                 live = live.wrapping_add(1);
             }
         }
-        assert_eq!(rt; live, self.order.len() as u64);
+        comparisons.note(live == self.order.len() as u64);
     }
 }
 
@@ -148,8 +153,8 @@ fn call<L: Ledger>(
 
 /// Makes that many calls, compares all after each, and answers how many values lay in the pool at
 /// most.
-pub fn pool_calls<R: Abort, L: Ledger>(
-    rt: &R,
+pub fn pool_calls<L: Ledger>(
+    comparisons: &mut Comparisons,
     alloc: Global,
     count: u64,
     steps: &mut Steps<L>,
@@ -165,25 +170,25 @@ pub fn pool_calls<R: Abort, L: Ledger>(
         let adds = number >> 61 < if round / 1000 % 2 == 0 { 5 } else { 3 };
         call(&mut driven, adds, (number >> 40) as usize, number, steps)?;
         slots = slots.max(driven.len());
-        driven.compare(rt, slots, steps);
+        driven.compare(comparisons, slots, steps);
     }
     Ok(slots)
 }
 
 /// Gives slots back and takes them again.
-pub fn slot_used_again<R: Abort>(rt: &R, alloc: Global) -> Result<(), NoMemory> {
+pub fn slot_used_again(comparisons: &mut Comparisons, alloc: Global) -> Result<(), NoMemory> {
     let mut pool: Pool<u8> = Pool::new(alloc);
     pool.reserve(2)?;
     let a = pool.take(b'a');
     let b = pool.take(b'b');
-    assert_eq!(rt; pool.give(a), b'a');
+    comparisons.note(pool.give(a) == b'a');
     let c = pool.take(b'c');
     // The two slots that were reserved are enough.
-    assert!(rt; a < 2 && b < 2 && c < 2);
-    assert!(rt; pool.live(b));
-    assert!(rt; pool.live(c));
-    assert_eq!(rt; pool.give(b), b'b');
-    assert_eq!(rt; pool.give(c), b'c');
-    assert!(rt; !pool.live(c));
+    comparisons.note(a < 2 && b < 2 && c < 2);
+    comparisons.note(pool.live(b));
+    comparisons.note(pool.live(c));
+    comparisons.note(pool.give(b) == b'b');
+    comparisons.note(pool.give(c) == b'c');
+    comparisons.note(!pool.live(c));
     Ok(())
 }

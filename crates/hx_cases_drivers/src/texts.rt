@@ -1,11 +1,11 @@
 //! The words and variables of a machine whose texts lie in memory.
+use crate::comparisons::Comparisons;
 use hx_program::{
     IndexedTexts, MachineArguments, MachineEntries, MachineFault, arguments, environment,
 };
 use hx_text::NoMemory;
 use std::alloc::Global;
 use std::env::FillError;
-use std::process::Abort;
 use std::rt::Env;
 
 /// The longest argument or variable that Linux hands to a program, in bytes, with the NUL at its
@@ -49,19 +49,23 @@ impl Env for MemTexts<'_> {
     }
 }
 
-/// What a call answers that isn't refused for a text that is too long.
-fn within<R: Abort, T: Drop>(rt: &R, answered: Result<T, MachineFault>) -> Result<T, NoMemory> {
+/// What a call answers, or none, which is a difference, where a text is refused as too long.
+fn within<T: Drop>(
+    comparisons: &mut Comparisons,
+    answered: Result<T, MachineFault>,
+) -> Result<Option<T>, NoMemory> {
     match answered {
-        Ok(value) => Ok(value),
-        Err(fault) => {
-            assert!(rt; fault == MachineFault::NoMemory);
-            Err(NoMemory)
+        Ok(value) => Ok(Some(value)),
+        Err(MachineFault::NoMemory) => Err(NoMemory),
+        Err(MachineFault::TooLong) => {
+            comparisons.note(false);
+            Ok(None)
         }
     }
 }
 
 /// Reads the same texts as arguments and as entries of the environment.
-pub fn machine_texts<R: Abort>(rt: &R, alloc: Global) -> Result<(), NoMemory> {
+pub fn machine_texts(comparisons: &mut Comparisons, alloc: Global) -> Result<(), NoMemory> {
     let texts: [&[u8]; 6] = [b"A=x", b"none", b"B=", b"A=y=z", b"", b"=\xff"];
     let variables: [(&[u8], &[u8]); 4] = [
         (b"A", b"x"),
@@ -70,37 +74,43 @@ pub fn machine_texts<R: Abort>(rt: &R, alloc: Global) -> Result<(), NoMemory> {
         (b"", b"\xff"),
     ];
     let memory = MemTexts { texts: &texts };
-    let words = within(rt, arguments(alloc, &MachineArguments(&memory)))?;
-    assert_eq!(rt; words.len(), 5);
-    for (word, text) in words.iter().zip(&texts[1..]) {
-        assert_eq!(rt; word.as_slice(), *text);
+    if let Some(words) = within(comparisons, arguments(alloc, &MachineArguments(&memory)))? {
+        comparisons.note(words.len() == 5);
+        for (word, text) in words.iter().zip(&texts[1..]) {
+            comparisons.note(word.as_slice() == *text);
+        }
     }
-    let pairs = within(rt, environment(alloc, &MachineEntries(&memory)))?;
-    assert_eq!(rt; pairs.len(), 4);
-    for (pair, (name, value)) in pairs.iter().zip(&variables) {
-        assert_eq!(rt; pair.0.as_slice(), *name);
-        assert_eq!(rt; pair.1.as_slice(), *value);
+    if let Some(pairs) = within(comparisons, environment(alloc, &MachineEntries(&memory)))? {
+        comparisons.note(pairs.len() == 4);
+        for (pair, (name, value)) in pairs.iter().zip(&variables) {
+            comparisons.note(pair.0.as_slice() == *name);
+            comparisons.note(pair.1.as_slice() == *value);
+        }
     }
     Ok(())
 }
 
 /// Reads that many texts, the last of them the longest that is taken, and then one that is refused.
-pub fn many_texts<R: Abort>(rt: &R, alloc: Global, count: usize) -> Result<(), NoMemory> {
+pub fn many_texts(
+    comparisons: &mut Comparisons,
+    alloc: Global,
+    count: usize,
+) -> Result<(), NoMemory> {
     let longest = vec![in alloc; b'='; MAX_TEXT_LEN]?;
     let longer = vec![in alloc; b'='; MAX_TEXT_LEN + 1]?;
     let mut texts = vec![in alloc; b"===".as_slice(); count]?;
     texts.push(&longest)?;
     let memory = MemTexts { texts: &texts };
-    let words = within(rt, arguments(alloc, &memory))?;
-    assert_eq!(rt; words.len(), count);
-    assert!(rt; words.last().map(|word| word.as_slice()) == Some(longest.as_slice()));
-    assert_eq!(rt;
-        within(rt, environment(alloc, &memory))?.len(),
-        count.wrapping_add(1)
-    );
+    if let Some(words) = within(comparisons, arguments(alloc, &memory))? {
+        comparisons.note(words.len() == count);
+        comparisons.note(words.last().map(|word| word.as_slice()) == Some(longest.as_slice()));
+    }
+    if let Some(pairs) = within(comparisons, environment(alloc, &memory))? {
+        comparisons.note(pairs.len() == count.wrapping_add(1));
+    }
     texts.push(&longer)?;
     let memory = MemTexts { texts: &texts };
-    assert!(rt; arguments(alloc, &memory).err() == Some(MachineFault::TooLong));
-    assert!(rt; environment(alloc, &memory).err() == Some(MachineFault::TooLong));
+    comparisons.note(arguments(alloc, &memory).err() == Some(MachineFault::TooLong));
+    comparisons.note(environment(alloc, &memory).err() == Some(MachineFault::TooLong));
     Ok(())
 }

@@ -1,12 +1,12 @@
 //! A tree and its pool, beside a list that is scanned.
 ghost use Rattle.std.specs.Prelude.{◌*◌, ◌≤◌, length};
 
+use crate::comparisons::Comparisons;
 use hx_ebtree::{BitKey, Node, Tree};
 use hx_pool::{Pool, Steps};
 use hx_text::NoMemory;
 use std::alloc::Global;
 use std::marker::Model;
-use std::process::Abort;
 use std::sync::ledger::Ledger;
 
 /// A tree and its pool. It stands there for some list.
@@ -149,8 +149,8 @@ fn next(seed: u32) -> u32 {
 
 /// Finds nodes by their keys and by prefixes of them, beside equal keys and, in the end, so many
 /// others of 32 bits.
-pub fn prefixes_and_equal_keys<R: Abort, L: Ledger>(
-    rt: &R,
+pub fn prefixes_and_equal_keys<L: Ledger>(
+    comparisons: &mut Comparisons,
     alloc: Global,
     count: u32,
     steps: &mut Steps<L>,
@@ -160,32 +160,32 @@ pub fn prefixes_and_equal_keys<R: Abort, L: Ledger>(
     let a = entries.add(alloc, b"a", 8, steps)?;
     let ab = entries.add(alloc, b"ab", 16, steps)?;
     let again = entries.add(alloc, b"a", 8, steps)?;
-    assert!(rt; again != a);
-    assert_eq!(rt; entries.longest(b"abc", 24, steps), Some(ab));
-    assert_eq!(rt; entries.exact(b"a", 8, steps), Some(a));
-    assert_eq!(rt; entries.longest(b"b", 8, steps), Some(empty));
-    assert_eq!(rt; entries.exact(b"abc", 24, steps), None);
-    assert_eq!(rt; entries.take_out(b"a", 8, steps), Some(a));
-    assert_eq!(rt; entries.exact(b"a", 8, steps), Some(again));
-    assert_eq!(rt; entries.take_out(b"a", 8, steps), Some(again));
-    assert_eq!(rt; entries.take_out(b"", 0, steps), Some(empty));
-    assert_eq!(rt; entries.longest(b"a", 8, steps), None);
-    assert_eq!(rt; entries.longest(b"ab", 16, steps), Some(ab));
+    comparisons.note(again != a);
+    comparisons.note(entries.longest(b"abc", 24, steps) == Some(ab));
+    comparisons.note(entries.exact(b"a", 8, steps) == Some(a));
+    comparisons.note(entries.longest(b"b", 8, steps) == Some(empty));
+    comparisons.note(entries.exact(b"abc", 24, steps) == None);
+    comparisons.note(entries.take_out(b"a", 8, steps) == Some(a));
+    comparisons.note(entries.exact(b"a", 8, steps) == Some(again));
+    comparisons.note(entries.take_out(b"a", 8, steps) == Some(again));
+    comparisons.note(entries.take_out(b"", 0, steps) == Some(empty));
+    comparisons.note(entries.longest(b"a", 8, steps) == None);
+    comparisons.note(entries.longest(b"ab", 16, steps) == Some(ab));
     let four = entries.add(alloc, b"\x0a", 4, steps)?;
     let eight = entries.add(alloc, b"\x0a", 8, steps)?;
-    assert_eq!(rt; entries.longest(b"\x0a", 8, steps), Some(eight));
-    assert_eq!(rt; entries.longest(b"\x0b", 8, steps), Some(four));
+    comparisons.note(entries.longest(b"\x0a", 8, steps) == Some(eight));
+    comparisons.note(entries.longest(b"\x0b", 8, steps) == Some(four));
     for number in 0..count {
         let word = number.wrapping_add(0x8000_0000);
         entries.add(alloc, &word.to_be_bytes(), 32, steps)?;
     }
-    assert_eq!(rt; entries.longest(b"abc", 24, steps), Some(ab));
+    comparisons.note(entries.longest(b"abc", 24, steps) == Some(ab));
     Ok(())
 }
 
 /// Puts in seven keys of up to 70,000 bytes, each a prefix of the next, and takes them out.
-pub fn long_keys<R: Abort, L: Ledger>(
-    rt: &R,
+pub fn long_keys<L: Ledger>(
+    comparisons: &mut Comparisons,
     alloc: Global,
     steps: &mut Steps<L>,
 ) -> Result<(), NoMemory> {
@@ -194,19 +194,19 @@ pub fn long_keys<R: Abort, L: Ledger>(
         let bytes = vec![in alloc; b'x'; count * 10_000]?;
         let bits = count * 80_000;
         let id = entries.add(alloc, bytes.as_slice(), bits, steps)?;
-        assert_eq!(rt; entries.exact(bytes.as_slice(), bits, steps), Some(id));
-        assert_eq!(rt; entries.longest(bytes.as_slice(), bits, steps), Some(id));
+        comparisons.note(entries.exact(bytes.as_slice(), bits, steps) == Some(id));
+        comparisons.note(entries.longest(bytes.as_slice(), bits, steps) == Some(id));
         entries.add_and_take_out(alloc, bytes.as_slice(), bits, steps)?;
-        assert_eq!(rt; entries.exact(bytes.as_slice(), bits, steps), Some(id));
+        comparisons.note(entries.exact(bytes.as_slice(), bits, steps) == Some(id));
     }
-    emptied(rt, &mut entries, 7, steps);
+    emptied(comparisons, &mut entries, 7, steps);
     Ok(())
 }
 
 /// Puts in that many keys, with a search of tree and list before each, takes out some, and answers
 /// how many were in the list at most.
-pub fn tree_calls<R: Abort, L: Ledger>(
-    rt: &R,
+pub fn tree_calls<L: Ledger>(
+    comparisons: &mut Comparisons,
     alloc: Global,
     count: u64,
     steps: &mut Steps<L>,
@@ -222,40 +222,46 @@ pub fn tree_calls<R: Abort, L: Ledger>(
         seed = next(seed);
         let bits = (seed >> 16) % 15;
         let (exact, longest) = scanned(list.as_slice(), word, bits);
-        assert_eq!(rt;
-            entries.exact(&word.to_be_bytes(), bits as usize, steps),
-            exact
-        );
-        assert_eq!(rt;
-            entries.longest(&word.to_be_bytes(), bits as usize, steps),
-            longest
-        );
+        comparisons.note(entries.exact(&word.to_be_bytes(), bits as usize, steps) == exact);
+        comparisons.note(entries.longest(&word.to_be_bytes(), bits as usize, steps) == longest);
         let id = entries.add(alloc, &word.to_be_bytes(), bits as usize, steps)?;
         list.push(Listed { word, bits, id })?;
         most = most.max(list.len());
         highest = highest.max(id);
         entries.add_and_take_out(alloc, &seed.to_be_bytes(), bits as usize, steps)?;
         if seed & 0x3000_0000 == 0 {
-            list = taken_out(rt, alloc, &mut entries, list.as_slice(), seed, steps)?;
+            list = taken_out(
+                comparisons,
+                alloc,
+                &mut entries,
+                list.as_slice(),
+                seed,
+                steps,
+            )?;
         }
     }
     // One more node than the list has was in the tree at once, so slots were used again.
-    assert!(rt; highest <= most);
-    emptied(rt, &mut entries, list.len(), steps);
+    comparisons.note(highest <= most);
+    emptied(comparisons, &mut entries, list.len(), steps);
     Ok(most)
 }
 
 /// Takes out all nodes, of which there are `count`.
-fn emptied<R: Abort, L: Ledger>(rt: &R, entries: &mut Entries, count: usize, steps: &mut Steps<L>) {
+fn emptied<L: Ledger>(
+    comparisons: &mut Comparisons,
+    entries: &mut Entries,
+    count: usize,
+    steps: &mut Steps<L>,
+) {
     for _ in 0..count {
-        assert!(rt; entries.pop(steps).is_some());
+        comparisons.note(entries.pop(steps).is_some());
     }
-    assert_eq!(rt; entries.pop(steps), None);
+    comparisons.note(entries.pop(steps) == None);
 }
 
 /// Takes out the oldest node of one of the keys, and answers the list without it.
-fn taken_out<R: Abort, L: Ledger>(
-    rt: &R,
+fn taken_out<L: Ledger>(
+    comparisons: &mut Comparisons,
     alloc: Global,
     entries: &mut Entries,
     list: &[Listed],
@@ -268,11 +274,8 @@ fn taken_out<R: Abort, L: Ledger>(
         let item = list[(seed >> 8) as usize % list.len()];
         let bits = item.bits.min(32);
         gone = scanned(list, item.word, bits).0;
-        assert!(rt; gone.is_some());
-        assert_eq!(rt;
-            entries.take_out(&item.word.to_be_bytes(), bits as usize, steps),
-            gone
-        );
+        comparisons.note(gone.is_some());
+        comparisons.note(entries.take_out(&item.word.to_be_bytes(), bits as usize, steps) == gone);
     }
     for item in list {
         if Some(item.id) != gone {
