@@ -80,7 +80,8 @@ def differing(shown, made, backend):
     if not backend:
         return {b"location"}
     (first, lines), (other, others) = as_kept(shown), as_kept(made)
-    names = {name for name, _ in set(lines) ^ set(others)}
+    counts, more = collections.Counter(lines), collections.Counter(others)
+    names = {name for name, _ in (counts - more) + (more - counts)}
     return names if first == other else names | {b""}
 
 

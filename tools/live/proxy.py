@@ -29,6 +29,8 @@ FRONTENDS = {
 WHOLE = {
     "examples/whole/haproxy.cfg": ("plain", "shop", "api"),
     "examples/whole/members.cfg": ("members", "partners"),
+    "tools/live/sections.cfg": ("site", "app", "joined"),
+    "tools/live/changing.cfg": ("changing",),
 }
 # Where each takes plain traffic.
 NAMES = [*FRONTENDS, *itertools.chain(*WHOLE.values())]
@@ -82,9 +84,16 @@ def binds(name, folder):
             f"bind 0.0.0.0:{port + TLS} {tls}", f"bind :::{port + TLS} v6only {tls}"]
 
 
+def own_backend(name):
+    """The lines by which a `listen` section sends requests to the server, and tells its name to
+    clients whose requests came there."""
+    return [f"http-response set-header X-Backend {name} if {{ be_name {name} }}",
+            f"server it 127.0.0.1:{SERVER_PORT}"]
+
+
 def backend(name):
-    """The lines of a backend, which tells its name to clients."""
-    return [f"backend {name}", f"http-response set-header X-Backend {name}",
+    """The lines of a backend, which tells its name to clients, also where it answers itself."""
+    return [f"backend {name}", f"http-after-response set-header X-Backend {name}",
             f"server it 127.0.0.1:{SERVER_PORT}"]
 
 

@@ -2,7 +2,7 @@
 tell apart; heads that aren't as usual; and commands for the management socket."""
 import concurrent.futures
 
-from live import drawn, members_traffic, proxy, whole_traffic
+from live import drawn, members_traffic, proxy, sections_traffic, whole_traffic
 from live.clients import curl, talk
 from live.drawn import request
 
@@ -179,4 +179,5 @@ def send_all(made, answered, seed):
         talks(answered, frontend, 2, f"{seed} {at}")
     whole_traffic.send_all(made, answered, seed, replies)
     members_traffic.send_all(made, answered, seed, replies)
+    sections_traffic.send_all(answered, seed)
     return replies
