@@ -143,30 +143,54 @@ def commands_of(path):
 # Reading.
 
 Request = collections.namedtuple("Request", "source source_port destination destination_port head")
+# A line of a record as it stands and as words, and where it is a request its head and what ends it.
+Event = collections.namedtuple("Event", "line words head end")
+
+
+def request_of(line, words, read):
+    """A request whose head comes next, or none where it isn't whole."""
+    size = number(words[2], REQUEST_BYTES) if len(words) == 3 else None
+    head = None if size is None else read(size)
+    if head is None or len(head) < size:
+        return None
+    return Event(line, words, head, read(1))
+
+
+def events_of(lines, read):
+    """The lines of a record, one by one, with the heads that are read between them; None comes last
+    where a line is none of a record."""
+    for line in lines:
+        words = line.decode(errors="replace").rstrip("\r\n").split(" ")
+        event = Event(line, words, None, b"")
+        if words[0] == "req":
+            event = request_of(line, words, read)
+        elif words[0] == "conn" and len(words) != 6 or words[0] == "close" and len(words) != 2:
+            event = None
+        elif words[0] not in ("conn", "close", "cli", "") and not words[0].startswith("#"):
+            event = None
+        yield event
+        if event is None:
+            return
 
 
 def heads_of(lines, read):
-    """The requests that lines of a record say, whose heads are read between them; None comes last
-    where a line is none of a record."""
+    """The requests of a record; None comes last where a line is none of a record."""
     connections = {}
-    for line in lines:
-        words = line.decode(errors="replace").rstrip("\r\n").split(" ")
-        key = number(words[1], LAST_NUMBER) if len(words) > 1 else None
-        if words[0] == "conn" and len(words) == 6:
-            connections[key] = words[2:]
-        elif words[0] == "req" and len(words) == 3 and key in connections:
-            size = number(words[2], REQUEST_BYTES)
-            head = None if size is None else read(size)
-            if head is None or len(head) < size:
-                yield None
-                return
-            read(1)
-            yield Request(*connections[key], head)
-        elif words[0] == "close" and len(words) == 2 and key in connections:
-            del connections[key]
-        elif words[0] not in ("cli", "") and not words[0].startswith("#"):
+    for event in events_of(lines, read):
+        if event is None:
             yield None
             return
+        kind, words = event.words[0], event.words
+        key = number(words[1], LAST_NUMBER) if kind in ("conn", "req", "close") else None
+        if kind == "conn":
+            connections[key] = words[2:]
+        elif kind in ("req", "close") and key not in connections:
+            yield None
+            return
+        elif kind == "req":
+            yield Request(*connections[key], event.head)
+        elif kind == "close":
+            del connections[key]
 
 
 def requests_of(path, told=None):
