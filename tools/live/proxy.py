@@ -31,10 +31,13 @@ WHOLE = {
     "examples/whole/members.cfg": ("members", "partners"),
     "tools/live/sections.cfg": ("site", "app", "joined"),
     "tools/live/changing.cfg": ("changing",),
+    "tools/live/tokens.cfg": ("tokens",),
 }
 # Where each takes plain traffic.
 NAMES = [*FRONTENDS, *itertools.chain(*WHOLE.values())]
 PORTS = {name: port for port, name in enumerate(NAMES, 8001)}
+# What the names begin with of frontends that are drawn by chance.
+DRAWN = "drawn"
 # The port for TLS is the plain one and this.
 TLS = 1000
 SERVER_PORT = 9000
@@ -49,6 +52,14 @@ SOURCES = (
     "10.1.2.3", "::1", "2001:db8:5::1", "2001:db8:6::1", "2001:db8:bad::1",
 )
 PROXY = {4: "192.0.2.80", 6: "2001:db8::80"}
+
+
+def add_drawn(count):
+    """Gives so many frontends that are drawn their ports; the answer is their names."""
+    names = [f"{DRAWN}{at}" for at in range(1, count + 1)]
+    first = max(PORTS.values()) + 1
+    PORTS.update({name: first + at for at, name in enumerate(names)})
+    return names
 
 
 def make_network():
@@ -178,7 +189,6 @@ class Proxy:
 
     def __init__(self, folder, configurations):
         self.folder = folder
-        make_certificate(folder)
         self.log, self.capture = f"{folder}/log", f"{folder}/capture.pcap"
         with open(self.log, "wb") as log, open(f"{folder}/errors", "wb") as errors:
             words = ["haproxy", "-db"]

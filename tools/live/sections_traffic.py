@@ -1,5 +1,6 @@
 """What clients send to the sections that are easily taken for others, and to those whose backend
 changes something for the requests that follow."""
+import base64
 import concurrent.futures
 
 from live import drawn
@@ -22,6 +23,30 @@ CAUGHT = ("192.0.2.33", "2001:db8:5::1")
 STEPS = ("/open", "/none/a", "/trap/1", "/open/2?x", "/none", "/other", "/trap", "/open")
 
 
+def encoded(text):
+    """Base64 as tokens have it."""
+    return base64.urlsafe_b64encode(text.encode()).decode().rstrip("=")
+
+
+BODY = encoded('{"sub":"1"}')
+ALGORITHM = encoded('{"alg":"RS256","typ":"JWT"}')
+# What tokens may say of themselves: those whose algorithm is a text without escapes.
+TOKEN_HEADERS = (
+    "{}", '{"typ":"JWT" , "alg" : "ES256"}', '{"alg":null}', "no json", '{"alg":"HS256"}',
+    '{"alg":"RS256","x":{"alg":"no"}}', '{"alg":"RS256","alg2":"x"}', '{"alg2":"x","alg":"RS256"}',
+    '{"note":"\\"alg\\":\\"none\\"","alg":"RS256"}', '{\n\t"alg"\n:\n"ES256"\n}',
+)
+TOKENS = (
+    *(f"Bearer {encoded(header)}.{BODY}.s" for header in TOKEN_HEADERS),
+    *(f"{scheme} {ALGORITHM}.{BODY}.s" for scheme in (
+        "bearer", "BEARER", "Bea", "Be ", "B", "Bearer   ", "Bearers", "Basic", "x Bearer")),
+    *(f"Bearer {ALGORITHM}{rest}" for rest in (
+        "", f".{BODY}", f".{BODY}.", "..", f".{BODY}.s.t", f"x.{BODY}.s", f"=.{BODY}.s",
+        f".{BODY}.s, x", f".{BODY}.s and more")),
+    f"Bearer !!!.{BODY}.s", "Bearer x", "Bearer", "", "Bearer ~.~.~",
+)
+
+
 def curls(answered):
     """Requests by curl, by HTTP/2 too."""
     for words in (["--http1.1"], ["--http2"]):
@@ -39,6 +64,10 @@ def send_all(answered, seed):
                                                                            HOST)])]
         for it in sent:
             it.result()
+    for token in TOKENS:
+        for path in ("/signed", "/named", "/any"):
+            talk(answered, "tokens", "192.0.2.7",
+                 [request(f"GET {path} HTTP/1.1", HOST, f"Authorization: {token}")])
     # a trap changes a list, so each request is sent after the answer to the one before
     for source in CAUGHT:
         for path in STEPS:

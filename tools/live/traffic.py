@@ -2,7 +2,7 @@
 tell apart; heads that aren't as usual; and commands for the management socket."""
 import concurrent.futures
 
-from live import drawn, members_traffic, proxy, sections_traffic, whole_traffic
+from live import drawn, drawn_rules, members_traffic, proxy, sections_traffic, whole_traffic
 from live.clients import curl, talk
 from live.drawn import request
 
@@ -155,6 +155,14 @@ AFTER = {
     "moved": request("GET /old HTTP/1.1", HOST),
 }
 PARTNER = "198.51.100.70"
+
+
+def send_drawn(answered, names, requests, seed):
+    """Sends about so many requests to each of the frontends that are drawn."""
+    with concurrent.futures.ThreadPoolExecutor(6) as pool:
+        sent = [pool.submit(drawn_rules.send, answered, name, requests, seed) for name in names]
+        for it in sent:
+            it.result()
 
 
 def send_all(made, answered, seed):

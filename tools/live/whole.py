@@ -14,9 +14,21 @@ REFUSED = {
     "partners": ["http_auth_bearer"],
 }
 REFUSES = 3
+# What docs/manual/refused.md says to write for a part of such a line, by the frontends where that is
+# tried.
+PAGE = f"{proxy.TOP}/docs/manual/refused.md"
+WRITTEN = {
+    "tokens": {
+        "http_auth_bearer -m found": 'req.hdr(Authorization,1) -m reg -i "^be(a(r(er?)?)?)? "',
+        "http_auth_bearer,jwt_header_query('$.alg')": (
+            """"req.hdr(Authorization,1),word(2,' '),word(1,.),ub64dec,"""
+            r"""regsub('(?s)^[^{]*[{][^{}]*?\"alg\"\s*:\s*\"([^\"]*)\".*','~\1'),field(2,~)"""
+            '"'
+        ),
+    },
+}
 # What the rules for the log have, and no others.
 OF_LOG = ".rec_"
-
 
 # What begins a section that takes traffic.
 TAKES_TRAFFIC = ("frontend", "listen")
@@ -60,6 +72,11 @@ def path_of(folder, path):
     return f"{folder}/whole-{os.path.basename(path)}"
 
 
+def without_log(text):
+    """A configuration without the rules for the log, each line at its number."""
+    return "\n".join("" if OF_LOG in line else line for line in text.split("\n"))
+
+
 def write_configuration(folder, path):
     """Writes what HAProxy runs with in the place of this file; the answer is where."""
     here = Here(folder)
@@ -89,19 +106,32 @@ class Tried(checks.Tried):
         hxeval refuses, as docs/manual/trying.md says."""
         port = str(self.port + proxy.TLS)
         with open(self.whole, encoding="utf-8") as it:
-            lines = ["" if OF_LOG in line else line for line in it.read().split("\n")]
+            text = it.read()
         with open(self.path("without"), "w", encoding="utf-8") as it:
-            it.write("\n".join(lines))
+            it.write(without_log(text))
         self.run("taken", *self.hxconfig, "frontend", self.name, self.path("without"), "--tls", port)
         with open(self.path("taken"), encoding="utf-8") as it:
             lines = it.read().split("\n")
         refused = []
         while (number := self.refused_line(lines)):
-            refused.append(lines[number - 1])
-            lines[number - 1] = f"# {lines[number - 1]}"
+            line = lines[number - 1]
+            lines[number - 1] = self.written(line)
+            if lines[number - 1] == line:
+                refused.append(line)
+                lines[number - 1] = f"# {line}"
         expected = REFUSED.get(self.name, [])
         if len(refused) != len(expected) or not all(map(str.__contains__, refused, expected)):
             self.wrong.append(f"hxeval refuses {refused}")
+
+    def written(self, line):
+        """What the manual's page says to write for a line, or the line where it says nothing."""
+        for part, other in WRITTEN.get(self.name, {}).items():
+            if part in line:
+                with open(PAGE, encoding="utf-8") as page:
+                    if other not in page.read():
+                        self.wrong.append(f"{PAGE} doesn't say {other}")
+                return line.replace(part, other)
+        return line
 
     def refused_line(self, lines):
         """The number of the first line that hxeval refuses, or none."""
