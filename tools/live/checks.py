@@ -80,7 +80,8 @@ def differing(shown, made, backend):
     if not backend:
         return {b"location"}
     (first, lines), (other, others) = as_kept(shown), as_kept(made)
-    names = {name for name, _ in set(lines) ^ set(others)}
+    counts, more = collections.Counter(lines), collections.Counter(others)
+    names = {name for name, _ in (counts - more) + (more - counts)}
     return names if first == other else names | {b""}
 
 
@@ -96,6 +97,14 @@ class Tried:
 
     def path(self, end):
         return f"{self.folder}/{self.name}.{end}"
+
+    def row_of(self, request, decision, verdict):
+        """The row that names this difference, or none."""
+        return named.row_of(request, decision, verdict)
+
+    def rows_of_made(self, head, names):
+        """The rows that name what rules made otherwise of a head, in the lines of these names."""
+        return named.rows_of_made(head, names)
 
     def run(self, end, *words, stdin=None, statuses=(0,)):
         """Runs a command, whose standard output becomes a file."""
@@ -175,7 +184,7 @@ class Tried:
         listed = [line for line in lines if LISTED.match(line)]
         for line in listed:
             number, decision, verdict = LISTED.match(line).groups()
-            row = named.row_of(requests[int(number) - 1], decision, verdict)
+            row = self.row_of(requests[int(number) - 1], decision, verdict)
             if row:
                 self.rows[row] += 1
             else:
@@ -201,7 +210,7 @@ class Tried:
             count += 1
             if is_made(shown, made, backend):
                 continue
-            rows = named.rows_of_made(request.head, differing(shown, made, backend))
+            rows = self.rows_of_made(request.head, differing(shown, made, backend))
             self.rows.update(rows)
             if not rows:
                 self.wrong.append(f"{number}: hxeval shows {shown}, HAProxy made {made}")

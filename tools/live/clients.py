@@ -16,6 +16,9 @@ SECONDS, SECONDS_IN_VAIN = 20, 0.5
 # comes again elsewhere, since clients are told apart by them; and the system gives none away.
 FREE_PORTS, CURL_PORTS = itertools.count(10000), itertools.count(20000, 10)
 
+# The status of all that the server answers.
+FROM_SERVER = 200
+
 # The certificate is signed by nobody.
 CONTEXT = ssl.create_default_context()
 CONTEXT.check_hostname, CONTEXT.verify_mode = False, ssl.CERT_NONE
@@ -52,8 +55,8 @@ class Answered:
 
 
 def read_answer(lines, method):
-    """The status, the backend, and the body or the location of the next response; none where none
-    comes."""
+    """The status, the backend, and the head that the server got or the location of the next
+    response; none where none comes."""
     status = 100
     while status < 200 and status != 101:
         head = proxy.read_head(lines)
@@ -65,7 +68,8 @@ def read_answer(lines, method):
     body = b"" if empty else proxy.read_body(head, lines)
     if not backend:
         return status, None, proxy.field(head, b"location")
-    return status, backend.decode(), body
+    # a backend may answer itself, and then no server got a head
+    return status, backend.decode(), body if status == FROM_SERVER else None
 
 
 def send(connection, data, how, chance):
@@ -129,5 +133,5 @@ def curl(answered, frontend, source, paths, *words, tls=False):
     for number, status, backend, location in re.findall(form, ran.stdout):
         client = (frontend, source, int(number))
         # 0 where no answer came
-        answered.add(client, (int(status), backend or None, location.encode() or None)
-                     if int(status) else None)
+        made = None if backend else location.encode() or None
+        answered.add(client, (int(status), backend or None, made) if int(status) else None)

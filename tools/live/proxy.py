@@ -29,10 +29,15 @@ FRONTENDS = {
 WHOLE = {
     "examples/whole/haproxy.cfg": ("plain", "shop", "api"),
     "examples/whole/members.cfg": ("members", "partners"),
+    "tools/live/sections.cfg": ("site", "app", "joined"),
+    "tools/live/changing.cfg": ("changing",),
+    "tools/live/tokens.cfg": ("tokens",),
 }
 # Where each takes plain traffic.
 NAMES = [*FRONTENDS, *itertools.chain(*WHOLE.values())]
 PORTS = {name: port for port, name in enumerate(NAMES, 8001)}
+# What the names begin with of frontends that are drawn by chance.
+DRAWN = "drawn"
 # The port for TLS is the plain one and this.
 TLS = 1000
 SERVER_PORT = 9000
@@ -47,6 +52,14 @@ SOURCES = (
     "10.1.2.3", "::1", "2001:db8:5::1", "2001:db8:6::1", "2001:db8:bad::1",
 )
 PROXY = {4: "192.0.2.80", 6: "2001:db8::80"}
+
+
+def add_drawn(count):
+    """Gives so many frontends that are drawn their ports; the answer is their names."""
+    names = [f"{DRAWN}{at}" for at in range(1, count + 1)]
+    first = max(PORTS.values()) + 1
+    PORTS.update({name: first + at for at, name in enumerate(names)})
+    return names
 
 
 def make_network():
@@ -82,9 +95,16 @@ def binds(name, folder):
             f"bind 0.0.0.0:{port + TLS} {tls}", f"bind :::{port + TLS} v6only {tls}"]
 
 
+def own_backend(name):
+    """The lines by which a `listen` section sends requests to the server, and tells its name to
+    clients whose requests came there."""
+    return [f"http-response set-header X-Backend {name} if {{ be_name {name} }}",
+            f"server it 127.0.0.1:{SERVER_PORT}"]
+
+
 def backend(name):
-    """The lines of a backend, which tells its name to clients."""
-    return [f"backend {name}", f"http-response set-header X-Backend {name}",
+    """The lines of a backend, which tells its name to clients, also where it answers itself."""
+    return [f"backend {name}", f"http-after-response set-header X-Backend {name}",
             f"server it 127.0.0.1:{SERVER_PORT}"]
 
 
@@ -169,7 +189,6 @@ class Proxy:
 
     def __init__(self, folder, configurations):
         self.folder = folder
-        make_certificate(folder)
         self.log, self.capture = f"{folder}/log", f"{folder}/capture.pcap"
         with open(self.log, "wb") as log, open(f"{folder}/errors", "wb") as errors:
             words = ["haproxy", "-db"]

@@ -2,7 +2,7 @@
 tell apart; heads that aren't as usual; and commands for the management socket."""
 import concurrent.futures
 
-from live import drawn, members_traffic, proxy, whole_traffic
+from live import drawn, drawn_rules, members_traffic, proxy, sections_traffic, whole_traffic
 from live.clients import curl, talk
 from live.drawn import request
 
@@ -157,6 +157,14 @@ AFTER = {
 PARTNER = "198.51.100.70"
 
 
+def send_drawn(answered, names, requests, seed):
+    """Sends about so many requests to each of the frontends that are drawn."""
+    with concurrent.futures.ThreadPoolExecutor(6) as pool:
+        sent = [pool.submit(drawn_rules.send, answered, name, requests, seed) for name in names]
+        for it in sent:
+            it.result()
+
+
 def send_all(made, answered, seed):
     """Sends all of it; the answer is what HAProxy replied to the commands of each frontend."""
     apart = ("first", "access", "public")
@@ -179,4 +187,5 @@ def send_all(made, answered, seed):
         talks(answered, frontend, 2, f"{seed} {at}")
     whole_traffic.send_all(made, answered, seed, replies)
     members_traffic.send_all(made, answered, seed, replies)
+    sections_traffic.send_all(answered, seed)
     return replies

@@ -14,6 +14,24 @@ REFUSED = {
     "partners": ["http_auth_bearer"],
 }
 REFUSES = 3
+# What docs/manual/refused.md says to write for a part of such a line, by the frontends where that is
+# tried.
+PAGE = f"{proxy.TOP}/docs/manual/refused.md"
+WRITTEN = {
+    "tokens": {
+        "http_auth_bearer -m found": 'req.hdr(Authorization,1) -m reg -i "^be(a(r(er?)?)?)? "',
+        "http_auth_bearer,jwt_header_query('$.alg')": (
+            """"req.hdr(Authorization,1),word(2,' '),word(1,.),ub64dec,"""
+            r"""regsub('(?s)^[^{]*[{][^{}]*?\"alg\"\s*:\s*\"([^\"]*)\".*','~\1'),field(2,~)"""
+            '"'
+        ),
+    },
+}
+# What the rules for the log have, and no others.
+OF_LOG = ".rec_"
+
+# What begins a section that takes traffic.
+TAKES_TRAFFIC = ("frontend", "listen")
 
 
 class Here:
@@ -24,20 +42,20 @@ class Here:
     def __init__(self, folder):
         self.folder = folder
         _, *self.rules, self.log_format = proxy.logging_lines()
-        self.title, self.has_rules = None, False
+        self.title = None
 
-    def rule(self, line):
-        """A rule of a frontend, below those for the log, which stand above all rules."""
-        above = [] if self.has_rules else self.rules
-        self.has_rules = True
-        return [*above, line]
+    def begun(self, line, word, title):
+        """The first lines of a section that takes traffic. The rules for the log stand above all
+        that answers a request."""
+        self.title = title
+        own = proxy.own_backend(title) if word == "listen" else []
+        return [line, self.log_format, *self.rules, *own]
 
     def lines(self, line):
         """What stands here in the place of a line of the file."""
         word, _, rest = line.strip().partition(" ")
-        if word == "frontend":
-            self.title, self.has_rules = rest, False
-            return [line, self.log_format]
+        if word in TAKES_TRAFFIC:
+            return self.begun(line, word, rest)
         if word == "bind":
             return proxy.binds(self.title, self.folder)
         if word == "backend":
@@ -46,14 +64,17 @@ class Here:
             return []
         if rest.startswith("connect "):
             return [line, "timeout tarpit 100ms"]
-        if word == "http-request":
-            return self.rule(line.replace("set-log-level silent", "set-log-level info"))
-        return [line]
+        return [line.replace("set-log-level silent", "set-log-level info")]
 
 
 def path_of(folder, path):
     """Where this stands that HAProxy runs with in the place of a file."""
     return f"{folder}/whole-{os.path.basename(path)}"
+
+
+def without_log(text):
+    """A configuration without the rules for the log, each line at its number."""
+    return "\n".join("" if OF_LOG in line else line for line in text.split("\n"))
 
 
 def write_configuration(folder, path):
@@ -84,16 +105,33 @@ class Tried(checks.Tried):
         """Takes the frontend out of what HAProxy ran with, without the rules for the log and what
         hxeval refuses, as docs/manual/trying.md says."""
         port = str(self.port + proxy.TLS)
-        self.run("taken", *self.hxconfig, "frontend", self.name, self.whole, "--tls", port)
+        with open(self.whole, encoding="utf-8") as it:
+            text = it.read()
+        with open(self.path("without"), "w", encoding="utf-8") as it:
+            it.write(without_log(text))
+        self.run("taken", *self.hxconfig, "frontend", self.name, self.path("without"), "--tls", port)
         with open(self.path("taken"), encoding="utf-8") as it:
-            lines = ["" if "rec_" in line else line for line in it.read().split("\n")]
+            lines = it.read().split("\n")
         refused = []
         while (number := self.refused_line(lines)):
-            refused.append(lines[number - 1])
-            lines[number - 1] = f"# {lines[number - 1]}"
+            line = lines[number - 1]
+            lines[number - 1] = self.written(line)
+            if lines[number - 1] == line:
+                refused.append(line)
+                lines[number - 1] = f"# {line}"
         expected = REFUSED.get(self.name, [])
         if len(refused) != len(expected) or not all(map(str.__contains__, refused, expected)):
             self.wrong.append(f"hxeval refuses {refused}")
+
+    def written(self, line):
+        """What the manual's page says to write for a line, or the line where it says nothing."""
+        for part, other in WRITTEN.get(self.name, {}).items():
+            if part in line:
+                with open(PAGE, encoding="utf-8") as page:
+                    if other not in page.read():
+                        self.wrong.append(f"{PAGE} doesn't say {other}")
+                return line.replace(part, other)
+        return line
 
     def refused_line(self, lines):
         """The number of the first line that hxeval refuses, or none."""
