@@ -19,7 +19,8 @@ STATUSES = (0, 1)
 # What stands at the end of a block that doesn't have all that is written.
 MORE = "..\n"
 # Pages with such blocks: each has one at least.
-PAGES = ("README.md", *(f"docs/manual/{it}.md" for it in ("diff", "expect", "generated", "trace")))
+PAGES = ("README.md", *(f"docs/manual/{it}.md" for it in (
+    "annotate", "diff", "expect", "generated", "trace")))
 
 
 def blocks(page):
