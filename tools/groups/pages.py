@@ -20,7 +20,7 @@ STATUSES = (0, 1)
 MORE = "..\n"
 # Pages with such blocks: each has one at least.
 PAGES = ("README.md", *(f"docs/manual/{it}.md" for it in (
-    "annotate", "diff", "expect", "generated", "trace")))
+    "annotate", "compare", "diff", "expect", "generated", "trace")))
 
 
 def blocks(page):
