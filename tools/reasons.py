@@ -92,7 +92,7 @@ class Configuration:
 
     def terms(self, number, conjunction):
         """The terms of a conjunction of a line."""
-        found = condition_of(self.lines[number - 1]) if number <= len(self.lines) else []
+        found = condition_of(self.lines[number - 1]) if 0 < number <= len(self.lines) else []
         return found[conjunction - 1] if 0 < conjunction <= len(found) else []
 
     @functools.cached_property
@@ -119,7 +119,9 @@ class Configuration:
     def add_to(self, why):
         """Adds to a reason the line's text, and of each term its text, its entry's key and the
         file of its list, where there are such."""
-        found = {"file": self.name, "text": self.line(why["line"]) if why["line"] else None}
+        is_one = why["line"] > 0
+        found = {"file": self.name if is_one else None,
+                 "text": self.line(why["line"]) if is_one else None}
         texts = self.terms(why["line"], why["conjunction"])
         if len(texts) != len(why["terms"]):
             texts = [None] * len(why["terms"])

@@ -11,11 +11,12 @@ import told
 from record import REQUEST_BYTES
 
 # What stands before the name of a file in a line of a configuration, and the name.
-NAME = re.compile(r"""((?:^|\s)-f\s+["']?|(?<![\w.-])(?:map(?:_[a-z]+)*|(?:add|del)-acl|(?:set|del)-map)"""
-                  r"""\(["']?)([^\s"'(),]+)""")
+NAME = re.compile(r"""((?:^|\s)-f\s+["']?|"""
+                  r"""(?<![\w.-])(?:map(?:_[a-z]+)*|(?:add|del)-acl|(?:set|del)-map)\(["']?)"""
+                  r"""([^\s"'(),]+)""")
 # What stands before the name of a reference in a command of a record, and the name.
-COMMAND = re.compile(rb"(cli \d+[ \t]+(?:add|clear|commit|del|get|prepare|set|show)[ \t]+(?:acl|map)"
-                     rb"[ \t]+(?:@\d+[ \t]+)?)([^\s#@]\S*)(.*)", re.S)
+COMMAND = re.compile(rb"(cli \d+[ \t]+(?:add|clear|commit|del|get|prepare|set|show)"
+                     rb"[ \t]+(?:acl|map)[ \t]+(?:@\d+[ \t]+)?)([^\s#@]\S*)(.*)", re.S)
 # What the word for a file can't have where it stands without quotes.
 UNWRITABLE = re.compile(r"""[\s"'(),#\\$]""")
 
