@@ -17,6 +17,7 @@ REFUSED = 3
 # What stands between a line and the one that is to be in its place.
 ARROW = re.compile(r"\s+->(?:\s+|$)")
 REFUSAL = re.compile(r"config (\d+) \d+")
+WARNING = re.compile(r".*:(\d+): .*?(warning: .*)")
 LINT = re.compile(r"(?:.*:)?(\d+):? (differs|unset) (\S+)")
 
 Replacement = collections.namedtuple("Replacement", "place line text")
@@ -72,8 +73,9 @@ class Frontend:
         self.lines, self.replaced_lines = text_lines(path), 0
         self.replaced = {it.place for it in replacements if self.replace(it)}
         write_lines(self.whole, self.lines)
+        # of each the number of the line, its text, and what is said of it
+        self.warnings, self.refused = [], []
         self.take(ports)
-        self.refused = []
 
     def replace(self, replacement):
         """Puts a text in the place of each such line; the answer is whether there is one."""
@@ -84,6 +86,10 @@ class Frontend:
                 self.lines[at], found = f"{indent}{replacement.text}", True
                 self.replaced_lines += 1
         return found
+
+    def known_line(self, number):
+        """The text of a line as a person knows it, or nothing where the file ends before it."""
+        return words_of(self.lines[number - 1]) if number <= len(self.lines) else ""
 
     def named(self, text):
         """What a program says, by the name that a person knows."""
@@ -104,9 +110,11 @@ class Frontend:
     def take(self, ports):
         """Has hxconfig write the frontend."""
         options = [word for port in ports for word in ("--tls", port)]
-        _, text, _ = self.run("hxconfig", "frontend", self.name, self.whole, *options)
+        _, text, said = self.run("hxconfig", "frontend", self.name, self.whole, *options)
         with open(self.taken, "wb") as out:
             out.write(text)
+        rows = filter(None, map(WARNING.fullmatch, said.splitlines()))
+        self.warnings = [(int(row[1]), self.known_line(int(row[1])), row[2]) for row in rows]
 
     def drop_refused(self):
         """Takes out each line that hxeval refuses, until it takes the others, and keeps what it
@@ -118,9 +126,9 @@ class Frontend:
             if not parts:
                 return
             number = int(parts[1])
-            # a person knows a line of the file, and a rule below its last one as it is written
-            known = self.lines if number < len(self.lines) else lines
-            self.refused.append((number, words_of(known[number - 1]), reason_of(said, number)))
+            # a rule below the last line of the file stands in what is written alone
+            text = self.known_line(number) or words_of(lines[number - 1])
+            self.refused.append((number, text, reason_of(said, number)))
             lines[number - 1] = ""
             write_lines(self.taken, lines)
 

@@ -50,7 +50,7 @@ class Files:
                 raise told.Stop(f"{it}: no word of a configuration can name a folder with such a"
                                 " character")
 
-    def places(self, rest):
+    def paths(self, rest):
         """Where the two sides have the file that is called so below the root."""
         if rest not in self.known:
             both = [os.path.normpath(os.path.join(it, rest)) for it in self.folders]
@@ -62,14 +62,14 @@ class Files:
             self.known[rest] = both
         return self.known[rest]
 
-    def place(self, name, side):
+    def path(self, name, side):
         """Where a side has a file, or its name as it is."""
         rest = below(self.root, name)
-        return name if rest is None else self.places(rest)[side]
+        return name if rest is None else self.paths(rest)[side]
 
     def line_of(self, line, side):
         """A line of a configuration with the names that its files have on this side."""
-        return NAME.sub(lambda found: found[1] + self.place(found[2], side), line)
+        return NAME.sub(lambda found: found[1] + self.path(found[2], side), line)
 
     def command_of(self, line):
         """A line of a record with the name that its file has on both sides."""
@@ -77,7 +77,7 @@ class Files:
         if not parts:
             return line
         name = parts[2].decode(errors="surrogateescape")
-        old, new = self.place(name, 0), self.place(name, 1)
+        old, new = self.path(name, 0), self.path(name, 1)
         if old != new:
             raise told.Stop(f"the record has a command on {name}, but OLD and NEW have different"
                             " files of this name: it can't reach both", status=4)
