@@ -21,6 +21,8 @@ WRITTEN = {
 }
 # The program that takes two configurations, and how it ends where they differ.
 OF_TWO, TWO, DIFFERS = "hxdiff", ("old.cfg", "new.cfg"), 1
+# An example of a tool that calls the programs, which its page and the stored cases of callers try.
+OF_CALLERS = "examples/checkouts"
 # The port for TLS of the whole configurations.
 TLS = "443"
 
@@ -111,5 +113,5 @@ def checks(programs):
     own = {os.path.dirname(path) for path in proxy.WHOLE}
     folders = sorted(glob.glob("examples/*", root_dir=TOP))
     return [*whole_checks(programs),
-            *(it for folder in folders if folder not in own
+            *(it for folder in folders if folder not in (*own, OF_CALLERS)
               for it in record_checks(folder, programs))]

@@ -12,14 +12,15 @@ from groups.compared import TOP, Check, Outcome, Ran, run, run_outcome
 # A block of commands, and the one that follows it, with at most a line between that says so.
 BLOCKS = re.compile(r"^```bash\n((?:(?!```).*\n)+)```\n\n"
                     r"(?:.*\bwrites?\b.*\n\n)?```(?:text)?\n((?:(?!```).*\n)*)```$", re.M)
-# Commands that are no run of a program over what stands here.
-OTHERS = "tools/"
+# Commands that are no run of a program, or of a tool that calls one, over what stands here.
+OTHERS = re.compile(r"tools/(?!annotate|compare|expect)")
 # How runs may end: a page doesn't say how, and hxdiff ends with 1 where answers differ.
 STATUSES = (0, 1)
 # What stands at the end of a block that doesn't have all that is written.
 MORE = "..\n"
 # Pages with such blocks: each has one at least.
-PAGES = ("README.md", "docs/manual/diff.md", "docs/manual/generated.md", "docs/manual/trace.md")
+PAGES = ("README.md", *(f"docs/manual/{it}.md" for it in (
+    "annotate", "compare", "diff", "expect", "generated", "trace")))
 
 
 def blocks(page):
@@ -27,12 +28,12 @@ def blocks(page):
     with open(f"{TOP}/{page}", encoding="utf-8") as it:
         text = it.read()
     return [(text.count("\n", 0, found.start()) + 2, *found.groups())
-            for found in BLOCKS.finditer(text) if OTHERS not in found[1]]
+            for found in BLOCKS.finditer(text) if not OTHERS.search(found[1])]
 
 
 def lay_out(room, programs):
     """A folder as the top of the repository is, with these programs."""
-    for name in ("docs", "examples"):
+    for name in ("docs", "examples", "tools"):
         os.symlink(f"{TOP}/{name}", f"{room}/{name}")
     for name, words in programs.items():
         with open(f"{room}/{name}", "w", encoding="utf-8") as it:
@@ -40,11 +41,16 @@ def lay_out(room, programs):
         os.chmod(f"{room}/{name}", 0o755)
 
 
+def commands_in(room, commands):
+    """The words that run commands in such a folder, with its programs."""
+    return ["env", f"HXEVAL_PROGRAMS={room}", "bash", "-c", commands]
+
+
 def compared(name, commands, expected, programs):
     """Runs commands, and compares what they write. Other folders that they make are made here."""
     with tempfile.TemporaryDirectory() as room:
         lay_out(room, programs)
-        ran = run(["bash", "-c", commands.replace("/tmp/", f"{room}/")], folder=room)
+        ran = run(commands_in(room, commands.replace("/tmp/", f"{room}/")), folder=room)
     if expected.endswith(MORE):
         expected = expected.removesuffix(MORE)
         lines = ran.out.splitlines(keepends=True)[:expected.count("\n")]
