@@ -1,4 +1,4 @@
 use Rattle.hx_cases_drivers.proofs.main.Given as goal
 
 abbrev pub ghosts-answers : goal.ghosts-answers
-ghosts-answers g a = record { name = a.blank.name; parts = a.blank.parts }
+ghosts-answers a = record { name = a.blank.name; parts = a.blank.parts }
