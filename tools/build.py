@@ -28,6 +28,8 @@ TOP = os.path.dirname(os.path.dirname(os.path.realpath(__file__)))
 # The rooms: on the disk of the crates, so that a file can have a second name there, and where
 # neither git nor the gate looks.
 KEPT = f"{TOP}/.git/build" if os.path.isdir(f"{TOP}/.git") else f"{TOP}/.build"
+# What rt reads of a crate.
+PARTS = ("src", "specs", "proofs", "must-fail", "data", "args", "stdin", "stdout", "status")
 LOCK = threading.Condition()
 
 
@@ -116,14 +118,30 @@ def weights(crates, wanted):
     return found
 
 
+def write_rows(room, names):
+    """Writes the rows of these crates into the crates.txt of a folder."""
+    with open(f"{TOP}/crates.txt", encoding="utf-8") as lines, open(
+        f"{room}/crates.txt", "w", encoding="utf-8"
+    ) as kept:
+        kept.writelines(line for line in lines if line.partition(":")[0].strip() in names)
+
+
+def copy_crate(room, name, parts=PARTS):
+    """Copies these parts of a crate into a folder that is laid out as the repository is."""
+    os.makedirs(f"{room}/crates/{name}")
+    for part in parts:
+        path = f"{TOP}/crates/{name}/{part}"
+        if os.path.isdir(path):
+            shutil.copytree(path, f"{room}/crates/{name}/{part}")
+        elif os.path.isfile(path):
+            shutil.copy2(path, f"{room}/crates/{name}/{part}")
+
+
 def room_for(crates, name, room):
     """Lays out a folder in which rt finds the crate, and what it stands on as it was built."""
     deps = below(crates, name)
     os.makedirs(f"{room}/crates")
-    with open(f"{TOP}/crates.txt", encoding="utf-8") as lines, open(
-        f"{room}/crates.txt", "w", encoding="utf-8"
-    ) as kept:
-        kept.writelines(line for line in lines if line.partition(":")[0] in (*deps, name))
+    write_rows(room, (*deps, name))
     for dep in deps:
         # built crates are only read, so that a second name for each file is enough
         for part in ("src", "specs", "proofs", "out/rlib"):
@@ -133,14 +151,7 @@ def room_for(crates, name, room):
                     f"{room}/crates/{dep}/{part}",
                     copy_function=os.link,
                 )
-    parts = ("src", "specs", "proofs", "must-fail", "data", "args", "stdin", "stdout", "status")
-    os.makedirs(f"{room}/crates/{name}")
-    for part in parts:
-        path = f"{TOP}/crates/{name}/{part}"
-        if os.path.isdir(path):
-            shutil.copytree(path, f"{room}/crates/{name}/{part}")
-        elif os.path.isfile(path):
-            shutil.copy2(path, f"{room}/crates/{name}/{part}")
+    copy_crate(room, name)
     if os.path.isdir(f"{TOP}/crates/{name}/out"):
         shutil.move(f"{TOP}/crates/{name}/out", f"{room}/crates/{name}/out")
 

@@ -4,13 +4,14 @@
 Usage: tools/standing.py PROGRAM
 
 It is the proved program where one stands for them, by the sums of sources and program that were
-kept when it was proved (tools/build.py). Else it is one without a proof (tools/unproved.py), which
+kept when it was proved (tools/proving.py). Else it is one without a proof (tools/unproved.py), which
 is built first where there is none yet; where this kit can't build one, the program is proved.
 """
 import shutil
 import sys
 
 import build
+import proving
 import unproved
 
 
@@ -26,7 +27,7 @@ def path(name):
         found = unproved.paths([name])[name]
     except unproved.Unbuilt as fault:
         unproved.say(f"{fault}\n{name}: it can't be built without a proof, so it is proved first")
-        return build.proved(name) if build.build([name]) == 0 else None
+        return build.proved(name) if proving.prove([name]) == 0 else None
     if not kept:
         unproved.say(f"{name}: this build isn't proved; ./{name} --prove proves it, which takes long")
     return found
