@@ -29,7 +29,7 @@ FRONTENDS = {
 WHOLE = {
     "examples/whole/haproxy.cfg": ("plain", "shop", "api"),
     "examples/whole/members.cfg": ("members", "partners"),
-    "tools/live/sections.cfg": ("site", "app", "joined"),
+    "tools/live/sections.cfg": ("site", "app", "twice"),
     "tools/live/changing.cfg": ("changing",),
     "tools/live/tokens.cfg": ("tokens",),
 }

@@ -15,7 +15,7 @@ PARTS = {
                    "/pictures/1", "/pictures.php?z", "/news"), HOSTS, HEADERS),
     "app": Parts(("/", "/none", "/none/x", "/v1/items?a=1", "/v1/private", "/private", "/away",
                   "/a/away?b"), HOSTS, HEADERS),
-    "joined": Parts(("/joined", "/joined/x?y=1", "/closed"), HOSTS,
+    "twice": Parts(("/twice", "/twice/x?y=1", "/closed"), HOSTS,
                     (*HEADERS, "X-Forwarded-For: 2.2.2.2", "X-Forwarded-For: ::1")),
 }
 # Each on a connection of its own: who asked for a trap is caught from then on.

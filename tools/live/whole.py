@@ -60,8 +60,11 @@ class Here:
             return proxy.binds(self.title, self.folder)
         if word == "backend":
             return proxy.backend(rest)
-        if word == "server" or rest.startswith("stdout"):
+        if word in ("server", "log"):
             return []
+        if word == "defaults":
+            # what another one begins with has it from there
+            return [line] if " from " in rest else [line, "log global"]
         if rest.startswith("connect "):
             return [line, "timeout tarpit 100ms"]
         return [line.replace("set-log-level silent", "set-log-level info")]
