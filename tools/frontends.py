@@ -126,6 +126,8 @@ class Frontend:
             if not parts:
                 return
             number = int(parts[1])
+            if not 0 < number <= len(lines) or not lines[number - 1].strip():
+                raise told.Stop(f"hxeval refuses what no line has: {said}".rstrip())
             # a rule below the last line of the file stands in what is written alone
             text = self.known_line(number) or words_of(lines[number - 1])
             self.refused.append((number, text, reason_of(said, number)))
